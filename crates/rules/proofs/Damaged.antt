@@ -1,0 +1,135 @@
+-- Document 01's file of five lines: its verdict, table, fix, columns and listing; and a damaged variant of it for each refusal number 3 to 16, with the line and
+-- byte worked out by hand. Computed. Assumes nothing.
+use Prim.Native.Nat.{ℕ}
+use Prim.Native.String.{String}
+use mathlib.Core.Bool.{Bool, true}
+use mathlib.Core.List.{List, [], _∷_, _++_}
+use mathlib.Core.Path.{_≡_, refl}
+use lib.IntN.{ℤ, pos}
+use lib.ListN.{replicate}
+use Rattle.rules.specs.Choice.{bytes}
+use Rattle.rules.specs.Refusals.{Said, says, refuses, andThen}
+use Rattle.rules.specs.Layouts.{unused, emptyLayout}
+use Rattle.rules.specs.Files.{verdict, tableAfter}
+use Rattle.rules.specs.Reads.{fixSaid, numberSaid}
+use Rattle.rules.specs.Listing.{listing}
+use Rattle.rules.specs.declared.Layout.{Layout}
+use Rattle.rules.specs.declared.Flight.{Flight}
+use Rattle.rules.proofs.Computed.{everything, fileOf, agree, Example, hold}
+
+abbrev pub fiveLines : List ℕ
+unfolding fileOf
+fiveLines = fileOf ("AXYZ001" ∷ "HFDTE150724" ∷ "I023638FXA3940SIU" ∷ "B1200005130000N00015000WA001000012001208" ∷ "GABC" ∷ [])
+
+-- FXA is hex 46 58 41, SIU is 53 49 55
+abbrev pub fiveLayout : Layout
+fiveLayout = record {
+  count = 2;
+  entries = record { first = 36; last = 38; code = 0x465841 } ∷ record { first = 39; last = 40; code = 0x534955 } ∷ replicate 11 unused;
+}
+
+pub verdict-of-five : verdict fiveLines 16 ≡ says (record {
+  date = record { day = 15; month = 7; year = 2024 };
+  fixes = fiveLayout;
+  notes = emptyLayout;
+  lines = 5;
+  bs = 1;
+  ks = 0;
+})
+unfolding everything fileOf
+verdict-of-five = refl
+
+-- the lines have 7, 11, 17, 40 and 4 bytes, and 2 more each; the other entries stay
+pub table-of-five : tableAfter fiveLines (replicate 7 99) ≡ 0 ∷ 9 ∷ 22 ∷ 41 ∷ 83 ∷ 99 ∷ 99 ∷ []
+unfolding everything fileOf
+table-of-five = refl
+
+-- "Output, whole"
+pub listing-of-five : listing fiveLines ≡ bytes "OK 5 1 0 40 7" ++ 10 ∷ bytes "FIX 4 43200 3090000 N 15000 W A 100 120" ++ 10 ∷ bytes "COL FXA 012" ++ 10 ∷ bytes "COL SIU 08" ++ 10 ∷ []
+unfolding everything fileOf
+listing-of-five = refl
+
+-- how many lines the file has, with room for so many
+unfoldable pub linesIn : ℕ → List ℕ → Said ℤ
+linesIn room file = andThen (verdict file room) λ f. says (pos (f .lines))
+
+-- a column of a B line as a number
+unfoldable pub columnIn : String → List ℕ → Said ℤ
+unfolding bytes
+columnIn name l = andThen (numberSaid l fiveLayout (bytes name)) λ z. says (z .value)
+
+abbrev lines : List String → Said ℤ → Example
+unfolding fileOf
+lines texts answer = record { given = fileOf texts; asked = linesIn 16; answer = answer }
+
+abbrev column : String → String → Said ℤ → Example
+unfolding bytes
+column line name answer = record { given = bytes line; asked = columnIn name; answer = answer }
+
+pub examples : List Example
+unfolding bytes fileOf
+examples =
+    column "B1200005130000N00015000WA001000012001208" "FXA" (says (pos 12)) ∷
+    column "B1200005130000N00015000WA001000012001208" "SIU" (says (pos 8)) ∷
+    column "B1200005130000N00015000WA001000012001208" "ENL" (refuses 19 0 0) ∷
+    lines ("AXYZ001" ∷ "HFDTE150724" ∷ "I023638FXA3940SIU" ∷ "B1200005130000N00015000WA001000012001208" ∷ "GABC" ∷ []) (says (pos 5)) ∷
+    -- 3: no CR LF behind the four bytes of line 5
+    record {
+      given = fileOf ("AXYZ001" ∷ "HFDTE150724" ∷ "I023638FXA3940SIU" ∷ "B1200005130000N00015000WA001000012001208" ∷ []) ++ bytes "GABC";
+      asked = linesIn 16;
+      answer = refuses 3 5 5;
+    } ∷
+    -- 3: a LF without its CR behind the four bytes of line 5
+    record {
+      given = fileOf ("AXYZ001" ∷ "HFDTE150724" ∷ "I023638FXA3940SIU" ∷ "B1200005130000N00015000WA001000012001208" ∷ []) ++ bytes "GABC" ++ 10 ∷ 13 ∷ 10 ∷ [];
+      asked = linesIn 16;
+      answer = refuses 3 5 5;
+    } ∷
+    -- 4: line 5 is empty
+    lines ("AXYZ001" ∷ "HFDTE150724" ∷ "I023638FXA3940SIU" ∷ "B1200005130000N00015000WA001000012001208" ∷ "" ∷ "GABC" ∷ []) (refuses 4 5 1) ∷
+    -- 5: b is no kind
+    lines ("AXYZ001" ∷ "HFDTE150724" ∷ "I023638FXA3940SIU" ∷ "b1200005130000N00015000WA001000012001208" ∷ "GABC" ∷ []) (refuses 5 4 1) ∷
+    -- 6: an H line after the I line
+    lines ("AXYZ001" ∷ "HFDTE150724" ∷ "I023638FXA3940SIU" ∷ "HFPLT" ∷ "B1200005130000N00015000WA001000012001208" ∷ "GABC" ∷ []) (refuses 6 4 1) ∷
+    -- 6: a B line after the G line
+    lines ("AXYZ001" ∷ "HFDTE150724" ∷ "I023638FXA3940SIU" ∷ "GABC" ∷ "B1200005130000N00015000WA001000012001208" ∷ []) (refuses 6 5 1) ∷
+    -- 7: 39 bytes where the layout gives 40
+    lines ("AXYZ001" ∷ "HFDTE150724" ∷ "I023638FXA3940SIU" ∷ "B1200005130000N00015000WA00100001200120" ∷ "GABC" ∷ []) (refuses 7 4 0) ∷
+    -- 8: ! at byte 3 of line 5
+    lines ("AXYZ001" ∷ "HFDTE150724" ∷ "I023638FXA3940SIU" ∷ "B1200005130000N00015000WA001000012001208" ∷ "GA!C" ∷ []) (refuses 8 5 3) ∷
+    -- 8: a comma outside the H lines
+    lines ("AXYZ001" ∷ "HFDTE150724" ∷ "HFPLTA,B" ∷ "I00" ∷ "LXYZ,A" ∷ "GABC" ∷ []) (refuses 8 5 5) ∷
+    -- 9: 60 minutes of latitude, from byte 8
+    lines ("AXYZ001" ∷ "HFDTE150724" ∷ "I023638FXA3940SIU" ∷ "B1200005160000N00015000WA001000012001208" ∷ "GABC" ∷ []) (refuses 9 4 8) ∷
+    -- 9: an odd half pair, before the pair at byte 8 that is no code
+    lines ("AXYZ001" ∷ "HFDTE150724" ∷ "F120000a12" ∷ "GABC" ∷ []) (refuses 9 3 8) ∷
+    -- 9: the second pair, from byte 10
+    lines ("AXYZ001" ∷ "HFDTE150724" ∷ "F120000011a" ∷ "GABC" ∷ []) (refuses 9 3 10) ∷
+    -- 10: the second entry, from byte 11, starts at 40 and not at 39
+    lines ("AXYZ001" ∷ "HFDTE150724" ∷ "I023638FXA4041SIU" ∷ "GABC" ∷ []) (refuses 10 3 11) ∷
+    -- 11: FXA again
+    lines ("AXYZ001" ∷ "HFDTE150724" ∷ "I023638FXA3941FXA" ∷ "GABC" ∷ []) (refuses 11 3 11) ∷
+    -- 12: SIU has two bytes
+    lines ("AXYZ001" ∷ "HFDTE150724" ∷ "I023638FXA3941SIU" ∷ "GABC" ∷ []) (refuses 12 3 11) ∷
+    -- 13: FXA at 36, SIU at 39
+    lines ("AXYZ001" ∷ "HFDTE150724" ∷ "I023638FXA3940SIU" ∷ "B1200005130000N00015000WA00100001200A208" ∷ "GABC" ∷ []) (refuses 13 4 36) ∷
+    lines ("AXYZ001" ∷ "HFDTE150724" ∷ "I023638FXA3940SIU" ∷ "B1200005130000N00015000WA00100001200120-" ∷ "GABC" ∷ []) (refuses 13 4 39) ∷
+    -- 14: one second back
+    lines ("AXYZ001" ∷ "HFDTE150724" ∷ "I023638FXA3940SIU" ∷ "B1200005130000N00015000WA001000012001208" ∷ "B1159595130000N00015000WA001000012001208" ∷ "GABC" ∷ []) (refuses 14 5 2) ∷
+    -- 15: room for four
+    record {
+      given = fileOf ("AXYZ001" ∷ "HFDTE150724" ∷ "I023638FXA3940SIU" ∷ "B1200005130000N00015000WA001000012001208" ∷ "GABC" ∷ []);
+      asked = linesIn 4;
+      answer = refuses 15 5 0;
+    } ∷
+    -- 16: no G line, after four lines
+    lines ("AXYZ001" ∷ "HFDTE150724" ∷ "I023638FXA3940SIU" ∷ "B1200005130000N00015000WA001000012001208" ∷ []) (refuses 16 5 0) ∷
+    -- 16: two of four points, after five lines
+    lines ("AXYZ001" ∷ "HFDTE150724" ∷ "C150724120000150724000100" ∷ "C5130000N00015000W" ∷ "C5130000N00015000W" ∷ []) (refuses 16 6 0) ∷
+    -- no bytes
+    lines [] (refuses 1 0 0) ∷
+    []
+
+pub damaged : hold examples ≡ true
+unfolding everything fileOf agree hold examples linesIn columnIn
+damaged = refl

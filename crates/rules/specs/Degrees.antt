@@ -1,0 +1,47 @@
+-- Document 01, 'I and J layouts': a position as a pair of f64 degrees, for the map.
+use Prim.Native.Nat.{ℕ}
+use Prim.Native.Char.{code}
+use mathlib.Core.Bool.{Bool, false, not, _&&_, cond}
+use lib.Dec.{eqb, leb}
+use lib.Ieee.{Float, binary64, round, neg}
+use Rattle.rules.specs.Choice.{need}
+use Rattle.rules.specs.Refusals.{Said, says, no, refusal}
+use Rattle.rules.specs.Fields.{isEither}
+use Rattle.rules.specs.declared.Reason.the-variants.{BadValue}
+use Rattle.rules.specs.declared.Position.{Position}
+use Rattle.rules.specs.declared.Degrees.{Degrees}
+use Rattle.rules.specs.declared.DegreesRead.{DegreesRead}
+use Rattle.rules.specs.declared.DegreesRead.the-variants.{Both, Refused}
+
+-- "the count over 60,000, one rounded division": `round` takes the exact fraction to the nearest f64, once
+unfoldable pub quotient : ℕ → Float
+quotient count = round binary64 false count 60000
+
+-- "negated for S and W, and plain zero for count 0 under either letter"
+unfoldable pub isNegated : Position → Bool
+isNegated p = not (eqb (p .count) 0) && isEither (p .letter) (code "S") (code "W")
+
+unfoldable pub angle : Position → Float
+angle p = cond (isNegated p) (neg (quotient (p .count))) (quotient (p .count))
+
+-- "Latitude at most 5,400,000, longitude at most 10,800,000"
+unfoldable pub isPosition : ℕ → ℕ → ℕ → Position → Bool
+isPosition most a b p = leb (p .count) most && isEither (p .letter) a b
+
+abbrev pub isLatitude : Position → Bool
+isLatitude p = isPosition 5400000 (code "N") (code "S") p
+
+abbrev pub isLongitude : Position → Bool
+isLongitude p = isPosition 10800000 (code "E") (code "W") p
+
+-- "For the map, a position also comes as a pair of f64 degrees"; 17 for a value that is not allowed
+unfoldable pub degreesOf : Position → Position → Said Degrees
+degreesOf lat lon =
+    need (isLatitude lat) (no BadValue 0) λ _.
+    need (isLongitude lon) (no BadValue 0) λ _.
+    says (record { lat = angle lat; lon = angle lon })
+
+-- the answer, in the paper's terms
+unfoldable pub degreesTold : DegreesRead → Said Degrees
+degreesTold (Both d) = says d
+degreesTold (Refused r) = refusal r

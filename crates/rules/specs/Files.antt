@@ -1,0 +1,56 @@
+-- Document 01, 'The file we take and what we do with it': the verdict on a whole file, and the table of its lines' offsets afterwards.
+use Prim.Native.Nat.{ℕ, _+_, _-_}
+use mathlib.Core.List.{List, _++_}
+use mathlib.Core.Path.{_≡_}
+use lib.Dec.{eqb, leb}
+use lib.ListN.{length, take, drop}
+use Rattle.rules.specs.Choice.{need}
+use Rattle.rules.specs.Refusals.{number, Said, says, refuses, no, inLine, andThen, outcome, outcomeTold, valueOr}
+use Rattle.rules.specs.Split.{Lines, end, broken, line, linesOf, offsets}
+use Rattle.rules.specs.Order.{afterG, start, noFlight, judge}
+use Rattle.rules.specs.declared.Reason.the-variants.{Empty, TooLong, LineEnd, TableFull, EndsEarly}
+use Rattle.rules.specs.declared.Flight.{Flight}
+use Rattle.rules.specs.declared.State.{State}
+use Rattle.rules.specs.declared.Checked.{Checked}
+
+-- "16 ENDS_EARLY: end inside a declaration or without G; lines + 1, 0"
+unfoldable pub finish : State → Said Flight
+finish st =
+    need (eqb (st .points) 0) (refuses (number EndsEarly) (st .flight .lines + 1) 0) λ _.
+    need (leb afterG (st .stage)) (refuses (number EndsEarly) (st .flight .lines + 1) 0) λ _.
+    says (st .flight)
+
+-- "Checks go line by line, in a line 3 to 15 in this order." "3 LINE_END: line, one past the text before it"; "15 TABLE_FULL: good line, no entry left; line, 0",
+-- where the table has `room` entries
+unfoldable pub run : ℕ → State → Lines → Said Flight
+run room st end = finish st
+run room st (broken n) = refuses (number LineEnd) (st .flight .lines + 1) (n + 1)
+run room st (line t ls) =
+    andThen (inLine (st .flight .lines + 1) (judge t st)) λ after.
+    need (leb (after .flight .lines) room) (refuses (number TableFull) (after .flight .lines) 0) λ _.
+    run room after ls
+
+-- "A file has 1 to 16,777,216 bytes (h)."; "1 EMPTY: no bytes; 0, 0"; "2 TOO_LONG: over the limit; 0, 0"
+unfoldable pub verdict : List ℕ → ℕ → Said Flight
+verdict file room =
+    need (leb 1 (length file)) (no Empty 0) λ _.
+    need (leb (length file) 16777216) (no TooLong 0) λ _.
+    run room start (linesOf file)
+
+-- how many lines come before the faulty one; all lines where accepted, and where refused at the end
+unfoldable pub goodLines : Said Flight → ℕ
+goodLines (says f) = f .lines
+goodLines (refuses n l b) = l - 1
+
+-- the entries put over the front of a table
+abbrev pub over : List ℕ → List ℕ → List ℕ
+over entries table = entries ++ drop (length entries) table
+
+-- "The table gets entries for the lines before the faulty one (16 or accepted: all lines), the rest unchanged."
+unfoldable pub tableAfter : List ℕ → List ℕ → List ℕ
+tableAfter file table = over (take (goodLines (verdict file (length table))) (offsets 0 (linesOf file))) table
+
+-- what the file says stands beside the answer; all zero where refused
+pub record CheckedTold (s : Said Flight) (r : Checked) : Type 0 where
+  pub answer : outcomeTold (r .outcome) ≡ outcome s
+  pub flight : r .flight ≡ valueOr noFlight s

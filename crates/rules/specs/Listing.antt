@@ -1,0 +1,98 @@
+-- Document 01, 'Marked examples .. and a listing': what the listing program prints.
+use Prim.Native.Nat.{ℕ, zero, suc, _+_, _/_, _%_}
+use mathlib.Core.Bool.{cond}
+use mathlib.Core.List.{List, [], _∷_, _++_}
+use lib.Dec.{ltb, leb}
+use lib.IntN.{ℤ, pos, negsuc}
+use lib.ListN.{length, getD}
+use Prim.Native.Char.{code}
+use Rattle.rules.specs.Choice.{need, bytes, part, byte}
+use Rattle.rules.specs.Refusals.{Said, says, refuses, no}
+use Rattle.rules.specs.Listed.{codeText}
+use Rattle.rules.specs.Layouts.{lineLength, entriesOf, firstStart}
+use Rattle.rules.specs.Split.{Lines, end, broken, line, linesOf}
+use Rattle.rules.specs.Reads.{fixSaid}
+use Rattle.rules.specs.Files.{verdict}
+use Rattle.rules.specs.declared.Reason.the-variants.{InputOver}
+use Rattle.rules.specs.declared.Entry.{Entry}
+use Rattle.rules.specs.declared.Layout.{Layout}
+use Rattle.rules.specs.declared.Fix.{Fix}
+use Rattle.rules.specs.declared.Flight.{Flight}
+
+-- n in decimal with no zero in front, in at most k digits
+unfoldable pub decimalIn : ℕ → ℕ → List ℕ
+decimalIn zero n = []
+decimalIn (suc k) n = cond (ltb n 10) ((48 + n) ∷ []) (decimalIn k (n / 10) ++ ((48 + n % 10) ∷ []))
+
+-- a number below 2^64 has at most 20 digits
+unfoldable pub decimal : ℕ → List ℕ
+decimal n = decimalIn 20 n
+
+-- each value on a printed line stands behind a space
+abbrev pub shown : ℕ → List ℕ
+shown n = code " " ∷ decimal n
+
+abbrev pub shownLetter : ℕ → List ℕ
+shownLetter b = code " " ∷ b ∷ []
+
+abbrev pub shownMetres : ℤ → List ℕ
+shownMetres (pos n) = shown n
+shownMetres (negsuc n) = code " " ∷ code "-" ∷ decimal (n + 1)
+
+-- "ends each printed line with LF"
+abbrev pub lf : List ℕ
+lf = 10 ∷ []
+
+-- "A refusal prints only REFUSED, number, line, byte."
+unfoldable pub refusedText : ℕ → ℕ → ℕ → List ℕ
+unfolding bytes
+refusedText n l b = bytes "REFUSED" ++ (shown n ++ (shown l ++ (shown b ++ lf)))
+
+-- "OK: lines, B lines, K lines, B length, K length."
+unfoldable pub okText : Flight → List ℕ
+unfolding bytes
+okText f =
+    bytes "OK" ++ (shown (f .lines) ++ (shown (f .bs) ++ (shown (f .ks) ++ (shown (lineLength 36 (f .fixes)) ++ (shown (lineLength 8 (f .notes)) ++ lf)))))
+
+-- "FIX: line, seconds, latitude and letter, longitude and letter, validity, pressure and GNSS altitude."
+unfoldable pub fixShown : ℕ → Fix → List ℕ
+unfolding bytes
+fixShown n f =
+    bytes "FIX" ++ (shown n
+    ++ (shown (f .time)
+    ++ (shown (f .lat .count)
+    ++ (shownLetter (f .lat .letter)
+    ++ (shown (f .lon .count)
+    ++ (shownLetter (f .lon .letter)
+    ++ (shownLetter (f .validity)
+    ++ (shownMetres (f .pressure .metres)
+    ++ (shownMetres (f .gnss .metres)
+    ++ lf)))))))))
+
+-- "COL: code and text, in layout order, under each fix."
+unfoldable pub columnShown : List ℕ → Entry → List ℕ
+unfolding bytes
+columnShown l e = bytes "COL " ++ (codeText (e .code) ++ (code " " ∷ (part (byte (e .first)) (e .last) l ++ lf)))
+
+unfoldable pub columnsShown : List ℕ → List Entry → List ℕ
+columnsShown l [] = []
+columnsShown l (e ∷ es) = columnShown l e ++ columnsShown l es
+
+-- a B line's fix with its columns; nothing for another line
+unfoldable pub lineShown : ℕ → Layout → List ℕ → Said Fix → List ℕ
+lineShown n layout l (says f) = fixShown n f ++ columnsShown l (entriesOf layout)
+lineShown n layout l (refuses k m b) = []
+
+-- the lines from number n on
+unfoldable pub fixesShown : ℕ → Layout → Lines → List ℕ
+fixesShown n layout end = []
+fixesShown n layout (broken k) = []
+fixesShown n layout (line t ls) = lineShown n layout t (fixSaid t layout) ++ fixesShown (n + 1) layout ls
+
+unfoldable pub listedAs : List ℕ → Said Flight → List ℕ
+listedAs file (says f) = okText f ++ fixesShown 1 (f .fixes) (linesOf file)
+listedAs file (refuses n l b) = refusedText n l b
+
+-- "The listing program reads standard input, lends a table of 16,384 entries"; "21 INPUT_OVER: program's input over 65,536 bytes; 0, 0"
+unfoldable pub listing : List ℕ → List ℕ
+listing input = listedAs input (need (leb (length input) 65536) (no InputOver 0) λ _. verdict input 16384)

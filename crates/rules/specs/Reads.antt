@@ -1,0 +1,137 @@
+-- Document 01, the paragraph after the refusal table: what each reader of a line answers. "Line readers repeat the checks of 7 to 13 after 17, with 0 for the line
+-- number; then 19, then 20. A refused reading returns no value."
+use Prim.Native.Nat.{ℕ}
+use Prim.Native.Char.{code}
+use mathlib.Core.List.{List, []}
+use mathlib.Core.Option.{Option, none, some}
+use mathlib.Core.Bool.{Bool, cond}
+use lib.Dec.{eqb}
+use lib.ListN.{getD, drop}
+use Rattle.rules.specs.Choice.{given, need, byte}
+use Rattle.rules.specs.Refusals.{Said, says, refuses, no, refusal, andThen}
+use Rattle.rules.specs.Numbers.{wholeOf}
+use Rattle.rules.specs.Listed.{packedOf}
+use Rattle.rules.specs.Layouts.{Span, firstStart, allowed, look, columnText}
+use Rattle.rules.specs.Lines.{dateLine, layoutLine, headLine, pointLine, eLine, fLine, bLine, kLine}
+use Rattle.rules.specs.declared.Reason.the-variants.{BadValue, Absent, NotNumber}
+use Rattle.rules.specs.declared.Signed.{Signed}
+use Rattle.rules.specs.declared.Date.{Date}
+use Rattle.rules.specs.declared.Layout.{Layout}
+use Rattle.rules.specs.declared.Family.{Family}
+use Rattle.rules.specs.declared.Family.the-variants as family
+use Rattle.rules.specs.declared.Fix.{Fix}
+use Rattle.rules.specs.declared.Head.{Head}
+use Rattle.rules.specs.declared.Point.{Point}
+use Rattle.rules.specs.declared.FixRead.{FixRead}
+use Rattle.rules.specs.declared.FixRead.the-variants as fixRead
+use Rattle.rules.specs.declared.TimeRead.{TimeRead}
+use Rattle.rules.specs.declared.TimeRead.the-variants as timeRead
+use Rattle.rules.specs.declared.DateRead.{DateRead}
+use Rattle.rules.specs.declared.DateRead.the-variants as dateRead
+use Rattle.rules.specs.declared.HeadRead.{HeadRead}
+use Rattle.rules.specs.declared.HeadRead.the-variants as headRead
+use Rattle.rules.specs.declared.PointRead.{PointRead}
+use Rattle.rules.specs.declared.PointRead.the-variants as pointRead
+use Rattle.rules.specs.declared.NumberRead.{NumberRead}
+use Rattle.rules.specs.declared.NumberRead.the-variants as numberRead
+
+module _ {A : Type 0} where
+  -- "A line of another kind than the reader's is 17."
+  abbrev pub ofKind : ℕ → List ℕ → (Unit {0} → Said A) → Said A
+  ofKind letter l f = need (eqb (getD l 0 0) letter) (no BadValue 0) f
+
+  -- "17 BAD_VALUE: value, layout .. given is not allowed"
+  abbrev pub withLayout : Family → Layout → (Unit {0} → Said A) → Said A
+  withLayout f layout g = need (allowed (firstStart f) layout) (no BadValue 0) g
+
+-- the fix of a B line with its I layout
+unfoldable pub fixSaid : List ℕ → Layout → Said Fix
+fixSaid l layout = ofKind (code "B") l λ _. withLayout family.B layout λ _. bLine layout l
+
+-- the time of a K line with its J layout
+unfoldable pub noteSaid : List ℕ → Layout → Said ℕ
+noteSaid l layout = ofKind (code "K") l λ _. withLayout family.K layout λ _. kLine layout l
+
+-- the time of an E line, and of an F line
+unfoldable pub eventSaid : List ℕ → Said ℕ
+eventSaid l = ofKind (code "E") l λ _. eLine l
+
+unfoldable pub satellitesSaid : List ℕ → Said ℕ
+satellitesSaid l = ofKind (code "F") l λ _. fLine l
+
+-- the date of line 2
+unfoldable pub dateSaid : List ℕ → Said Date
+dateSaid l = ofKind (code "H") l λ _. dateLine l
+
+-- the layout of an I line, for B lines, and of a J line, for K lines
+abbrev pub layoutLetter : Family → ℕ
+layoutLetter family.B = code "I"
+layoutLetter family.K = code "J"
+
+unfoldable pub layoutSaid : Family → List ℕ → Said Layout
+layoutSaid f l = ofKind (layoutLetter f) l λ _. layoutLine (firstStart f) l
+
+-- "C head and C point have a reader .. each"
+unfoldable pub headSaid : List ℕ → Said Head
+headSaid l = ofKind (code "C") l λ _. headLine l
+
+unfoldable pub pointSaid : List ℕ → Said Point
+pointSaid l = ofKind (code "C") l λ _. pointLine l
+
+-- the text behind a head's fields, and behind a point's; none where refused
+unfoldable pub headRest : List ℕ → Said Head → List ℕ
+headRest l (says h) = drop (byte 26) l
+headRest l (refuses n k b) = []
+
+unfoldable pub pointRest : List ℕ → Said Point → List ℕ
+pointRest l (says p) = drop (byte 19) l
+pointRest l (refuses n k b) = []
+
+-- a B line or a K line with its layout: 17, and the checks of the line
+unfoldable pub lineSaid : List ℕ → Layout → Said (Unit {0})
+lineSaid l layout =
+    cond (eqb (getD l 0 0) (code "B")) (andThen (fixSaid l layout) λ _. says tt) (andThen (noteSaid l layout) λ _. says tt)
+
+-- "A column is read by its code as text": the places of its first and last byte; "19 ABSENT: code (any 3 bytes) not in the layout"
+unfoldable pub columnSaid : List ℕ → Layout → List ℕ → Said Span
+columnSaid l layout name =
+    andThen (lineSaid l layout) λ _.
+    given (look layout (packedOf name)) (no Absent 0) λ s.
+    says s
+
+-- its text; none where refused
+unfoldable pub columnRest : List ℕ → Said Span → List ℕ
+columnRest l (says s) = columnText l s
+columnRest l (refuses n k b) = []
+
+-- "and as a whole number where it is 1 to 18 digits, with or without a minus before them"; "20 NOT_NUMBER: column is no such number"
+unfoldable pub numberSaid : List ℕ → Layout → List ℕ → Said Signed
+numberSaid l layout name =
+    andThen (columnSaid l layout name) λ s.
+    given (wholeOf (columnText l s)) (no NotNumber 0) λ z.
+    says z
+
+-- the answers, in the paper's terms
+unfoldable pub fixTold : FixRead → Said Fix
+fixTold (fixRead.Is f) = says f
+fixTold (fixRead.Refused r) = refusal r
+
+unfoldable pub timeReadTold : TimeRead → Said ℕ
+timeReadTold (timeRead.Secs t) = says t
+timeReadTold (timeRead.Refused r) = refusal r
+
+unfoldable pub dateReadTold : DateRead → Said Date
+dateReadTold (dateRead.On d) = says d
+dateReadTold (dateRead.Refused r) = refusal r
+
+unfoldable pub headTold : HeadRead → Said Head
+headTold (headRead.Is h) = says h
+headTold (headRead.Refused r) = refusal r
+
+unfoldable pub pointTold : PointRead → Said Point
+pointTold (pointRead.Is p) = says p
+pointTold (pointRead.Refused r) = refusal r
+
+unfoldable pub numberReadTold : NumberRead → Said Signed
+numberReadTold (numberRead.Is z) = says z
+numberReadTold (numberRead.Refused r) = refusal r

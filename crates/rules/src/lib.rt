@@ -1,0 +1,291 @@
+// What every crate shares: the values read from an IGC file, and the answers given. No function stands here; specs/ says what is right.
+
+// Why something is refused, by the names of document 01's table of refusal numbers.
+pub enum Reason {
+    Empty,
+    TooLong,
+    LineEnd,
+    EmptyLine,
+    Kind,
+    Order,
+    Length,
+    Character,
+    Form,
+    Tile,
+    Twice,
+    Width,
+    Column,
+    Back,
+    TableFull,
+    EndsEarly,
+    BadValue,
+    NoRoom,
+    Absent,
+    NotNumber,
+    InputOver,
+}
+
+// A refusal: why, in which line, at which byte of it. Lines and bytes count from 1; 0 stands for none.
+pub struct Refusal {
+    pub reason: Reason,
+    pub line: u32,
+    pub byte: u32,
+}
+
+// What is said of something whose value, where it is accepted, stands beside this answer.
+pub enum Outcome {
+    Accepted,
+    Refused(Refusal),
+}
+
+// Where something was found: how many bytes stand before it.
+pub enum Found {
+    At(usize),
+    Nothing,
+}
+
+// What digits spell.
+pub enum Number {
+    Value(u64),
+    NoNumber,
+}
+
+// A whole number with its sign.
+pub struct Signed {
+    pub value: i64,
+}
+
+pub enum Whole {
+    Of(Signed),
+    NoWhole,
+}
+
+// Seconds of the day.
+pub enum Time {
+    Secs(u32),
+    NoTime,
+}
+
+pub struct Date {
+    pub day: u8,
+    pub month: u8,
+    pub year: u16,
+}
+
+pub enum Day {
+    On(Date),
+    NoDay,
+}
+
+// A latitude or a longitude: a count of thousandths of a minute, with its letter beside it.
+pub struct Position {
+    pub count: u64,
+    pub letter: u8,
+}
+
+pub enum Place {
+    Is(Position),
+    NoPlace,
+}
+
+// An altitude.
+pub struct Height {
+    pub metres: i32,
+}
+
+pub enum Altitude {
+    Metres(Height),
+    NoAltitude,
+}
+
+// A position for the map.
+pub struct Degrees {
+    pub lat: f64,
+    pub lon: f64,
+}
+
+pub enum DegreesRead {
+    Both(Degrees),
+    Refused(Refusal),
+}
+
+// A listed code: its three characters as one number, the least and the most width of its column, and whether the column may begin with a minus.
+pub struct Listed {
+    pub code: u32,
+    pub least: usize,
+    pub most: usize,
+    pub sign: bool,
+}
+
+// A column: the places of its first and last byte in the line, counted from 1, and its code's three characters as one number.
+pub struct Entry {
+    pub first: u8,
+    pub last: u8,
+    pub code: u32,
+}
+
+// The columns that an I or a J line tells: the first `count` entries; the others are all zero.
+pub struct Layout {
+    pub count: usize,
+    pub entries: [Entry; 13],
+}
+
+// The lines that a layout is for: B lines with their I line's, K lines with their J line's.
+pub enum Family {
+    B,
+    K,
+}
+
+// A layout that was read; the empty one beside a refusal.
+pub struct LayoutRead {
+    pub outcome: Outcome,
+    pub layout: Layout,
+}
+
+// How many bytes a line has.
+pub enum LengthRead {
+    Bytes(usize),
+    Refused(Refusal),
+}
+
+// Which listed codes a layout carries: bit n of the word for the number n, and how many there are.
+pub struct Presence {
+    pub word: u32,
+    pub count: u32,
+}
+
+pub enum PresenceRead {
+    Carries(Presence),
+    Refused(Refusal),
+}
+
+// Where a column stands: the places of its first and last byte, counted from 1.
+pub enum ColumnRead {
+    Between(u8, u8),
+    Refused(Refusal),
+}
+
+// A column as a whole number.
+pub enum NumberRead {
+    Is(Signed),
+    Refused(Refusal),
+}
+
+// What a B line says before its columns.
+pub struct Fix {
+    pub time: u32,
+    pub lat: Position,
+    pub lon: Position,
+    pub validity: u8,
+    pub pressure: Height,
+    pub gnss: Height,
+}
+
+pub enum FixRead {
+    Is(Fix),
+    Refused(Refusal),
+}
+
+// The time of a K, an E or an F line.
+pub enum TimeRead {
+    Secs(u32),
+    Refused(Refusal),
+}
+
+pub enum DateRead {
+    On(Date),
+    Refused(Refusal),
+}
+
+// The flight date of a declaration.
+pub enum Planned {
+    On(Date),
+    NotGiven,
+}
+
+// What the first line of a declaration says before its text.
+pub struct Head {
+    pub declared: Date,
+    pub time: u32,
+    pub flight: Planned,
+    pub task: u16,
+    pub turns: u8,
+}
+
+pub enum HeadRead {
+    Is(Head),
+    Refused(Refusal),
+}
+
+// What a point line of a declaration says before its text.
+pub struct Point {
+    pub lat: Position,
+    pub lon: Position,
+}
+
+pub enum PointRead {
+    Is(Point),
+    Refused(Refusal),
+}
+
+// A line's kind, told by its first byte. Other: M to Z. NoKind: no byte from A to Z.
+pub enum Kind {
+    A,
+    B,
+    C,
+    D,
+    E,
+    F,
+    G,
+    H,
+    I,
+    J,
+    K,
+    L,
+    Other,
+    NoKind,
+}
+
+// What an accepted file says: its date, the layouts of its B lines and of its K lines, and how many lines, B lines and K lines it has.
+pub struct Flight {
+    pub date: Date,
+    pub fixes: Layout,
+    pub notes: Layout,
+    pub lines: u32,
+    pub bs: u32,
+    pub ks: u32,
+}
+
+// What the lines so far have left: the part of the file that they reached, whether a declaration was begun, how many of its points are
+// still to come, the last time, and what the file says so far.
+pub struct State {
+    pub stage: u8,
+    pub declared: bool,
+    pub points: u32,
+    pub clock: u32,
+    pub flight: Flight,
+}
+
+// One line judged: the state after it, or the state at the start beside a refusal.
+pub struct Judged {
+    pub outcome: Outcome,
+    pub state: State,
+}
+
+// A whole file checked: what it says, or all zero beside a refusal.
+pub struct Checked {
+    pub outcome: Outcome,
+    pub flight: Flight,
+}
+
+// A line of the file: how many bytes stand before it and before its CR LF.
+pub enum LineRead {
+    Part(usize, usize),
+    Refused(Refusal),
+}
+
+// A line written: the place after its CR LF.
+pub enum Wrote {
+    Next(usize),
+    Refused(Refusal),
+}
