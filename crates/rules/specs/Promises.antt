@@ -10,7 +10,7 @@ use lib.ListN.{length, getD}
 use Rattle.rules.specs.Refusals.{Said, refusal, outcomeTold, inLine, outcome, valueOr, number}
 use Rattle.rules.specs.Chars.{isValid, firstInvalid, isDigit, isCode, codesAt}
 use Rattle.rules.specs.Numbers.{numberTold, numberAt, wholeTold, wholeOf, digitsOf}
-use Rattle.rules.specs.Fields.{timeTold, timeAt, timeText, dayTold, dateAt, dateText, placeTold, latitudeAt, longitudeAt, latitudeText, longitudeText, altitudeTold, altitudeAt, altitudeText}
+use Rattle.rules.specs.Fields.{isEither, timeTold, timeAt, timeText, dayTold, dateAt, dateText, placeTold, latitudeAt, longitudeAt, latitudeText, longitudeText, altitudeTold, altitudeAt, altitudeText}
 use Rattle.rules.specs.Degrees.{degreesTold, degreesOf}
 use Rattle.rules.specs.Listed.{listed, unlisted, keepsRule}
 use Rattle.rules.specs.Layouts.{LayoutTold, firstStart, allowed, lengthTold, lengthSaid, presenceTold, presenceSaid, columnTold, lookSaid, columns}
@@ -86,6 +86,13 @@ InvalidFound inH l r = foundTold r ≡ firstInvalid inH l
 
 abbrev pub CodesTest : List ℕ → ℕ → ℕ → Bool → Type 0
 CodesTest l at n r = r ≡ codesAt l at n
+
+-- the byte behind `at` others, 0 past the end
+abbrev pub ByteAt : List ℕ → ℕ → ℕ → Type 0
+ByteAt s at r = r ≡ getD s at 0
+
+abbrev pub EitherTest : ℕ → ℕ → ℕ → Bool → Type 0
+EitherTest x a b r = r ≡ isEither x a b
 
 -- ---- fields, read at a place and put at a place
 
