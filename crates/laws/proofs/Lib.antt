@@ -1,2 +1,4 @@
 pub mod Told
 pub mod Only
+pub mod Worked
+pub mod Settled
