@@ -2,4 +2,6 @@ pub mod Told
 pub mod Only
 pub mod Worked
 pub mod Settled
+pub mod Chains
 pub mod Splitting
+pub mod Counted

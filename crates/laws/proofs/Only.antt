@@ -14,11 +14,9 @@ use Rattle.rules.specs.declared.Position.{Position}
 use Rattle.rules.specs.declared.Height.{Height}
 use Rattle.rules.specs.declared.Layout.{Layout}
 use Rattle.rules.specs.declared.Family.{Family}
-use Rattle.rules.specs.declared.LayoutRead.{LayoutRead}
 use Rattle.rules.specs.declared.Fix.{Fix}
 use Rattle.rules.specs.declared.Head.{Head}
 use Rattle.rules.specs.declared.Point.{Point}
-use Rattle.rules.specs.declared.Checked.{Checked}
 use Rattle.rules.specs.declared.Flight.{Flight}
 use Rattle.laws.proofs.Told.{OneToOne, altitude-one, column-one, date-one, day-one, degrees-one, digits-one, fix-one, found-one, head-one, length-one, line-one, outcome-one, place-one, point-one, presence-one, time-one, timed-one, value-one, whole-one, wrote-one}
 

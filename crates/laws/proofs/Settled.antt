@@ -13,7 +13,7 @@ use lib.Ieee.{fin, round, neg}
 use lib.IntN.{ℤ, pos, negsuc, negℤ}
 use lib.ListN.{length, getD}
 use Rattle.rules.specs.Choice.{given, firstOf, bytes}
-use Rattle.rules.specs.Refusals.{Said, says, refuses, number}
+use Rattle.rules.specs.Refusals.{says, refuses, number}
 use Rattle.rules.specs.Fields.{isEither, yearOf}
 use Rattle.rules.specs.Degrees.{quotient, isNegated, angle, isPosition, degreesOf}
 use Rattle.rules.specs.Listed.{listed, unlisted, listedNumber, packedOf}

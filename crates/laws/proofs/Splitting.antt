@@ -1,18 +1,17 @@
 -- A file and its lines: how a file is cut, that nothing is lost, and that a step and the table's entries lead to the lines in their order. Assumes nothing.
 use Prim.Native.Nat.{ℕ, zero, suc, _+_, _-_, _≤_, _<_}
-use mathlib.Core.Bool.{Bool, true, false, _&&_, _||_, cond}
+use mathlib.Core.Bool.{Bool, true, false, cond}
 use mathlib.Core.List.{List, [], _∷_, _++_}
-use mathlib.Core.Option.{Option, none, some}
+use mathlib.Core.Option.{none, some}
 use mathlib.Core.Path.{_≡_, refl, sym, ap, _∙_}
-use native.Mathlib.Nat.{add-zero}
 use native.Mathlib.Omega.{arith}
-use borrow.Author.Tests.{le-leb, lt-leb, eq-eqb, ne-eqb, eqb-true, eqb-false}
-use lib.Dec.{leb, eqb}
-use lib.ListN.{length, getD, take, drop, length-append, length-drop}
-use lib.Seq.{drop-drop, drop-append-add, drop-append-seam, take-append-seam}
+use borrow.Author.Tests.{le-leb, eq-eqb, ne-eqb, eqb-true, eqb-false}
+use lib.Dec.{eqb}
+use lib.ListN.{length, getD, drop, length-append, length-drop}
+use lib.Seq.{drop-drop, drop-append-seam, take-append-seam}
 use Rattle.rules.specs.Choice.{part, on}
-use Rattle.rules.specs.Refusals.{Said, says, refuses}
-use Rattle.rules.specs.Split.{Lines, end, broken, line, text, linesOf, afterCR, offsets, beginsCRLF, firstCRLF, isStart, boundsOf, lineText, Bounds, stepAt, Stepped}
+use Rattle.rules.specs.Refusals.{says}
+use Rattle.rules.specs.Split.{Lines, end, broken, line, text, linesOf, afterCR, offsets, beginsCRLF, firstCRLF, isStart, boundsOf, lineText, stepAt}
 
 -- ---- a file made of lines is read as those lines
 
@@ -218,7 +217,7 @@ pub record Leads (file : List ℕ) (o : ℕ) (t : List ℕ) : Type 0 where
   pub ends : firstCRLF o (drop o file) ≡ some (o + length t)
   pub text : part o (o + length t) file ≡ t
 
-length-offsets : (k : Lines) (at : ℕ) → length (offsets at k) ≡ length (textsOf k)
+pub length-offsets : (k : Lines) (at : ℕ) → length (offsets at k) ≡ length (textsOf k)
 unfolding offsets
 length-offsets end at = refl
 length-offsets (broken n) at = refl
