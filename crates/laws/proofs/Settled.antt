@@ -19,7 +19,7 @@ use Rattle.rules.specs.Degrees.{quotient, isNegated, angle, isPosition, degrees
 use Rattle.rules.specs.Listed.{listed, unlisted, listedNumber, packedOf}
 use Rattle.rules.specs.Layouts.{emptyLayout, allowed}
 use Rattle.rules.specs.Order.{onward, nextDay, back, passing}
-use Rattle.rules.specs.Files.{verdict}
+use Rattle.rules.specs.Files.{verdict, goodLines, tableAfter}
 use Rattle.rules.specs.Reads.{layoutSaid}
 use Rattle.rules.specs.Writes.{isFix, written, outAfter, wroteTold}
 use Rattle.rules.specs.Promises.{Written}
@@ -67,6 +67,15 @@ empty-file room = refl
 pub long-file : (file : List ℕ) (room : ℕ) → 16777216 < length file → verdict file room ≡ refuses 2 0 0
 unfolding verdict number
 long-file file room h = rw (le-leb 1 (length file) (omega arith), lt-leb (length file) 16777216 h)
+
+-- "The table gets entries for the lines before the faulty one ..., the rest unchanged.": at 1 and 2 there is no line, and the table stays
+pub empty-leaves : (table : List ℕ) → tableAfter [] table ≡ table
+unfolding tableAfter verdict goodLines
+empty-leaves table = refl
+
+pub long-leaves : (file table : List ℕ) → 16777216 < length file → tableAfter file table ≡ table
+unfolding tableAfter goodLines
+long-leaves file table h = rw (long-file file (length table) h)
 
 -- ---- degrees
 

@@ -49,7 +49,7 @@ module _ {T B : Type 0} where
 -- ---- refusals
 
 -- the reasons at their numbers; there is no number 0
-abbrev reasons : List Reason
+abbrev pub reasons : List Reason
 reasons =
     Empty ∷ Empty ∷ TooLong ∷ LineEnd ∷ EmptyLine ∷ Kind ∷ Order ∷ Length ∷ Character ∷ Form ∷ Tile ∷ Twice ∷ Width ∷ Column ∷ Back ∷ TableFull ∷ EndsEarly
     ∷ BadValue ∷ NoRoom ∷ Absent ∷ NotNumber ∷ InputOver ∷ []
@@ -63,15 +63,15 @@ reason-back =
 pub number-one : OneToOne number
 number-one = by-back (λ n. getD reasons n Empty) reason-back
 
-abbrev refusalOf : ℕ → ℕ → ℕ → Refusal
+abbrev pub refusalOf : ℕ → ℕ → ℕ → Refusal
 refusalOf n l b = record { reason = getD reasons n Empty; line = l; byte = b }
 
-refusal-back : (r : Refusal) → refusalOf (number (r .reason)) (r .line) (r .byte) ≡ r
+pub refusal-back : (r : Refusal) → refusalOf (number (r .reason)) (r .line) (r .byte) ≡ r
 refusal-back r = ap (λ (x : Reason). let w : Refusal = record { reason = x; line = r .line; byte = r .byte } in w) (reason-back (r .reason))
 
 module _ {T A : Type 0} where
   -- the answer that says a value, and the answer that refuses
-  abbrev answerOf : (A → T) → (Refusal → T) → Said A → T
+  abbrev pub answerOf : (A → T) → (Refusal → T) → Said A → T
   answerOf is refused (says v) = is v
   answerOf is refused (refuses n l b) = refused (refusalOf n l b)
 

@@ -11,12 +11,12 @@ use Rattle.rules.specs.Choice.{given, bytes}
 use Rattle.rules.specs.Refusals.{Said, says, refuses, andThen}
 use Rattle.rules.specs.Layouts.{emptyLayout, lineLength, presenceSaid}
 use Rattle.rules.specs.Split.{boundsOf, stepAt}
-use Rattle.rules.specs.Reads.{fixSaid, eventSaid, satellitesSaid, layoutSaid, headSaid, pointSaid, numberSaid}
+use Rattle.rules.specs.Reads.{fixSaid, eventSaid, satellitesSaid, layoutSaid, headSaid, pointSaid}
 use Rattle.rules.specs.declared.Family.the-variants as family
 use Rattle.rules.specs.declared.Planned.{Planned}
 use Rattle.rules.specs.declared.Planned.the-variants as planned
 use Rattle.rules.proofs.Computed.{everything, fileOf, agree, Example, hold}
-use Rattle.rules.proofs.Damaged.{linesIn, fiveLines}
+use Rattle.rules.proofs.Damaged.{linesIn, columnIn, fiveLines}
 use Rattle.rules.proofs.Marked.{pressure, year, bLength}
 
 -- ---- what is asked of a line or of a file
@@ -34,14 +34,6 @@ isGiven planned.NotGiven = 0
 
 unfoldable pub flight : List ℕ → Said ℤ
 flight l = andThen (headSaid l) λ h. says (pos (isGiven (h .flight)))
-
--- the number in a column of a B line, after its I line
-unfoldable pub numberIn : String → String → List ℕ → Said ℤ
-unfolding bytes
-numberIn i name l =
-    andThen (layoutSaid family.B (bytes i)) λ layout.
-    andThen (numberSaid l layout (bytes name)) λ z.
-    says (z .value)
 
 unfoldable pub kLength : List ℕ → Said ℤ
 unfolding lineLength
@@ -116,30 +108,27 @@ pub columns : List Example
 unfolding bytes
 columns =
     -- "as a whole number where it is 1 to 18 digits, with or without a minus before them": a minus before noughts is 0
-    ask (numberIn "I013639DAE" "DAE") "B1200005130000N00015000WA0010000120-000" (says (pos 0)) ∷
-    ask (numberIn "I013639DAE" "DAE") "B1200005130000N00015000WA0010000120-012" (says (negℤ (pos 12))) ∷
-    ask (numberIn "I013653XYZ" "XYZ") "B1200005130000N00015000WA0010000120999999999999999999" (says (pos 999999999999999999)) ∷
-    ask (numberIn "I013654XYZ" "XYZ") "B1200005130000N00015000WA0010000120-999999999999999999" (says (negℤ (pos 999999999999999999))) ∷
+    ask (columnIn "I013639DAE" "DAE") "B1200005130000N00015000WA0010000120-000" (says (pos 0)) ∷
+    ask (columnIn "I013639DAE" "DAE") "B1200005130000N00015000WA0010000120-012" (says (negℤ (pos 12))) ∷
+    ask (columnIn "I013653XYZ" "XYZ") "B1200005130000N00015000WA0010000120999999999999999999" (says (pos 999999999999999999)) ∷
+    ask (columnIn "I013654XYZ" "XYZ") "B1200005130000N00015000WA0010000120-999999999999999999" (says (negℤ (pos 999999999999999999))) ∷
     -- "20 NOT_NUMBER: column is no such number": 19 digits, a letter, a minus alone, two of them
-    ask (numberIn "I013654XYZ" "XYZ") "B1200005130000N00015000WA00100001200000000000000000001" (refuses 20 0 0) ∷
-    ask (numberIn "I013638XYZ" "XYZ") "B1200005130000N00015000WA00100001201A2" (refuses 20 0 0) ∷
-    ask (numberIn "I013636XYZ" "XYZ") "B1200005130000N00015000WA0010000120-" (refuses 20 0 0) ∷
-    ask (numberIn "I013638XYZ" "XYZ") "B1200005130000N00015000WA0010000120--1" (refuses 20 0 0) ∷
-    -- "FLP, DAE, DAN may have a minus first with at least one digit after it."
-    ask (numberIn "I013638FLP" "FLP") "B1200005130000N00015000WA0010000120-05" (says (negℤ (pos 5))) ∷
-    ask (numberIn "I013638ENL" "ENL") "B1200005130000N00015000WA0010000120-05" (refuses 13 0 36) ∷
-    -- "Finding ENL by its usual place, 41 to 43, and not by the I line" is a slip: here it stands at 36 to 38
-    ask (numberIn "I033638ENL3940SIU4143FXA" "ENL") "B1200005130000N00015000WA001000012032108035" (says (pos 321)) ∷
+    ask (columnIn "I013654XYZ" "XYZ") "B1200005130000N00015000WA00100001200000000000000000001" (refuses 20 0 0) ∷
+    ask (columnIn "I013638XYZ" "XYZ") "B1200005130000N00015000WA00100001201A2" (refuses 20 0 0) ∷
+    ask (columnIn "I013636XYZ" "XYZ") "B1200005130000N00015000WA0010000120-" (refuses 20 0 0) ∷
+    ask (columnIn "I013638XYZ" "XYZ") "B1200005130000N00015000WA0010000120--1" (refuses 20 0 0) ∷
+    -- "FLP, DAE, DAN may have a minus first": ENL may not
+    ask (columnIn "I013638ENL" "ENL") "B1200005130000N00015000WA0010000120-05" (refuses 13 0 36) ∷
     -- "19 ABSENT: code (any 3 bytes) not in the layout"
-    ask (numberIn "I013638ENL" "FXA") "B1200005130000N00015000WA0010000120321" (refuses 19 0 0) ∷
-    ask (numberIn "I013638ENL" "a!,") "B1200005130000N00015000WA0010000120321" (refuses 19 0 0) ∷
+    ask (columnIn "I013638ENL" "FXA") "B1200005130000N00015000WA0010000120321" (refuses 19 0 0) ∷
+    ask (columnIn "I013638ENL" "a!,") "B1200005130000N00015000WA0010000120321" (refuses 19 0 0) ∷
     -- "Line readers repeat the checks of 7 to 13 after 17 ..; then 19, then 20."
-    ask (numberIn "I013638ENL" "FXA") "B1200005130000N00015000WA00100001203A1" (refuses 13 0 36) ∷
-    ask (numberIn "I013638ENL" "FXA") "L" (refuses 17 0 0) ∷
+    ask (columnIn "I013638ENL" "FXA") "B1200005130000N00015000WA00100001203A1" (refuses 13 0 36) ∷
+    ask (columnIn "I013638ENL" "FXA") "L" (refuses 17 0 0) ∷
     []
 
 pub columns-hold : hold columns ≡ true
-unfolding everything agree hold columns numberIn
+unfolding everything agree hold columns columnIn
 columns-hold = refl
 
 -- ---- layouts
