@@ -1,5 +1,4 @@
--- No second answer meets a promise: for each promise of `rules`, in its order, that two answers which meet it are the same, and what is lent is the same
--- afterwards. Assumes nothing.
+-- For each promise of `rules`, in its order: two answers that meet it are the same, and so is what is lent, afterwards. Assumes nothing.
 use Prim.Native.Nat.{ℕ}
 use mathlib.Core.Bool.{Bool}
 use mathlib.Core.List.{List}
