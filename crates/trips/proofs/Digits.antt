@@ -14,7 +14,7 @@ use lib.Seq.{drop-drop}
 use Rattle.rules.specs.Choice.{need}
 use Rattle.rules.specs.Chars.{isDigit}
 use Rattle.rules.specs.Numbers.{spell, numberAt, digitsOf}
-use Rattle.trips.proofs.Laws.{none-some, need-inv}
+use Rattle.trips.proofs.Laws.{none-some, need-inv, past}
 use Rattle.trips.proofs.Texts.{areValid, digit-range, digit-valid, both-valid}
 use Rattle.trips.proofs.Trip.{Trip}
 
@@ -120,3 +120,32 @@ number-trip n most h m = record {
   limits = λ s at v e. le-leb v most (omega (arith, number-there s at n (at + n) v refl e .1));
   here = λ s at v r g e. number-here s at n v r h (omega (arith, leb-true v most g)) e;
 }
+
+-- ---- three pairs of digits, as a time and a date have them
+
+abbrev pub pairs : ℕ → ℕ → ℕ → List ℕ
+pairs a b c = digitsOf 2 a ++ (digitsOf 2 b ++ digitsOf 2 c)
+
+pub pairs-length : (a b c : ℕ) → length (pairs a b c) ≡ 6
+pairs-length a b c = simp (length-append, digits-length)
+
+pub pairs-clean : (a b c : ℕ) → areValid (pairs a b c) ≡ true
+pairs-clean a b c = both-valid (digitsOf 2 a) _ (digits-clean 2 a) (both-valid (digitsOf 2 b) _ (digits-clean 2 b) (digits-clean 2 c))
+
+module _ (s : List ℕ) (at a b c : ℕ) where
+  pub pairs-there : (to : ℕ) → at + 6 ≡ to → numberAt s at 2 ≡ some a → numberAt s (at + 2) 2 ≡ some b → numberAt s (at + 4) 2 ≡ some c
+      → drop at s ≡ pairs a b c ++ drop to s
+  pairs-there to t p q r =
+      number-there s at 2 (at + 2) a refl p .0
+      ∙ rw (number-there s (at + 2) 2 (at + 4) b (omega arith) q .0, number-there s (at + 4) 2 to c (omega arith) r .0) (simp append-assoc)
+
+  pub pairs-here : (r : List ℕ) → a ≤ 99 → b ≤ 99 → c ≤ 99 → drop at s ≡ pairs a b c ++ r
+      → (numberAt s at 2 ≡ some a) × (numberAt s (at + 2) 2 ≡ some b) × (numberAt s (at + 4) 2 ≡ some c)
+  pairs-here r ha hb hc e =
+      let e₁ : drop at s ≡ digitsOf 2 a ++ (digitsOf 2 b ++ (digitsOf 2 c ++ r)) = simp append-assoc at e in
+      let e₂ = past s at 2 (at + 2) (digitsOf 2 a) _ (digits-length 2 a) refl e₁ in
+      let e₃ = past s (at + 2) 2 (at + 4) (digitsOf 2 b) _ (digits-length 2 b) (omega arith) e₂ in (
+        number-here s at 2 a _ (omega arith) (omega arith) e₁,
+        number-here s (at + 2) 2 b _ (omega arith) (omega arith) e₂,
+        number-here s (at + 4) 2 c r (omega arith) (omega arith) e₃,
+      )

@@ -2,3 +2,5 @@ pub mod Laws
 pub mod Texts
 pub mod Trip
 pub mod Digits
+pub mod Times
+pub mod Dates

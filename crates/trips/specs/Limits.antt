@@ -1,15 +1,46 @@
 -- What a value must keep to, so that some line reads as it: for each field and for each line that is written, a chain of tests that code can make.
-use Prim.Native.Nat.{ℕ}
+use Prim.Native.Nat.{ℕ, _+_}
 use mathlib.Core.Bool.{Bool, true, false}
 use mathlib.Core.List.{List}
 use lib.Dec.{leb}
-use Rattle.rules.specs.Choice.{given}
+use lib.IntN.{ℤ, pos, negsuc}
+use Rattle.rules.specs.Choice.{given, need, on}
 use Rattle.rules.specs.Chars.{firstInvalid}
+use Rattle.rules.specs.Fields.{daysOf}
+use Rattle.rules.specs.declared.Date.{Date}
+use Rattle.rules.specs.declared.Height.{Height}
+use Rattle.rules.specs.declared.Planned.{Planned}
+use Rattle.rules.specs.declared.Planned.the-variants as planned
 
 -- a text with no character that is invalid outside H lines
 unfoldable pub isClean : List ℕ → Bool
 isClean l = given (firstInvalid false l) true λ i. false
 
+-- ---- fields
+
 -- a second of the day
 abbrev pub isTime : ℕ → Bool
 isTime t = leb t 86399
+
+-- a day that exists, in a year that two digits tell
+unfoldable pub isDate : Date → Bool
+isDate d =
+    need (leb 1980 (d .year)) false λ _.
+    need (leb (d .year) 2079) false λ _.
+    need (leb 1 (d .day)) false λ _.
+    on (daysOf (d .year) (d .month)) λ days.
+    need (leb (d .day) days) false λ _.
+    true
+
+-- a date, or that it is not given
+unfoldable pub isPlanned : Planned → Bool
+isPlanned (planned.On d) = isDate d
+isPlanned planned.NotGiven = true
+
+-- "So -9,999 to 99,999."
+abbrev pub isMetres : ℤ → Bool
+isMetres (pos n) = leb n 99999
+isMetres (negsuc n) = leb (n + 1) 9999
+
+unfoldable pub isAltitude : Height → Bool
+isAltitude h = isMetres (h .metres)
