@@ -105,7 +105,7 @@ number-there s at n to v t e =
 
 -- ---- the trip
 
-digits-clean : (n v : ℕ) → areValid (digitsOf n v) ≡ true
+pub digits-clean : (n v : ℕ) → areValid (digitsOf n v) ≡ true
 unfolding digitsOf areValid
 digits-clean zero v = refl
 digits-clean (suc n) v =

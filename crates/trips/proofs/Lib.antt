@@ -4,3 +4,4 @@ pub mod Trip
 pub mod Digits
 pub mod Times
 pub mod Dates
+pub mod Positions
