@@ -24,7 +24,7 @@ digits-length zero v = refl
 digits-length (suc n) v = rw (length-append, digits-length n (v / 10)) (omega arith)
 
 -- the first of the digits
-digits-front : (n v : ℕ) → digitsOf (suc n) v ≡ (48 + v / 10 ^ n % 10) ∷ digitsOf n v
+pub digits-front : (n v : ℕ) → digitsOf (suc n) v ≡ (48 + v / 10 ^ n % 10) ∷ digitsOf n v
 unfolding digitsOf
 digits-front zero v = let e : v / 1 ≡ v = omega arith in rw e
 digits-front (suc n) v = rw (digits-front n (v / 10), div-div-eq-div-mul, ← pow-succ')

@@ -5,3 +5,4 @@ pub mod Digits
 pub mod Times
 pub mod Dates
 pub mod Positions
+pub mod Altitudes
