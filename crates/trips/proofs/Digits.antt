@@ -11,7 +11,7 @@ use borrow.Author.Tests.{le-leb, leb-true}
 use lib.Dec.{leb}
 use lib.ListN.{length, drop, length-append}
 use lib.Seq.{drop-drop}
-use Rattle.rules.specs.Choice.{need}
+use Rattle.rules.specs.Choice.{need, leads}
 use Rattle.rules.specs.Chars.{isDigit}
 use Rattle.rules.specs.Numbers.{spell, numberAt, digitsOf}
 use Rattle.trips.proofs.Laws.{none-some, need-inv, past}
@@ -105,6 +105,12 @@ number-there s at n to v t e =
 
 -- ---- the trip
 
+-- each of them is a digit
+pub digits-are : (n v : ℕ) → leads isDigit n (digitsOf n v) ≡ true
+unfolding leads digitsOf
+digits-are zero v = refl
+digits-are (suc n) v = rw (digits-front n v, digit-is (v / 10 ^ n % 10) (omega arith)) (digits-are n v)
+
 pub digits-clean : (n v : ℕ) → areValid (digitsOf n v) ≡ true
 unfolding digitsOf areValid
 digits-clean zero v = refl
@@ -128,6 +134,11 @@ pairs a b c = digitsOf 2 a ++ (digitsOf 2 b ++ digitsOf 2 c)
 
 pub pairs-length : (a b c : ℕ) → length (pairs a b c) ≡ 6
 pairs-length a b c = simp (length-append, digits-length)
+
+-- together they are the digits of one number
+pub pairs-join : (a b c : ℕ) → b ≤ 99 → c ≤ 99 → pairs a b c ≡ digitsOf 6 (a * 10000 + (b * 100 + c))
+pairs-join a b c hb hc =
+    sym (digits-join 2 4 a (b * 100 + c) (omega arith) ∙ ap (λ l. digitsOf 2 a ++ l) (digits-join 2 2 b c (omega arith)))
 
 pub pairs-clean : (a b c : ℕ) → areValid (pairs a b c) ≡ true
 pairs-clean a b c = both-valid (digitsOf 2 a) _ (digits-clean 2 a) (both-valid (digitsOf 2 b) _ (digits-clean 2 b) (digits-clean 2 c))

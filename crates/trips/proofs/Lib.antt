@@ -6,3 +6,4 @@ pub mod Times
 pub mod Dates
 pub mod Positions
 pub mod Altitudes
+pub mod Plans
