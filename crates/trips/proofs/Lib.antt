@@ -7,3 +7,6 @@ pub mod Dates
 pub mod Positions
 pub mod Altitudes
 pub mod Plans
+pub mod Same
+pub mod LineTrip
+pub mod Points

@@ -7,7 +7,7 @@ use mathlib.Core.Path.{_≡_, refl, sym, _∙_, ap}
 use native.Mathlib.Omega.{arith}
 use borrow.Author.Tests.{le-leb, leb-true, ne-eqb}
 use lib.Dec.{leb, eqb}
-use lib.ListN.{length}
+use lib.ListN.{length, length-append}
 use Rattle.rules.specs.Choice.{given, need, firstOf}
 use Rattle.rules.specs.Refusals.{Said, says, refuses, no}
 use Rattle.rules.specs.Chars.{isValid, isDigit, firstInvalid, characters}
@@ -79,3 +79,16 @@ shaped-there least most l u e =
 pub shaped-here : (least most : ℕ) (l : List ℕ) → least ≤ length l → length l ≤ most → areValid l ≡ true → shaped least most false l ≡ says tt
 unfolding shaped isSized characters isClean
 shaped-here least most l p q v = simp (le-leb least (length l) p, le-leb (length l) most q) (nothing-here (firstInvalid false l) _ (λ i. i + 1) (clean-valid l ∙ v))
+
+-- a line of a front, n clean bytes, and what stands behind it
+module _ (least most n : ℕ) (a r : List ℕ) (long : length a ≡ n) where
+  pub front-there : (u : Unit {0}) → shaped least most false (a ++ r) ≡ says u → (least ≤ n + length r) × (n + length r ≤ most) × (isClean r ≡ true)
+  front-there u e =
+      let s = shaped-there least most (a ++ r) u e in
+      let l : length (a ++ r) ≡ n + length r = rw (length-append, long) in
+      (rw l at (s .0), rw l at (s .1), clean-valid r ∙ and-inv (areValid a) (areValid r) (sym (valid-join a r) ∙ s .2) .1)
+
+  pub front-here : areValid a ≡ true → least ≤ n + length r → n + length r ≤ most → isClean r ≡ true → shaped least most false (a ++ r) ≡ says tt
+  front-here v p q c =
+      let l : length (a ++ r) ≡ n + length r = rw (length-append, long) in
+      shaped-here least most (a ++ r) (rw l p) (rw l q) (both-valid a r v (sym (clean-valid r) ∙ c))

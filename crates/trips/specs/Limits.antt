@@ -4,13 +4,16 @@ use mathlib.Core.Bool.{Bool, true, false}
 use mathlib.Core.List.{List}
 use lib.Dec.{leb}
 use lib.IntN.{ℤ, pos, negsuc}
+use lib.ListN.{length}
 use Rattle.rules.specs.Choice.{given, need, on}
 use Rattle.rules.specs.Chars.{firstInvalid}
 use Rattle.rules.specs.Fields.{daysOf}
+use Rattle.rules.specs.Degrees.{isLatitude, isLongitude}
 use Rattle.rules.specs.declared.Date.{Date}
 use Rattle.rules.specs.declared.Height.{Height}
 use Rattle.rules.specs.declared.Planned.{Planned}
 use Rattle.rules.specs.declared.Planned.the-variants as planned
+use Rattle.rules.specs.declared.Point.{Point}
 
 -- a text with no character that is invalid outside H lines
 unfoldable pub isClean : List ℕ → Bool
@@ -44,3 +47,13 @@ isMetres (negsuc n) = leb (n + 1) 9999
 
 unfoldable pub isAltitude : Height → Bool
 isAltitude h = isMetres (h .metres)
+
+-- ---- lines, with the text behind their fields
+
+-- "C point 18 to 255"
+unfoldable pub goodPoint : Point → List ℕ → Bool
+goodPoint p rest =
+    need (isLatitude (p .lat)) false λ _.
+    need (isLongitude (p .lon)) false λ _.
+    need (leb (18 + length rest) 255) false λ _.
+    isClean rest
