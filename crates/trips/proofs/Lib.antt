@@ -10,3 +10,5 @@ pub mod Plans
 pub mod Same
 pub mod LineTrip
 pub mod Points
+pub mod Tails
+pub mod Notes

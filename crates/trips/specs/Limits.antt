@@ -1,15 +1,20 @@
 -- What a value must keep to, so that some line reads as it: for each field and for each line that is written, a chain of tests that code can make.
-use Prim.Native.Nat.{ℕ, _+_}
-use mathlib.Core.Bool.{Bool, true, false}
+use Prim.Native.Nat.{ℕ, _+_, _-_}
+use mathlib.Core.Bool.{Bool, true, false, not}
 use mathlib.Core.List.{List}
-use lib.Dec.{leb}
+use mathlib.Core.Option.{Option}
+use lib.Dec.{leb, eqb}
 use lib.IntN.{ℤ, pos, negsuc}
 use lib.ListN.{length}
-use Rattle.rules.specs.Choice.{given, need, on}
+use Rattle.rules.specs.Choice.{given, need, on, firstOf, part}
 use Rattle.rules.specs.Chars.{firstInvalid}
 use Rattle.rules.specs.Fields.{daysOf}
 use Rattle.rules.specs.Degrees.{isLatitude, isLongitude}
+use Rattle.rules.specs.Listed.{keepsRule}
+use Rattle.rules.specs.Layouts.{entriesOf, allowed, lineLength}
 use Rattle.rules.specs.declared.Date.{Date}
+use Rattle.rules.specs.declared.Entry.{Entry}
+use Rattle.rules.specs.declared.Layout.{Layout}
 use Rattle.rules.specs.declared.Height.{Height}
 use Rattle.rules.specs.declared.Planned.{Planned}
 use Rattle.rules.specs.declared.Planned.the-variants as planned
@@ -57,3 +62,21 @@ goodPoint p rest =
     need (isLongitude (p .lon)) false λ _.
     need (leb (18 + length rest) 255) false λ _.
     isClean rest
+
+-- the first byte in the line of the first column that breaks its rule, told from the line's tail alone, which begins at the first start
+unfoldable pub badTail : ℕ → List ℕ → Layout → Option ℕ
+badTail start tail layout =
+    firstOf (λ (e : Entry). not (keepsRule (e .code) (part (e .first - start) (e .last + 1 - start) tail))) (λ (k : ℕ) (e : Entry). e .first) (entriesOf layout) 0
+
+-- the columns of a B line (36) or a K line (8): they are what the layout gives
+unfoldable pub goodTail : ℕ → List ℕ → Layout → Bool
+goodTail start tail layout =
+    need (allowed start layout) false λ _.
+    need (eqb (start - 1 + length tail) (lineLength start layout)) false λ _.
+    need (isClean tail) false λ _.
+    given (badTail start tail layout) true λ first. false
+
+unfoldable pub goodNote : ℕ → List ℕ → Layout → Bool
+goodNote t tail layout =
+    need (isTime t) false λ _.
+    goodTail 8 tail layout
