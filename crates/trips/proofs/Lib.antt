@@ -12,3 +12,4 @@ pub mod LineTrip
 pub mod Points
 pub mod Tails
 pub mod Notes
+pub mod Heads

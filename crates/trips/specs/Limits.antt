@@ -1,5 +1,6 @@
 -- What a value must keep to, so that some line reads as it: for each field and for each line that is written, a chain of tests that code can make.
 use Prim.Native.Nat.{ℕ, _+_, _-_}
+use Prim.Native.Char.{code}
 use mathlib.Core.Bool.{Bool, true, false, not}
 use mathlib.Core.List.{List}
 use mathlib.Core.Option.{Option}
@@ -8,7 +9,7 @@ use lib.IntN.{ℤ, pos, negsuc}
 use lib.ListN.{length}
 use Rattle.rules.specs.Choice.{given, need, on, firstOf, part}
 use Rattle.rules.specs.Chars.{firstInvalid}
-use Rattle.rules.specs.Fields.{daysOf}
+use Rattle.rules.specs.Fields.{daysOf, isEither}
 use Rattle.rules.specs.Degrees.{isLatitude, isLongitude}
 use Rattle.rules.specs.Listed.{keepsRule}
 use Rattle.rules.specs.Layouts.{entriesOf, allowed, lineLength}
@@ -18,6 +19,8 @@ use Rattle.rules.specs.declared.Layout.{Layout}
 use Rattle.rules.specs.declared.Height.{Height}
 use Rattle.rules.specs.declared.Planned.{Planned}
 use Rattle.rules.specs.declared.Planned.the-variants as planned
+use Rattle.rules.specs.declared.Fix.{Fix}
+use Rattle.rules.specs.declared.Head.{Head}
 use Rattle.rules.specs.declared.Point.{Point}
 
 -- a text with no character that is invalid outside H lines
@@ -63,6 +66,22 @@ goodPoint p rest =
     need (leb (18 + length rest) 255) false λ _.
     isClean rest
 
+-- "C head: declared date, time, flight date .., 4-digit task number, 2-digit number of turn points"
+unfoldable pub goodHeadFields : Head → Bool
+goodHeadFields h =
+    need (isDate (h .declared)) false λ _.
+    need (isTime (h .time)) false λ _.
+    need (isPlanned (h .flight)) false λ _.
+    need (leb (h .task) 9999) false λ _.
+    leb (h .turns) 99
+
+-- "C head 25 to 255"
+unfoldable pub goodHead : Head → List ℕ → Bool
+goodHead h rest =
+    need (goodHeadFields h) false λ _.
+    need (leb (25 + length rest) 255) false λ _.
+    isClean rest
+
 -- the first byte in the line of the first column that breaks its rule, told from the line's tail alone, which begins at the first start
 unfoldable pub badTail : ℕ → List ℕ → Layout → Option ℕ
 badTail start tail layout =
@@ -80,3 +99,17 @@ unfoldable pub goodNote : ℕ → List ℕ → Layout → Bool
 goodNote t tail layout =
     need (isTime t) false λ _.
     goodTail 8 tail layout
+
+unfoldable pub goodFixFields : Fix → Bool
+goodFixFields f =
+    need (isTime (f .time)) false λ _.
+    need (isLatitude (f .lat)) false λ _.
+    need (isLongitude (f .lon)) false λ _.
+    need (isEither (f .validity) (code "A") (code "V")) false λ _.
+    need (isAltitude (f .pressure)) false λ _.
+    isAltitude (f .gnss)
+
+unfoldable pub goodFix : Fix → List ℕ → Layout → Bool
+goodFix f tail layout =
+    need (goodFixFields f) false λ _.
+    goodTail 36 tail layout
