@@ -13,3 +13,4 @@ pub mod Points
 pub mod Tails
 pub mod Notes
 pub mod Heads
+pub mod Fixes

@@ -37,9 +37,9 @@ module _ {A : Type 0} {read : List ℕ → ℕ → Option A} {text : A → List 
       omega (arith, length-drop at s, simp (length-append, trip .long v) at n)
 
   -- a value is within its limits exactly when its own text reads as it
-  pub exactly : (v : A) (behind : List ℕ) → (read (text v ++ behind) 0 ≡ some v) ↔ (within v ≡ true)
-  exactly v behind = (trip .limits (text v ++ behind) 0 v, λ h. trip .here (text v ++ behind) 0 v behind h refl)
+  pub exactly : (v : A) → (read (text v) 0 ≡ some v) ↔ (within v ≡ true)
+  exactly v = (trip .limits (text v) 0 v, λ h. trip .here (text v) 0 v [] h (sym (append-nil (text v))))
 
   -- and exactly when any text at any place does, which then is its own
   pub somewhere : (v : A) → ((s : List ℕ) × (at : ℕ) × (read s at ≡ some v)) ↔ (within v ≡ true)
-  somewhere v = (λ t. trip .limits (t .0) (t .1) v (t .2), λ h. (text v ++ [], 0, exactly v [] .1 h))
+  somewhere v = (λ t. trip .limits (t .0) (t .1) v (t .2), λ h. (text v, 0, exactly v .1 h))
