@@ -1,9 +1,9 @@
 -- An altitude both ways: five digits, or a minus and four that are not all zero, read as metres exactly where those metres' text stands. Assumes nothing.
-use Prim.Native.Nat.{ℕ, zero, suc, _+_, _/_, _%_, _^_, _≤_, _<_}
+use Prim.Native.Nat.{ℕ, zero, suc, _+_, _/_, _%_, _^_, _≤_}
 use Prim.Native.Char.{code}
 use mathlib.Core.Bool.{Bool, true, false, cond}
 use mathlib.Core.List.{List, [], _∷_, _++_}
-use mathlib.Core.Option.{Option, none, some}
+use mathlib.Core.Option.{none, some}
 use mathlib.Core.Path.{_≡_, refl, sym, _∙_, ap}
 use native.Mathlib.Numerals.{add-one}
 use native.Mathlib.Omega.{arith}
@@ -18,7 +18,7 @@ use Rattle.rules.specs.Fields.{altitudeAt, altitudeText, metresText}
 use Rattle.rules.specs.declared.Height.{Height}
 use Rattle.trips.specs.Limits.{isMetres, isAltitude}
 use Rattle.trips.proofs.Laws.{none-some, given-inv, need-inv, past, byte-there, byte-here}
-use Rattle.trips.proofs.Texts.{areValid, both-valid}
+use Rattle.trips.proofs.Texts.{areValid}
 use Rattle.trips.proofs.Digits.{digits-length, digits-clean, digits-front, number-there, number-here}
 use Rattle.trips.proofs.Trip.{Trip}
 

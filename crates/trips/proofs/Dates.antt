@@ -1,11 +1,11 @@
 -- A date both ways: DDMMYY reads as a day that exists, of 1980 to 2079, exactly where that day's text stands. Assumes nothing.
-use Prim.Native.Nat.{ℕ, zero, suc, _+_, _*_, _/_, _%_, _≤_, _<_}
-use mathlib.Core.Bool.{Bool, true, false, cond, _&&_}
+use Prim.Native.Nat.{ℕ, zero, suc, _+_, _%_, _≤_, _<_}
+use mathlib.Core.Bool.{Bool, true, false, cond}
 use mathlib.Core.List.{List, [], _∷_, _++_}
-use mathlib.Core.Option.{Option, none, some}
-use mathlib.Core.Path.{_≡_, refl, sym, _∙_, ap}
+use mathlib.Core.Option.{none, some}
+use mathlib.Core.Path.{_≡_, refl}
 use native.Mathlib.Omega.{arith}
-use borrow.Author.Tests.{le-leb, lt-leb, leb-true, leb-false, ne-eqb}
+use borrow.Author.Tests.{le-leb, leb-true, leb-false, ne-eqb}
 use lib.Dec.{leb, eqb}
 use lib.ListN.{length, getD, drop, List·getD-eq-default}
 use Rattle.rules.specs.Choice.{on, leads}
@@ -14,7 +14,7 @@ use Rattle.rules.specs.Fields.{isLeap, months, daysOf, yearOf, dateAt, dateText
 use Rattle.rules.specs.declared.Date.{Date}
 use Rattle.trips.specs.Limits.{isDate}
 use Rattle.trips.proofs.Laws.{none-some, false-true, given-inv, need-inv, and-inv}
-use Rattle.trips.proofs.Digits.{number-there, pairs, pairs-length, pairs-clean, pairs-there, pairs-here}
+use Rattle.trips.proofs.Digits.{number-there, pairs-length, pairs-clean, pairs-there, pairs-here}
 use Rattle.trips.proofs.Trip.{Trip}
 
 -- ---- the days of a month, and the years of two digits

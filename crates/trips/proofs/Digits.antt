@@ -4,14 +4,13 @@ use mathlib.Core.Bool.{Bool, true, false, cond}
 use mathlib.Core.List.{List, [], _∷_, _++_, append-assoc, append-nil}
 use mathlib.Core.Option.{Option, none, some}
 use mathlib.Core.Path.{_≡_, refl, sym, _∙_, ap}
-use native.Mathlib.Nat.{add-zero, zero-add, pow-suc, pow-succ', one-le-pow, mul-assoc, mul-comm, div-div-eq-div-mul, div-add-mod', mod-lt, mod-eq-of-lt, mul-add-mod-self-left, mul-le-mul-right, div-lt-iff-lt-mul}
-use native.Mathlib.Numerals.{add-one}
+use native.Mathlib.Nat.{add-zero, pow-suc, pow-succ', one-le-pow, div-div-eq-div-mul, div-add-mod', mod-lt, mod-eq-of-lt, mul-add-mod-self-left, mul-le-mul-right, div-lt-iff-lt-mul}
 use native.Mathlib.Omega.{arith}
 use borrow.Author.Tests.{le-leb, leb-true}
 use lib.Dec.{leb}
 use lib.ListN.{length, drop, length-append}
 use lib.Seq.{drop-drop}
-use Rattle.rules.specs.Choice.{need, leads}
+use Rattle.rules.specs.Choice.{leads}
 use Rattle.rules.specs.Chars.{isDigit}
 use Rattle.rules.specs.Numbers.{spell, numberAt, digitsOf}
 use Rattle.trips.proofs.Laws.{none-some, need-inv, past}

@@ -1,17 +1,17 @@
 -- A K line both ways: with its layout it reads as a time exactly when it is that time's own line, and its tail is what the layout gives. Assumes nothing.
-use Prim.Native.Nat.{ℕ, suc, _+_, _≤_}
+use Prim.Native.Nat.{ℕ, suc}
 use Prim.Native.Char.{code}
-use mathlib.Core.Bool.{Bool, true, false}
-use mathlib.Core.List.{List, [], _∷_, _++_}
-use mathlib.Core.Option.{Option, none, some}
-use mathlib.Core.Path.{_≡_, refl, sym, _∙_, ap}
+use mathlib.Core.Bool.{true, false}
+use mathlib.Core.List.{List, _∷_, _++_}
+use mathlib.Core.Option.{some}
+use mathlib.Core.Path.{_≡_, refl, _∙_, ap}
 use mathlib.Core.Logic.{_↔_}
 use native.Mathlib.Omega.{arith}
 use borrow.Author.Tests.{eqb-true, eq-eqb}
 use lib.Dec.{eqb}
 use lib.ListN.{length, getD, drop}
 use lib.Seq.{drop-at}
-use Rattle.rules.specs.Refusals.{Said, says}
+use Rattle.rules.specs.Refusals.{says}
 use Rattle.rules.specs.Chars.{isValid}
 use Rattle.rules.specs.Fields.{timeAt, timeText}
 use Rattle.rules.specs.Layouts.{allowed, columns}

@@ -1,22 +1,22 @@
 -- The flight date of a declaration both ways: six zeros read as not given, and every other date as a date does. Assumes nothing.
-use Prim.Native.Nat.{ℕ, _+_, _*_, _%_, _≤_, _<_}
+use Prim.Native.Nat.{ℕ, _+_, _*_, _%_}
 use mathlib.Core.Bool.{Bool, true, false, cond}
 use mathlib.Core.List.{List, _++_}
-use mathlib.Core.Option.{Option, none, some}
-use mathlib.Core.Path.{_≡_, refl, sym, _∙_, ap}
+use mathlib.Core.Option.{none, some}
+use mathlib.Core.Path.{_≡_, refl, _∙_, ap}
 use native.Mathlib.Omega.{arith}
 use borrow.Author.Tests.{eqb-true, ne-eqb}
 use lib.Dec.{eqb}
 use lib.ListN.{length, drop}
 use Rattle.rules.specs.Choice.{given}
-use Rattle.rules.specs.Numbers.{numberAt, digitsOf}
+use Rattle.rules.specs.Numbers.{numberAt}
 use Rattle.rules.specs.Fields.{dateAt, dateText}
 use Rattle.rules.specs.Lines.{plannedAt}
 use Rattle.rules.specs.Writes.{plannedText}
 use Rattle.rules.specs.declared.Date.{Date}
 use Rattle.rules.specs.declared.Planned.{Planned}
 use Rattle.rules.specs.declared.Planned.the-variants as planned
-use Rattle.trips.specs.Limits.{isDate, isPlanned}
+use Rattle.trips.specs.Limits.{isPlanned}
 use Rattle.trips.proofs.Laws.{none-some, given-inv}
 use Rattle.trips.proofs.Texts.{areValid}
 use Rattle.trips.proofs.Digits.{digits-length, digits-clean, number-there, number-here, pairs-join}

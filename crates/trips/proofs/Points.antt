@@ -2,9 +2,9 @@
 -- Assumes nothing.
 use Prim.Native.Nat.{ℕ, _+_, _≤_}
 use Prim.Native.Char.{code}
-use mathlib.Core.Bool.{Bool, true, false}
-use mathlib.Core.List.{List, [], _∷_, _++_, append-assoc}
-use mathlib.Core.Option.{Option, none, some}
+use mathlib.Core.Bool.{true, false}
+use mathlib.Core.List.{List, _∷_, _++_, append-assoc}
+use mathlib.Core.Option.{some}
 use mathlib.Core.Path.{_≡_, refl, sym, _∙_, ap}
 use mathlib.Core.Logic.{_↔_}
 use native.Mathlib.Omega.{arith}
@@ -12,7 +12,7 @@ use borrow.Author.Tests.{le-leb, leb-true, eqb-true, eq-eqb}
 use lib.Dec.{leb, eqb}
 use lib.ListN.{length, getD, drop, length-append}
 use lib.Seq.{drop-at}
-use Rattle.rules.specs.Refusals.{Said, says}
+use Rattle.rules.specs.Refusals.{says}
 use Rattle.rules.specs.Chars.{isValid}
 use Rattle.rules.specs.Fields.{latitudeAt, longitudeAt, latitudeText, longitudeText}
 use Rattle.rules.specs.Degrees.{isLatitude, isLongitude}

@@ -2,20 +2,20 @@
 use Prim.Native.Nat.{ℕ, _+_, _*_, _/_, _%_, _^_, _≤_, _<_}
 use Prim.Native.Char.{code}
 use mathlib.Core.Bool.{Bool, true, false, _||_}
-use mathlib.Core.List.{List, [], _∷_, _++_, append-assoc}
-use mathlib.Core.Option.{Option, none, some}
-use mathlib.Core.Path.{_≡_, refl, sym, _∙_, ap}
+use mathlib.Core.List.{List, _∷_, _++_, append-assoc}
+use mathlib.Core.Option.{none, some}
+use mathlib.Core.Path.{_≡_, refl}
 use native.Mathlib.Omega.{arith}
 use borrow.Author.Tests.{le-leb, leb-true, eqb-true}
 use lib.Dec.{leb, eqb}
-use lib.ListN.{length, getD, drop, length-append}
+use lib.ListN.{getD, drop, length-append}
 use Rattle.rules.specs.Choice.{on}
 use Rattle.rules.specs.Chars.{isValid}
 use Rattle.rules.specs.Numbers.{numberAt, digitsOf}
 use Rattle.rules.specs.Fields.{isEither, positionAt, positionText, latitudeAt, longitudeAt, latitudeText, longitudeText}
 use Rattle.rules.specs.Degrees.{isPosition, isLatitude, isLongitude}
 use Rattle.rules.specs.declared.Position.{Position}
-use Rattle.trips.proofs.Laws.{none-some, false-true, given-inv, need-inv, and-inv, past, byte-there, byte-here}
+use Rattle.trips.proofs.Laws.{none-some, given-inv, need-inv, and-inv, past, byte-there, byte-here}
 use Rattle.trips.proofs.Texts.{areValid, both-valid, valid-low}
 use Rattle.trips.proofs.Digits.{digits-length, digits-clean, number-there, number-here}
 use Rattle.trips.proofs.Trip.{Trip}

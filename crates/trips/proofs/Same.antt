@@ -1,6 +1,5 @@
 -- The tests of equal values: each holds of two values exactly when they are one. Assumes nothing.
-use Prim.Native.Nat.{ℕ}
-use mathlib.Core.Bool.{Bool, true, false, _&&_}
+use mathlib.Core.Bool.{Bool, true, _&&_}
 use mathlib.Core.Path.{_≡_, refl, sym, _∙_, ap}
 use mathlib.Core.Logic.{_↔_}
 use borrow.Author.Tests.{eqb-true, eq-eqb}
@@ -8,14 +7,9 @@ use lib.Dec.{eqb}
 use lib.IntN.{ℤ, pos, negsuc}
 use Rattle.rules.specs.Refusals.{Said, says, refuses}
 use Rattle.rules.specs.Writes.{sameInteger, samePosition, sameFix, sameDate, samePlanned, sameHead, samePoint, reads}
-use Rattle.rules.specs.declared.Position.{Position}
-use Rattle.rules.specs.declared.Fix.{Fix}
-use Rattle.rules.specs.declared.Date.{Date}
 use Rattle.rules.specs.declared.Planned.{Planned}
 use Rattle.rules.specs.declared.Planned.the-variants as planned
-use Rattle.rules.specs.declared.Head.{Head}
-use Rattle.rules.specs.declared.Point.{Point}
-use Rattle.trips.proofs.Laws.{false-true, refuses-says, and-inv}
+use Rattle.trips.proofs.Laws.{false-true, and-inv}
 
 -- `same` tells equality
 pub record Tells {A : Type 0} (same : A → A → Bool) : Type 0 where

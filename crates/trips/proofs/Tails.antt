@@ -1,15 +1,14 @@
 -- The columns of a B or a K line, over the first start: the line's checks of length, characters and columns are checks of its tail. Assumes nothing.
 use Prim.Native.Nat.{ℕ, suc, _+_, _-_, _≤_}
-use mathlib.Core.Bool.{Bool, true, false, not, cond, _&&_}
+use mathlib.Core.Bool.{Bool, true, false, not, _&&_}
 use mathlib.Core.List.{List, [], _∷_, _++_}
-use mathlib.Core.Option.{Option, none, some}
-use mathlib.Core.Path.{_≡_, refl, sym, _∙_, ap, ap₂}
+use mathlib.Core.Path.{_≡_, refl}
 use native.Mathlib.Omega.{arith}
 use borrow.Author.Tests.{leb-true, eqb-true, eq-eqb}
 use lib.Dec.{leb, eqb}
-use lib.ListN.{length, take, drop}
+use lib.ListN.{length}
 use lib.Seq.{drop-append-add}
-use Rattle.rules.specs.Choice.{given, need, firstOf, part, byte}
+use Rattle.rules.specs.Choice.{need, firstOf, part, byte}
 use Rattle.rules.specs.Refusals.{Said, says, refuses}
 use Rattle.rules.specs.Listed.{keepsRule}
 use Rattle.rules.specs.Layouts.{isSaid, withEntry, emptyLayout, entriesOf, isSpelt, placed, allPlaced, allowed, lineLength, badColumn, columns}

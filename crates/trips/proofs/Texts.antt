@@ -6,10 +6,10 @@ use mathlib.Core.Option.{Option, none, some}
 use mathlib.Core.Path.{_≡_, refl, sym, _∙_, ap}
 use native.Mathlib.Omega.{arith}
 use borrow.Author.Tests.{le-leb, leb-true, ne-eqb}
-use lib.Dec.{leb, eqb}
+use lib.Dec.{leb}
 use lib.ListN.{length, length-append}
-use Rattle.rules.specs.Choice.{given, need, firstOf}
-use Rattle.rules.specs.Refusals.{Said, says, refuses, no}
+use Rattle.rules.specs.Choice.{given, firstOf}
+use Rattle.rules.specs.Refusals.{says, refuses}
 use Rattle.rules.specs.Chars.{isValid, isDigit, firstInvalid, characters}
 use Rattle.rules.specs.Lines.{isSized, shaped}
 use Rattle.trips.specs.Limits.{isClean}

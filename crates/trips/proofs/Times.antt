@@ -1,18 +1,17 @@
 -- A time both ways: HHMMSS reads as a second of the day exactly where that second's text stands. Assumes nothing.
 use Prim.Native.Nat.{ℕ, _+_, _*_, _/_, _%_, _≤_}
-use mathlib.Core.Bool.{true}
 use mathlib.Core.List.{List, _++_}
-use mathlib.Core.Option.{Option, none, some}
-use mathlib.Core.Path.{_≡_, refl, sym, _∙_, ap}
+use mathlib.Core.Option.{none, some}
+use mathlib.Core.Path.{_≡_}
 use native.Mathlib.Omega.{arith}
 use borrow.Author.Tests.{le-leb, leb-true}
 use lib.Dec.{leb}
-use lib.ListN.{length, drop}
+use lib.ListN.{drop}
 use Rattle.rules.specs.Numbers.{numberAt}
 use Rattle.rules.specs.Fields.{timeAt, timeText}
 use Rattle.trips.specs.Limits.{isTime}
 use Rattle.trips.proofs.Laws.{none-some, given-inv, need-inv}
-use Rattle.trips.proofs.Digits.{pairs, pairs-length, pairs-clean, pairs-there, pairs-here}
+use Rattle.trips.proofs.Digits.{pairs-length, pairs-clean, pairs-there, pairs-here}
 use Rattle.trips.proofs.Trip.{Trip}
 
 -- what a time that was read says of the line
