@@ -75,7 +75,8 @@ dateLine l =
 unfoldable pub hLine : List ℕ → Said (Unit {0})
 hLine l =
     andThen (shaped 5 255 true l) λ _.
-    need (isEither (getD l (byte 2) 0) (code "F") (code "O")) (breaks other 2) λ _.
+    on (getD l (byte 2) 0) λ b.
+    need (isEither b (code "F") (code "O")) (breaks other 2) λ _.
     need (codesAt l (byte 3) 3) (breaks other 3) λ _.
     says tt
 
@@ -115,7 +116,8 @@ pointLine l =
 unfoldable pub dLine : List ℕ → Said (Unit {0})
 dLine l =
     andThen (shaped 6 6 false l) λ _.
-    need (isEither (getD l (byte 2) 0) (code "1") (code "2")) (breaks other 2) λ _.
+    on (getD l (byte 2) 0) λ b.
+    need (isEither b (code "1") (code "2")) (breaks other 2) λ _.
     need (codesAt l (byte 3) 4) (breaks other 3) λ _.
     says tt
 
