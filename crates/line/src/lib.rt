@@ -122,7 +122,16 @@ pub fn event(line: &[u8]) -> TimeRead
 fn is_date_mark(line: &[u8]) -> bool
     ensures { λ r. ⌜ r ≡ isDateMark (now (line .entry)) ⌝ }
 {
-    chars::byte(line, 1) == b'F' && chars::byte(line, 2) == b'D' && chars::byte(line, 3) == b'T' && chars::byte(line, 4) == b'E'
+    if chars::byte(line, 1) != b'F' {
+        return false;
+    }
+    if chars::byte(line, 2) != b'D' {
+        return false;
+    }
+    if chars::byte(line, 3) != b'T' {
+        return false;
+    }
+    chars::byte(line, 4) == b'E'
 }
 
 // Line 2, FDTE and its date. Refusals: LENGTH, CHARACTER, FORM at 2 or 6.
