@@ -1,0 +1,9 @@
+pub mod Laws
+pub mod Carried
+pub mod Valued
+pub mod Entries
+pub mod LayoutLines
+pub mod Leading
+pub mod Passing
+pub mod Sections
+pub mod Accepted
