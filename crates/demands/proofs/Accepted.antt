@@ -26,9 +26,10 @@ use Rattle.laws.proofs.Chains.{surely}
 use Rattle.laws.proofs.Counted.{isB, isK, OneMore, judge-counts}
 use Rattle.trips.proofs.Laws.{false-true}
 use Rattle.demands.specs.Grammar.{Each, IsText, OrderFrom, InOrder, IsALine, IsDateLine, AtMostOne, Parts, linesIn, Keeps, written, Meets, beginning, flightOf}
+use Rattle.demands.specs.Faults.{Passes, done, next}
 use Rattle.demands.proofs.Leading.{Letter, letter, Part, Leads, first, second, further, fixing, noting, flying, sealing, remarking, Sound, judge-leads, leads-judge}
 use Rattle.demands.proofs.Leading as part
-use Rattle.demands.proofs.Passing.{Passes, done, next, passes-join, lines-passed, Accepts, accepted-passes}
+use Rattle.demands.proofs.Passing.{passes-join, lines-passed, Accepts, accepted-passes}
 use Rattle.demands.proofs.Sections.{Fresh, passes-above, Section, split, above-end, section-passes, headers-there, headers-here, fixes-there, fixes-here, notes-there, notes-here, body-same, body-stage, body-there, body-here, seal-there, sealed, seal-here, remarks-there, remarked, remarks-here}
 
 -- ---- the counts

@@ -7,3 +7,5 @@ pub mod Leading
 pub mod Passing
 pub mod Sections
 pub mod Accepted
+pub mod Faulty
+pub mod Refusing
