@@ -53,12 +53,16 @@ three (a ∷ b ∷ c ∷ r) e =
     let z = and-inv (isCode c) true (y .1) in
     record { a = a; b = b; c = c; rest = r; is = refl; is-a = x .0; is-b = y .0; is-c = z .0 }
 
-unpacked : (a b c : ℕ) → a ≤ 90 → b ≤ 90 → c ≤ 90 → codeText (packed a b c) ≡ a ∷ b ∷ c ∷ []
-unpacked a b c p q r =
+pub unpacked : (a b c : ℕ) → b < 256 → c < 256 → codeText (packed a b c) ≡ a ∷ b ∷ c ∷ []
+unpacked a b c q r =
     let x : (a * 65536 + b * 256 + c) / 65536 ≡ a = omega arith in
     let y : (a * 65536 + b * 256 + c) / 256 % 256 ≡ b = omega arith in
     let z : (a * 65536 + b * 256 + c) % 256 ≡ c = omega arith in
     simp (x, y, z)
+
+-- and packed again
+pub packed-back : (x : ℕ) → packed (x / 65536) (x / 256 % 256) (x % 256) ≡ x
+packed-back x = omega arith
 
 pub code-there : (s : List ℕ) (at to x : ℕ) → at + 3 ≡ to → codeAt s at ≡ some x → (drop at s ≡ codeText x ++ drop to s) × (isCodeWord x ≡ true)
 unfolding codeAt codesAt isCodeWord
@@ -72,7 +76,7 @@ code-there s at to x t e =
     let c = byte-here s (at + 2) (w .c) _ d₂ in
     let d₃ = past s at 3 to (w .a ∷ w .b ∷ w .c ∷ []) (w .rest) refl t (w .is) in
     let i : packed (w .a) (w .b) (w .c) ≡ x = cc in
-    let u = unpacked (w .a) (w .b) (w .c) (code-range _ (w .is-a) .1) (code-range _ (w .is-b) .1) (code-range _ (w .is-c) .1) in
+    let u = unpacked (w .a) (w .b) (w .c) (omega (arith, code-range _ (w .is-b) .1)) (omega (arith, code-range _ (w .is-c) .1)) in
     let a₂ : x / 65536 ≡ w .a = ap (λ l. getD l 0 0) (sym (ap codeText i) ∙ u) in
     let b₂ : x / 256 % 256 ≡ w .b = ap (λ l. getD l 1 0) (sym (ap codeText i) ∙ u) in
     let c₂ : x % 256 ≡ w .c = ap (λ l. getD l 2 0) (sym (ap codeText i) ∙ u) in
@@ -86,8 +90,7 @@ code-here s at x r h e =
     let a = byte-here s at (x / 65536) _ e in
     let b = byte-here s (at + 1) (x / 256 % 256) _ (past s at 1 (at + 1) (x / 65536 ∷ []) _ refl refl e) in
     let c = byte-here s (at + 2) (x % 256) _ (past s at 2 (at + 2) (x / 65536 ∷ x / 256 % 256 ∷ []) _ refl refl e) in
-    let i : x / 65536 * 65536 + x / 256 % 256 * 256 + x % 256 ≡ x = omega arith in
-    simp (e, q .0, q .1, p .1, a, b, c, i)
+    simp (e, q .0, q .1, p .1, a, b, c, packed-back x)
 
 -- ---- one entry
 
@@ -218,7 +221,7 @@ entries-here (e ∷ es) l at start before r w h =
 abbrev pub laid : List Entry → Layout
 laid es = record { count = length es; entries = es ++ replicate (13 - length es) unused }
 
-with-laid : (es : List Entry) (e : Entry) → length es < 13 → withEntry (laid es) e ≡ laid (es ++ (e ∷ []))
+pub with-laid : (es : List Entry) (e : Entry) → length es < 13 → withEntry (laid es) e ≡ laid (es ++ (e ∷ []))
 with-laid es e h =
     let n : length es + 1 ≡ length (es ++ (e ∷ [])) = simp length-append in
     let k : 13 - length es ≡ suc (13 - length (es ++ (e ∷ []))) = omega arith in

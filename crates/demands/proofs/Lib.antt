@@ -9,3 +9,5 @@ pub mod Sections
 pub mod Accepted
 pub mod Faulty
 pub mod Refusing
+pub mod Columns
+pub mod Reading

@@ -1,3 +1,4 @@
 pub mod Grammar
 pub mod Checks
 pub mod Faults
+pub mod Readings
