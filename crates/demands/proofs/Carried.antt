@@ -1,5 +1,5 @@
--- Each kind of line whose text is carried, and the date line: it passes its checks exactly when it is what the grammar calls a line of that kind. Assumes nothing.
-use Prim.Native.Nat.{ℕ, _+_, _-_, _%_, _≤_}
+-- A, H, D, E, F, L, G and other lines, and the date line: each passes its checks exactly when it is what the grammar calls a line of that kind. Assumes nothing.
+use Prim.Native.Nat.{ℕ, _+_, _-_, _%_, _≤_, _<_}
 use Prim.Native.Char.{code}
 use mathlib.Core.Bool.{Bool, true, false, not, _&&_, cond}
 use mathlib.Core.List.{List, [], _∷_, _++_, append-nil}
@@ -13,11 +13,12 @@ use lib.Seq.{drop-length}
 use Rattle.rules.specs.Choice.{on}
 use Rattle.rules.specs.Refusals.{says}
 use Rattle.rules.specs.Chars.{isValid, isCode, codesAt}
-use Rattle.rules.specs.Fields.{timeAt, dateAt, dateText, isEither}
+use Rattle.rules.specs.Fields.{timeAt, timeText, dateAt, dateText, isEither}
 use Rattle.rules.specs.Lines.{shaped, aLine, isDateMark, dateLine, hLine, dLine, eLine, badPair, fLine, lLine, gLine, otherLine}
 use Rattle.rules.specs.declared.Date.{Date}
-use Rattle.trips.specs.Limits.{isDate}
-use Rattle.trips.proofs.Laws.{none-some, refuses-says, given-inv, need-inv, then-inv, and-inv, byte-there}
+use Rattle.trips.specs.Limits.{isTime, isDate}
+use Rattle.trips.proofs.Laws.{none-some, refuses-says, given-inv, need-inv, then-inv, and-inv, past, byte-there}
+use Rattle.trips.proofs.Times.{time-trip}
 use Rattle.trips.proofs.Dates.{date-trip}
 use Rattle.demands.specs.Grammar.{Each, Shaped, IsALine, IsDateLine, IsHLine, IsDLine, IsELine, IsFLine, IsLLine, IsGLine, IsOtherLine}
 use Rattle.demands.proofs.Laws.{given-none, each-map, are-valid, shape-there, shape-said}
@@ -118,6 +119,13 @@ d-said l w = simp (shape-said 6 6 false l (w .shape), w .qualifier, w .station)
 
 -- ---- E
 
+-- a line that begins with a letter and a time
+time-text : (l : List ℕ) (x t : ℕ) → 0 < x → getD l 0 0 ≡ x → timeAt l 1 ≡ some t → l ≡ x ∷ (timeText t ++ drop 7 l)
+time-text l x t p k e = byte-there l 0 1 x refl p k ∙ ap (λ y. x ∷ y) (time-trip .there l 1 7 t refl e)
+
+text-time : (l : List ℕ) (x t : ℕ) (rest : List ℕ) → isTime t ≡ true → l ≡ x ∷ (timeText t ++ rest) → timeAt l 1 ≡ some t
+text-time l x t rest g e = time-trip .here l 1 t rest g (ap (drop 1) e)
+
 pub e-there : (l : List ℕ) (t : ℕ) → getD l 0 0 ≡ code "E" → eLine l ≡ says t → IsELine t l
 unfolding eLine
 e-there l t k e =
@@ -125,11 +133,20 @@ e-there l t k e =
     let a = given-inv (timeAt l 1) _ (says t) _ refuses-says (s .2) in
     let n = need-inv (codesAt l 7 3) _ (says t) _ refuses-says (a .2) in
     let i : a .0 ≡ t = cc in
-    record { letter = k; shape = shape-there 10 255 false l tt (s .1); time = a .1 ∙ ap some i; event = n .0 }
+    let h : timeAt l 1 ≡ some t = a .1 ∙ ap some i in
+    record {
+      rest = drop 7 l;
+      text = time-text l 69 t (omega arith) k h;
+      good = time-trip .limits l 1 t h;
+      shape = shape-there 10 255 false l tt (s .1);
+      event = n .0;
+    }
 
-pub e-said : (l : List ℕ) (t : ℕ) → IsELine t l → eLine l ≡ says t
+pub e-said : (l : List ℕ) (t : ℕ) → IsELine t l → (getD l 0 0 ≡ code "E") × (eLine l ≡ says t)
 unfolding eLine
-e-said l t w = simp (shape-said 10 255 false l (w .shape), w .time, w .event)
+e-said l t w =
+    let h = text-time l 69 t (w .rest) (w .good) (w .text) in
+    (ap (λ x. getD x 0 0) (w .text), simp (shape-said 10 255 false l (w .shape), h, w .event))
 
 -- ---- F
 
@@ -160,18 +177,25 @@ f-there l t k e =
     let n = need-inv (eqb ((length l - 7) % 2) 0) _ (says t) _ refuses-says (a .2) in
     let p = given-none (badPair 7 (drop 7 l)) (says (a .0)) (says t) _ (λ v. refuses-says) (n .1) in
     let i : a .0 ≡ t = cc in
-    let even : (length l - 7) % 2 ≡ 0 = eqb-true _ _ (n .0) in
+    let h : timeAt l 1 ≡ some t = a .1 ∙ ap some i in
+    let even : length (drop 7 l) % 2 ≡ 0 = ap (λ x. x % 2) (length-drop 7 l) ∙ eqb-true _ _ (n .0) in
     record {
-      letter = k;
+      pairs = drop 7 l;
+      text = time-text l 70 t (omega arith) k h;
+      good = time-trip .limits l 1 t h;
       shape = shape-there 7 255 false l tt (s .1);
-      time = a .1 ∙ ap some i;
-      pairs = even;
-      codes = pairs-there (drop 7 l) 7 (ap (λ x. x % 2) (length-drop 7 l) ∙ even) (p .0);
+      even = even;
+      codes = pairs-there (drop 7 l) 7 even (p .0);
     }
 
-pub f-said : (l : List ℕ) (t : ℕ) → IsFLine t l → fLine l ≡ says t
+pub f-said : (l : List ℕ) (t : ℕ) → IsFLine t l → (getD l 0 0 ≡ code "F") × (fLine l ≡ says t)
 unfolding fLine
-f-said l t w = simp (shape-said 7 255 false l (w .shape), w .time, eq-eqb _ _ (w .pairs), pairs-here (drop 7 l) 7 (w .codes))
+f-said l t w =
+    let h = text-time l 70 t (w .pairs) (w .good) (w .text) in
+    let d : drop 7 l ≡ w .pairs = past l 1 6 7 (timeText t) (w .pairs) (time-trip .long t) refl (ap (drop 1) (w .text)) in
+    let n : (length l - 7) % 2 ≡ 0 = ap (λ x. x % 2) (sym (length-drop 7 l) ∙ ap length d) ∙ w .even in
+    let p : badPair 7 (drop 7 l) ≡ none = ap (badPair 7) d ∙ pairs-here (w .pairs) 7 (w .codes) in
+    (ap (λ x. getD x 0 0) (w .text), simp (shape-said 7 255 false l (w .shape), h, eq-eqb _ _ n, p))
 
 -- ---- L, G and other
 

@@ -16,7 +16,7 @@ use Rattle.rules.specs.Choice.{given, need, on, firstOf, part}
 use Rattle.rules.specs.Refusals.{says, refuses, number}
 use Rattle.rules.specs.Numbers.{numberAt, digitsOf, wholeOf}
 use Rattle.rules.specs.Listed.{packedOf, codeText}
-use Rattle.rules.specs.Layouts.{unused, emptyLayout, withEntry, entriesOf, Span, spanOf, look, carries, firstStart, allowed, lineLength, columnText}
+use Rattle.rules.specs.Layouts.{unused, emptyLayout, withEntry, entriesOf, Span, spanOf, look, firstStart, allowed, lineLength, columnText}
 use Rattle.rules.specs.Reads.{lineSaid, columnSaid, columnRest, numberSaid}
 use Rattle.rules.specs.declared.Signed.{Signed}
 use Rattle.rules.specs.declared.Entry.{Entry}
@@ -25,10 +25,10 @@ use Rattle.rules.specs.declared.Family.{Family}
 use Rattle.rules.specs.declared.Family.the-variants as family
 use Rattle.trips.proofs.Laws.{none-some, given-inv, need-inv, byte-there}
 use Rattle.trips.proofs.Digits.{digits-length, digits-front, number-there, number-here}
-use Rattle.demands.specs.Grammar.{Each}
+use Rattle.demands.specs.Grammar.{Each, laid}
 use Rattle.demands.specs.Readings.{Spells, plain, minus, NumberOf, ColumnRead, columnTexts, IsName, ColumnsRead}
-use Rattle.demands.proofs.Laws.{each-map, nothing-found, none-found}
-use Rattle.demands.proofs.Entries.{unpacked, packed-back, Fits, Tiled, laid, with-laid, entries-laid, allowed-there}
+use Rattle.demands.proofs.Laws.{each-map, none-found}
+use Rattle.demands.proofs.Entries.{unpacked, packed-back, Fits, Tiled, with-laid, Coded, carries-none, allowed-there}
 
 -- ---- the number that a text spells
 
@@ -87,9 +87,6 @@ number-of t none e = (refl, λ z s. none-some (sym e ∙ whole-here t s))
 
 -- ---- looking for a code
 
-abbrev Coded : ℕ → Entry → Bool
-Coded x e = eqb (e .code) x
-
 -- past entries of other codes
 past-others : (x : ℕ) (pre es : List Entry) (n : ℕ) → Each (λ e. Coded x e ≡ false) pre
     → firstOf (Coded x) (λ k e. spanOf e) (pre ++ es) n ≡ firstOf (Coded x) (λ k e. spanOf e) es (length pre + n)
@@ -97,16 +94,6 @@ unfolding firstOf
 past-others x [] es n h = ap (λ i. firstOf (Coded x) (λ k e. spanOf e) es i) (omega arith)
 past-others x (e ∷ pre) es n h =
     rw (h .0) (past-others x pre es (suc n) (h .1) ∙ ap (λ i. firstOf (Coded x) (λ k e. spanOf e) es i) (omega arith))
-
--- a code that the entries do not carry is none of theirs
-carries-none : (pre : List Entry) (x : ℕ) → carries (laid pre) x ≡ false → Each (λ e. Coded x e ≡ false) pre
-unfolding carries look
-carries-none pre x h =
-    nothing-found (Coded x) (λ k e. spanOf e) pre 0 (ap (λ es. firstOf (Coded x) (λ k e. spanOf e) es 0) (sym (entries-laid pre)) ∙ none-there (firstOf (Coded x) (λ k e. spanOf e) (entriesOf (laid pre)) 0) h)
-  where
-    none-there : (o : Option Span) → given o false (λ s. true) ≡ false → o ≡ none
-    none-there none e = refl
-    none-there (some s) e = let z : _≡_ {A = ℕ} 0 1 = cc in absurd (omega arith)
 
 -- each entry is the first of its code
 looked : (start : ℕ) (pre es : List Entry) → length pre + length es ≤ 13 → Tiled es start (laid pre)
@@ -116,7 +103,7 @@ looked start pre [] n w = tt
 looked start pre (e ∷ es) n w =
     let f : Fits start (laid pre) e = w .1 in
     let r = looked (e .last + 1) (pre ++ (e ∷ [])) es (omega (arith, length-append pre (e ∷ []))) (subst (Tiled es (e .last + 1)) (with-laid pre e (omega arith)) (w .2)) in (
-      past-others (e .code) pre (e ∷ es) 0 (carries-none pre (e .code) (f .once)) ∙ rw (eq-eqb (e .code) (e .code) refl),
+      past-others (e .code) pre (e ∷ es) 0 (each-map pre (λ x. ne-eqb (x .code) (e .code)) (carries-none pre (e .code) (f .once))) ∙ rw (eq-eqb (e .code) (e .code) refl),
       each-map es (λ x h. subst (λ l. firstOf (Coded (x .code)) (λ k e. spanOf e) l 0 ≡ some (spanOf x)) (append-assoc pre (e ∷ []) es) h) r,
     )
 

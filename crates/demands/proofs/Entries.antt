@@ -2,25 +2,27 @@
 use Prim.Native.Nat.{ℕ, zero, suc, _+_, _-_, _*_, _/_, _%_, _≤_, _<_}
 use mathlib.Core.Bool.{Bool, true, false, not, _&&_, _||_}
 use mathlib.Core.List.{List, [], _∷_, _++_, append-assoc, append-nil}
-use mathlib.Core.Option.{none, some}
-use mathlib.Core.Path.{_≡_, refl, sym, _∙_, ap}
+use mathlib.Core.Option.{Option, none, some}
+use mathlib.Core.Path.{_≡_, refl, sym, _∙_, ap, subst}
 use native.Mathlib.Omega.{arith}
-use borrow.Author.Tests.{le-leb, leb-true, eqb-true, eq-eqb, not-true}
+use borrow.Author.Tests.{le-leb, leb-true, eqb-true, eqb-false, eq-eqb, ne-eqb, not-true}
 use lib.Dec.{eqb, leb}
 use lib.ListN.{length, getD, drop, set, replicate, length-append, length-drop, take-append-drop}
 use lib.Seq.{take-append-seam, drop-append-seam, set-append-seam, append-snoc, length-take-le}
-use Rattle.rules.specs.Choice.{leads}
+use Rattle.rules.specs.Choice.{given, leads, firstOf}
 use Rattle.rules.specs.Refusals.{Said, says, refuses}
 use Rattle.rules.specs.Chars.{isDigit, isCode, codesAt}
 use Rattle.rules.specs.Numbers.{numberAt, digitsOf}
 use Rattle.rules.specs.Listed.{packed, codeText, codeAt, isCodeWord, widthFits}
-use Rattle.rules.specs.Layouts.{unused, emptyLayout, withEntry, entriesOf, carries, placed, entryAt, entriesFrom, isSaid, isSpelt, allPlaced, isUnused, allowed}
+use Rattle.rules.specs.Layouts.{unused, emptyLayout, withEntry, entriesOf, Span, spanOf, look, carries, placed, entryAt, entriesFrom, isSaid, isSpelt, allPlaced, isUnused, allowed}
 use Rattle.rules.specs.Writes.{entryText, entryTexts}
 use Rattle.rules.specs.declared.Entry.{Entry}
 use Rattle.rules.specs.declared.Layout.{Layout}
 use Rattle.trips.proofs.Laws.{none-some, refuses-says, false-true, given-inv, need-inv, then-inv, and-inv, past, byte-here}
 use Rattle.trips.proofs.Texts.{digit-range}
 use Rattle.trips.proofs.Digits.{digits-length, number-there, number-here}
+use Rattle.demands.specs.Grammar.{Each, IsEntry, Tiles, laid}
+use Rattle.demands.proofs.Laws.{each-map, each-join, each-cut, each-both, nothing-found, none-found}
 
 -- ---- three code characters
 
@@ -218,9 +220,6 @@ entries-here (e ∷ es) l at start before r w h =
 
 -- ---- a layout is its entries, and nothing behind them
 
-abbrev pub laid : List Entry → Layout
-laid es = record { count = length es; entries = es ++ replicate (13 - length es) unused }
-
 pub with-laid : (es : List Entry) (e : Entry) → length es < 13 → withEntry (laid es) e ≡ laid (es ++ (e ∷ []))
 with-laid es e h =
     let n : length es + 1 ≡ length (es ++ (e ∷ [])) = simp length-append in
@@ -268,6 +267,70 @@ unfolding allowed
 laid-allowed start es n w =
     let d : drop (length es) (es ++ replicate (13 - length es) unused) ≡ replicate (13 - length es) unused = drop-append-seam es _ in
     rw (le-leb (length es) 13 n, entries-laid es, tiled-said es start emptyLayout w, d) (all-unused (13 - length es))
+
+-- ---- entries of different codes
+
+abbrev pub Coded : ℕ → Entry → Bool
+Coded x e = eqb (e .code) x
+
+-- a code is carried by none of the entries exactly where it is none of theirs
+pub carries-none : (es : List Entry) (x : ℕ) → carries (laid es) x ≡ false → Each (λ e. e .code ≡ x → ⊥) es
+unfolding carries look
+carries-none es x h =
+    each-map es (λ e. eqb-false (e .code) x) (nothing-found (Coded x) (λ k e. spanOf e) es 0
+    (ap (λ y. firstOf (Coded x) (λ k e. spanOf e) y 0) (sym (entries-laid es)) ∙ none-there (firstOf (Coded x) (λ k e. spanOf e) (entriesOf (laid es)) 0) h))
+  where
+    none-there : (o : Option Span) → given o false (λ s. true) ≡ false → o ≡ none
+    none-there none e = refl
+    none-there (some s) e = let z : _≡_ {A = ℕ} 0 1 = cc in absurd (omega arith)
+
+none-carries : (es : List Entry) (x : ℕ) → Each (λ e. e .code ≡ x → ⊥) es → carries (laid es) x ≡ false
+unfolding carries look
+none-carries es x h =
+    let n = none-found (Coded x) (λ k e. spanOf e) es 0 (each-map es (λ e. ne-eqb (e .code) x) h) in
+    ap (λ o. given o false (λ s. true)) (ap (λ y. firstOf (Coded x) (λ k e. spanOf e) y 0) (entries-laid es) ∙ n)
+
+-- entries behind others: they tile, and none has a code of those
+tiles-there : (es : List Entry) (start : ℕ) (pre : List Entry) → length pre + length es ≤ 13 → Tiled es start (laid pre)
+    → Tiles start es × Each (λ e. Each (λ a. a .code ≡ e .code → ⊥) pre) es
+unfolding isSpelt
+tiles-there [] start pre n w = (tt, tt)
+tiles-there (e ∷ es) start pre n w =
+    let f : Fits start (laid pre) e = w .1 in
+    let s = and-inv (leb (e .last) 99) (isCodeWord (e .code)) (w .0) in
+    let r = tiles-there es (e .last + 1) (pre ++ (e ∷ [])) (omega (arith, length-append pre (e ∷ []))) (subst (Tiled es (e .last + 1)) (with-laid pre e (omega arith)) (w .2)) in
+    let c = each-map es (λ x. each-cut (λ a. a .code ≡ x .code → ⊥) pre (e ∷ [])) (r .1) in (
+      (
+        record { starts = f .starts; ends = f .ends; spelt = leb-true _ _ (s .0); word = s .1; wide = f .wide },
+        each-map es (λ x h i. h .1 .0 (sym i)) c,
+        r .0,
+      ),
+      (carries-none pre (e .code) (f .once), each-map es (λ x h. h .0) c),
+    )
+
+tiles-here : (es : List Entry) (start : ℕ) (pre : List Entry) → length pre + length es ≤ 13 → Tiles start es → Each (λ e. Each (λ a. a .code ≡ e .code → ⊥) pre) es
+    → Tiled es start (laid pre)
+unfolding isSpelt
+tiles-here [] start pre n w c = tt
+tiles-here (e ∷ es) start pre n w c =
+    let f : IsEntry start e = w .0 in
+    let d = each-both es (λ x. Each (λ a. a .code ≡ x .code → ⊥) pre) (λ x. x .code ≡ e .code → ⊥) (c .1) (w .1) in
+    let r = tiles-here es (e .last + 1) (pre ++ (e ∷ [])) (omega (arith, length-append pre (e ∷ []))) (w .2)
+    (each-map es (λ x h. each-join (λ a. a .code ≡ x .code → ⊥) pre (e ∷ []) (h .0) ((λ i. h .1 (sym i)), tt)) d) in (
+      rw (le-leb _ _ (f .spelt), f .word),
+      record { starts = f .starts; ends = f .ends; once = none-carries pre (e .code) (c .0); wide = f .wide },
+      subst (Tiled es (e .last + 1)) (sym (with-laid pre e (omega arith))) r,
+    )
+
+all-alone : (es : List Entry) → Each (λ e. Each (λ (a : Entry). a .code ≡ e .code → ⊥) []) es
+all-alone [] = tt
+all-alone (e ∷ es) = (tt, all-alone es)
+
+pub tiled-tiles : (es : List Entry) (start : ℕ) → length es ≤ 13 → Tiled es start emptyLayout → Tiles start es
+tiled-tiles es start n w = tiles-there es start [] (omega arith) w .0
+
+pub tiles-tiled : (es : List Entry) (start : ℕ) → length es ≤ 13 → Tiles start es → Tiled es start emptyLayout
+tiles-tiled es start n w = tiles-here es start [] (omega arith) w (all-alone es)
 
 -- an allowed layout of 13 slots
 pub record Allowed (start : ℕ) (layout : Layout) : Type 0 where

@@ -39,6 +39,10 @@ pub each-cut : {A : Type 0} (P : A → Type 0) (l r : List A) → Each P (l ++ r
 each-cut P [] r h = (tt, h)
 each-cut P (a ∷ l) r h = let g = each-cut P l r (h .1) in ((h .0, g .0), g .1)
 
+pub each-both : {A : Type 0} (l : List A) (P Q : A → Type 0) → Each P l → Each Q l → Each (λ a. P a × Q a) l
+each-both [] P Q h g = tt
+each-both (a ∷ l) P Q h g = ((h .0, g .0), each-both l P Q (h .1) (g .1))
+
 -- ---- nothing was found exactly where each element fails the test
 
 module _ {A B : Type 0} (test : A → Bool) (found : ℕ → A → B) where

@@ -1,9 +1,11 @@
--- I and J lines both ways: such a line reads as a layout exactly when it is that layout's own line, and the layout is allowed and has 13 slots. Assumes nothing.
+-- I and J lines both ways: such a line reads as a layout exactly when it is the text of entries that tile, and the layout is theirs; and so exactly when the
+-- layout is allowed and has 13 slots. Assumes nothing.
 use Prim.Native.Nat.{ℕ, zero, suc, _+_, _*_, _/_, _%_, _≤_}
 use Prim.Native.Char.{code}
 use mathlib.Core.Bool.{true, false, _&&_}
 use mathlib.Core.List.{List, [], _∷_, _++_, append-nil}
 use mathlib.Core.Path.{_≡_, refl, sym, _∙_, ap}
+use mathlib.Core.Logic.{_↔_}
 use native.Mathlib.Omega.{arith}
 use borrow.Author.Tests.{le-leb, eqb-true, eq-eqb, ne-eqb}
 use lib.Dec.{eqb, leb}
@@ -15,7 +17,7 @@ use Rattle.rules.specs.Numbers.{numberAt, digitsOf}
 use Rattle.rules.specs.Listed.{codeText, isCodeWord}
 use Rattle.rules.specs.Layouts.{firstStart, emptyLayout, entriesOf, layoutFields, isSpelt, allowed}
 use Rattle.rules.specs.Lines.{shaped, layoutLine}
-use Rattle.rules.specs.Reads.{layoutLetter}
+use Rattle.rules.specs.Reads.{layoutLetter, layoutSaid}
 use Rattle.rules.specs.Writes.{entryText, entryTexts, layoutText}
 use Rattle.rules.specs.declared.Entry.{Entry}
 use Rattle.rules.specs.declared.Layout.{Layout}
@@ -24,9 +26,9 @@ use Rattle.rules.specs.declared.Family.the-variants as family
 use Rattle.trips.proofs.Laws.{refuses-says, given-inv, need-inv, then-inv, and-inv, past, byte-there}
 use Rattle.trips.proofs.Texts.{areValid, both-valid, shaped-here}
 use Rattle.trips.proofs.Digits.{digits-length, digits-clean, number-there, number-here}
-use Rattle.demands.specs.Grammar.{IsLayoutLine}
+use Rattle.demands.specs.Grammar.{laid, IsLayoutLine}
 use Rattle.demands.proofs.Laws.{shape-there}
-use Rattle.demands.proofs.Entries.{code-range, entry-length, Tiled, entries-there, entries-here, laid, all-laid, entries-laid, laid-allowed, allowed-there}
+use Rattle.demands.proofs.Entries.{code-range, entry-length, Tiled, entries-there, entries-here, all-laid, entries-laid, laid-allowed, allowed-there, tiled-tiles, tiles-tiled}
 
 letter-is : (f : Family) → (1 ≤ layoutLetter f) × (isValid false (layoutLetter f) ≡ true)
 unfolding isValid
@@ -43,7 +45,7 @@ slots-laid es h = simp (length-append, length-replicate) (omega arith)
 -- ---- a line that reads as a layout
 
 pub layout-there : (f : Family) (layout : Layout) (l : List ℕ) → getD l 0 0 ≡ layoutLetter f → layoutLine (firstStart f) l ≡ says layout → IsLayoutLine f layout l
-unfolding layoutLine layoutFields layoutText
+unfolding layoutLine layoutFields
 layout-there f layout l k h =
     let s = then-inv (shaped 3 99 false l) layout _ h in
     let w = shape-there 3 99 false l tt (s .1) in
@@ -59,15 +61,10 @@ layout-there f layout l k h =
     byte-there l 0 1 (layoutLetter f) refl (letter-is f .0) k
     ∙ ap (λ x. layoutLetter f ∷ x) (number-there l 1 2 3 nn refl (n .1) .0
     ∙ ap (λ x. digitsOf 2 nn ++ x) (r .text ∙ ap (λ x. entryTexts es ++ x) (drop-length l))) in
-    let text : l ≡ layoutText f (laid es) =
+    let text : l ≡ layoutLetter f ∷ (digitsOf 2 (length es) ++ entryTexts es) =
     front ∙ ap (λ x. layoutLetter f ∷ (digitsOf 2 nn ++ x)) (append-nil (entryTexts es))
-    ∙ ap (λ x. layoutLetter f ∷ (digitsOf 2 x ++ entryTexts es)) (sym (r .count))
-    ∙ ap (λ x. layoutLetter f ∷ (digitsOf 2 (length es) ++ entryTexts x)) (sym (entries-laid es)) in
-    record {
-      text = text ∙ ap (layoutText f) is;
-      good = ap (allowed (firstStart f)) (sym is) ∙ laid-allowed (firstStart f) es (omega (arith, r .count)) (r .tiled);
-      slots = ap (λ x. length (x .entries)) (sym is) ∙ slots-laid es (omega (arith, r .count));
-    }
+    ∙ ap (λ x. layoutLetter f ∷ (digitsOf 2 x ++ entryTexts es)) (sym (r .count)) in
+    record { entries = es; tiles = tiled-tiles es (firstStart f) (omega (arith, r .count)) (r .tiled); text = text; short = w .short; slots = sym is }
 
 -- ---- and a layout's own line
 
@@ -98,6 +95,10 @@ module _ (f : Family) (es : List Entry) (few : length es ≤ 13) (tiled : Tiled 
   own : List ℕ
   own = layoutLetter f ∷ (digitsOf 2 (length es) ++ entryTexts es)
 
+  own-is : layoutLetter f ∷ (digitsOf 2 (length es) ++ entryTexts es) ≡ own
+  unfolding own
+  own-is = refl
+
   own-length : length own ≡ 3 + 7 * length es
   unfolding own
   own-length = simp (length-append, digits-length, entries-length) (omega arith)
@@ -116,13 +117,75 @@ module _ (f : Family) (es : List Entry) (few : length es ≤ 13) (tiled : Tiled 
       let r = entries-here es own 3 (firstStart f) emptyLayout [] tiled (d ∙ sym (append-nil (entryTexts es))) in
       rw (s, c, eq-eqb (length own) (3 + 7 * length es) n, r) (ap says (all-laid [] es (omega arith)))
 
+-- 99 bytes hold 13 entries
+few-entries : (f : Family) (layout : Layout) (l : List ℕ) (w : IsLayoutLine f layout l) → length (w .entries) ≤ 13
+few-entries f layout l w =
+    let n : length l ≡ suc (length (digitsOf 2 (length (w .entries)) ++ entryTexts (w .entries))) = ap length (w .text) in
+    omega (arith, w .short, simp (length-append, digits-length, entries-length) at n)
+
 pub layout-said : (f : Family) (layout : Layout) (l : List ℕ) → IsLayoutLine f layout l → (getD l 0 0 ≡ layoutLetter f) × (layoutLine (firstStart f) l ≡ says layout)
-unfolding layoutText own
+unfolding own
 layout-said f layout l w =
-    let a = allowed-there (firstStart f) layout (w .good) (w .slots) in
-    let x = a .0 in
-    let es = entriesOf layout in
-    let t : l ≡ own f es (omega (arith, x .count, x .few)) (x .tiled) = w .text ∙ ap (λ n. layoutLetter f ∷ (digitsOf 2 n ++ entryTexts es)) (sym (x .count)) in (
+    let n = few-entries f layout l w in
+    let t = tiles-tiled (w .entries) (firstStart f) n (w .tiles) in (
       ap (λ y. getD y 0 0) (w .text),
-      ap (layoutLine (firstStart f)) t ∙ own-reads f es (omega (arith, x .count, x .few)) (x .tiled) ∙ ap says (sym (a .1)),
+      ap (layoutLine (firstStart f)) (w .text) ∙ own-reads f (w .entries) n t ∙ ap says (sym (w .slots)),
     )
+
+-- ---- such a layout is allowed, and has 13 slots
+
+pub layout-allowed : (f : Family) (layout : Layout) (l : List ℕ) → IsLayoutLine f layout l → (allowed (firstStart f) layout ≡ true) × (length (layout .entries) ≡ 13)
+layout-allowed f layout l w =
+    let n = few-entries f layout l w in (
+      ap (allowed (firstStart f)) (w .slots) ∙ laid-allowed (firstStart f) (w .entries) n (tiles-tiled (w .entries) (firstStart f) n (w .tiles)),
+      ap (λ x. length (x .entries)) (w .slots) ∙ slots-laid (w .entries) n,
+    )
+
+-- ---- the theorems
+
+module _ (f : Family) (layout : Layout) where
+  reads-line : (l : List ℕ) → layoutSaid f l ≡ says layout → IsLayoutLine f layout l
+  unfolding layoutSaid
+  reads-line l e =
+      let k = need-inv (eqb (getD l 0 0) (layoutLetter f)) _ (says layout) _ refuses-says e in
+      layout-there f layout l (eqb-true _ _ (k .0)) (k .1)
+
+  line-reads : (l : List ℕ) → IsLayoutLine f layout l → layoutSaid f l ≡ says layout
+  unfolding layoutSaid
+  line-reads l w = let s = layout-said f layout l w in rw (eq-eqb _ _ (s .0)) (s .1)
+
+  own-line : allowed (firstStart f) layout ≡ true → length (layout .entries) ≡ 13 → IsLayoutLine f layout (layoutText f layout)
+  unfolding layoutText
+  own-line g n =
+      let a = allowed-there (firstStart f) layout g n in
+      let x = a .0 in
+      let k : length (entriesOf layout) ≤ 13 = omega (arith, x .count, x .few) in
+      let t : layoutText f layout ≡ own f (entriesOf layout) k (x .tiled) =
+      ap (λ i. layoutLetter f ∷ (digitsOf 2 i ++ entryTexts (entriesOf layout))) (sym (x .count)) ∙ own-is f (entriesOf layout) k (x .tiled) in
+      record {
+        entries = entriesOf layout;
+        tiles = tiled-tiles (entriesOf layout) (firstStart f) k (x .tiled);
+        text = t ∙ sym (own-is f (entriesOf layout) k (x .tiled));
+        short = omega (arith, ap length t, own-length f (entriesOf layout) k (x .tiled));
+        slots = a .1;
+      }
+
+  -- read, then written: a line that reads as a layout is that layout's text
+  pub layout-read-written : (l : List ℕ) → layoutSaid f l ≡ says layout → l ≡ layoutText f layout
+  unfolding layoutText
+  layout-read-written l e =
+      let w = reads-line l e in
+      w .text
+      ∙ ap (λ x. layoutLetter f ∷ (digitsOf 2 (length (w .entries)) ++ entryTexts x)) (sym (entries-laid (w .entries)))
+      ∙ ap (λ x. layoutLetter f ∷ (digitsOf 2 (x .count) ++ entryTexts (entriesOf x))) (sym (w .slots))
+
+  -- written, then read
+  pub layout-written-read : allowed (firstStart f) layout ≡ true → length (layout .entries) ≡ 13 → layoutSaid f (layoutText f layout) ≡ says layout
+  layout-written-read g n = line-reads (layoutText f layout) (own-line g n)
+
+  -- allowed, of 13 slots, exactly when some line reads as it
+  pub layout-exactly : ((allowed (firstStart f) layout ≡ true) × (length (layout .entries) ≡ 13)) ↔ ((l : List ℕ) × (layoutSaid f l ≡ says layout))
+  layout-exactly = (
+    λ g. (layoutText f layout, layout-written-read (g .0) (g .1)),
+    λ t. layout-allowed f layout (t .0) (reads-line (t .0) (t .1)),
+  )

@@ -27,7 +27,7 @@ use Rattle.trips.proofs.Laws.{none-some, refuses-says, false-true, given-inv, n
 use Rattle.demands.specs.Grammar.{Follows, IsALine, IsDateLine, IsHLine, IsLayoutLine, IsHeadLine, IsPointLine, IsELine, IsFLine, IsBLine, IsKLine, IsLLine, IsGLine, Untimed, differential, remark, other}
 use Rattle.demands.proofs.Carried.{a-there, a-said, date-there, date-said, h-there, h-said, d-there, d-said, e-there, e-said, f-there, f-said, l-there, l-said, g-there, g-said, other-there, other-said}
 use Rattle.demands.proofs.Valued.{b-there, b-said, k-there, k-said, head-there, head-said, point-there, point-said}
-use Rattle.demands.proofs.LayoutLines.{layout-there, layout-said}
+use Rattle.demands.proofs.LayoutLines.{layout-there, layout-said, layout-allowed}
 
 -- ---- what is claimed
 
@@ -349,9 +349,11 @@ body-judge l st p q (note n z t w) =
     let s = k-said (st .flight .notes) n l w in
     letter-said l st _ 75 kind.K 5 (omega arith) refl refl (s .0) (fits-plain st z) (lead 2 5 5 (st .stage) p q) (rw (s .1) (timed-said n (counted 0 1 (moved 5 st)) t))
 body-judge l st p q (event n z t (inl w)) =
-    letter-said l st _ 69 kind.E 5 (omega arith) refl refl (w .letter) (fits-plain st z) (lead 2 5 5 (st .stage) p q) (rw (e-said l n w) (timed-said n (moved 5 st) t))
+    let s = e-said l n w in
+    letter-said l st _ 69 kind.E 5 (omega arith) refl refl (s .0) (fits-plain st z) (lead 2 5 5 (st .stage) p q) (rw (s .1) (timed-said n (moved 5 st) t))
 body-judge l st p q (event n z t (inr w)) =
-    letter-said l st _ 70 kind.F 5 (omega arith) refl refl (w .letter) (fits-plain st z) (lead 2 5 5 (st .stage) p q) (rw (f-said l n w) (timed-said n (moved 5 st) t))
+    let s = f-said l n w in
+    letter-said l st _ 70 kind.F 5 (omega arith) refl refl (s .0) (fits-plain st z) (lead 2 5 5 (st .stage) p q) (rw (s .1) (timed-said n (moved 5 st) t))
 body-judge l st p q (quiet z (differential w)) =
     letter-said l st _ 68 kind.D 5 (omega arith) refl refl (w .letter) (fits-plain st z) (lead 2 5 5 (st .stage) p q) (rw (d-said l w))
 body-judge l st p q (quiet z (remark w)) =
@@ -393,8 +395,8 @@ pub stays-sound : (l : List ℕ) (st : State) {p : Part} {m : State} → Leads s
 stays-sound l st (first z p w) g = g
 stays-sound l st (second d a b p n w) g = g
 stays-sound l st (further a b p n w) g = g
-stays-sound l st (fixing i a p w) g = (w .good, g .1)
-stays-sound l st (noting j a b p w) g = (g .0, w .good)
+stays-sound l st (fixing i a p w) g = (layout-allowed family.B i l w .0, g .1)
+stays-sound l st (noting j a b p w) g = (g .0, layout-allowed family.K j l w .0)
 stays-sound l st (flying a b w) g = body-sound l st w g
 stays-sound l st (sealing a b p w) g = g
 stays-sound l st (remarking a b p w) g = g

@@ -28,8 +28,9 @@ use Rattle.demands.specs.Grammar.{Each, IsLayoutLine, IsBLine, IsKLine, 
 use Rattle.demands.specs.Grammar as grammar
 use Rattle.demands.specs.Readings.{FixRead, NoteRead, LineReads, NoC, Declaration, nowhere, declared, Readable}
 use Rattle.demands.proofs.Laws.{each-map, each-join, shape-there}
+use Rattle.demands.proofs.Carried.{e-said, f-said}
 use Rattle.demands.proofs.Valued.{fix-reads, note-reads, head-reads, point-reads, b-said, k-said, head-said, point-said}
-use Rattle.demands.proofs.LayoutLines.{layout-said}
+use Rattle.demands.proofs.LayoutLines.{layout-said, layout-allowed}
 use Rattle.demands.proofs.Passing.{before, lines-written}
 use Rattle.demands.proofs.Accepted.{accepted-as}
 use Rattle.demands.proofs.Columns.{columns-read}
@@ -50,7 +51,7 @@ lines-are file m =
 
 told : (f : Family) {layout : Layout} {ls : List (List ℕ)} → AtMostOne f layout ls → length (layout .entries) ≡ 13
 told f absent = refl
-told f (given w) = w .slots
+told f (given {layout = i} {l = l} w) = layout-allowed f i l w .1
 
 -- ---- B and K lines
 
@@ -116,8 +117,8 @@ module _ (fixes notes : Layout) (fix-slots : length (fixes .entries) ≡ 13) (no
   timed-item l (grammar.fix f i w) =
       let k = b-said fixes f l w .0 in
       (record { b = λ z. reads-fix fixes fix-slots l f w; k = λ z. absurd (omega arith) }, λ z. omega arith)
-  timed-item l (grammar.event w) = let h = aside 69 l (w .letter) (omega arith) (omega arith) (omega arith) in (aside-reads fixes notes l h, h .2)
-  timed-item l (grammar.satellites w) = let h = aside 70 l (w .letter) (omega arith) (omega arith) (omega arith) in (aside-reads fixes notes l h, h .2)
+  timed-item {t} l (grammar.event w) = let h = aside 69 l (e-said l t w .0) (omega arith) (omega arith) (omega arith) in (aside-reads fixes notes l h, h .2)
+  timed-item {t} l (grammar.satellites w) = let h = aside 70 l (f-said l t w .0) (omega arith) (omega arith) (omega arith) in (aside-reads fixes notes l h, h .2)
   timed-item {t} l (grammar.note w) =
       let k = k-said notes t l w .0 in
       (record { b = λ z. absurd (omega arith); k = λ z. reads-note notes note-slots l t w }, λ z. omega arith)

@@ -19,6 +19,7 @@ use Rattle.rules.specs.declared.State.{State}
 use Rattle.trips.proofs.Laws.{false-true}
 use Rattle.demands.specs.Grammar.{Each, Follows, OrderFrom, IsHLine, IsBLine, IsKLine, IsELine, IsFLine, IsHeadLine, IsPointLine, IsLLine, IsGLine, AtMostOne, absent, given, Timed, Untimed, differential, remark, other, Items, Body, undeclared, declared}
 use Rattle.demands.specs.Grammar as grammar
+use Rattle.demands.proofs.Carried.{e-said, f-said}
 use Rattle.demands.proofs.Valued.{b-said, k-said}
 use Rattle.demands.proofs.Leading.{Part, recorder, header, fixLayout, noteLayout, body, seal, remarks, InBody, head, point, fix, note, event, quiet, Leads, first, second, further, fixing, noting, flying, sealing, remarking, Sound, judge-leads, leads-judge, stays-sound}
 use Rattle.demands.specs.Faults.{Passes}
@@ -329,8 +330,8 @@ module _ (fixes notes : Layout) where
       declared (l ∷ before) hd points after h (grammar.untimed w i) (untimed-not-b w, no-b) hl ps c j
 
   event-not-b : {t : ℕ} {l : List ℕ} → IsELine t l ⊎ IsFLine t l → getD l 0 0 ≡ code "B" → ⊥
-  event-not-b (inl w) e = omega (arith, w .letter)
-  event-not-b (inr w) e = omega (arith, w .letter)
+  event-not-b {t} {l} (inl w) e = omega (arith, e-said l t w .0)
+  event-not-b {t} {l} (inr w) e = omega (arith, f-said l t w .0)
 
   items-body : {c : ℕ} {ls : List (List ℕ)} → Told (Items fixes notes) c ls → Told (Body fixes notes) c ls
   items-body r = record { times = r .times; lines = undeclared (r .lines); order = r .order }

@@ -1,20 +1,23 @@
 -- Document 01's rules of a whole file as a grammar, apart from any check: what a line of each kind is, which kind may follow which, and the order of times.
--- A date, B, I, J, K or C line is the text of some values within their limits.
+-- A line with a date, a time, a layout or a position is the text of such values within their limits.
 use Prim.Native.Nat.{ℕ, _+_, _-_, _%_, _≤_, _<_}
 use Prim.Native.Char.{code}
 use mathlib.Core.Bool.{Bool, true, false, cond}
 use mathlib.Core.List.{List, [], _∷_, _++_}
 use mathlib.Core.Logic.{_⊎_}
-use mathlib.Core.Option.{some}
 use mathlib.Core.Path.{_≡_}
 use lib.Dec.{eqb}
-use lib.ListN.{length, getD, drop}
+use lib.ListN.{length, getD, replicate}
 use Rattle.rules.specs.Choice.{byte}
 use Rattle.rules.specs.Chars.{isValid, isCode, codesAt}
-use Rattle.rules.specs.Fields.{timeAt, dateText, isEither}
-use Rattle.rules.specs.Layouts.{emptyLayout, firstStart, allowed}
-use Rattle.rules.specs.Writes.{fixText, noteText, layoutText, headText, pointText}
+use Rattle.rules.specs.Fields.{timeText, dateText, isEither}
+use Rattle.rules.specs.Numbers.{digitsOf}
+use Rattle.rules.specs.Listed.{isCodeWord, widthFits}
+use Rattle.rules.specs.Layouts.{unused, emptyLayout, firstStart}
+use Rattle.rules.specs.Reads.{layoutLetter}
+use Rattle.rules.specs.Writes.{fixText, noteText, entryTexts, headText, pointText}
 use Rattle.rules.specs.declared.Date.{Date}
+use Rattle.rules.specs.declared.Entry.{Entry}
 use Rattle.rules.specs.declared.Layout.{Layout}
 use Rattle.rules.specs.declared.Family.{Family}
 use Rattle.rules.specs.declared.Family.the-variants as family
@@ -22,7 +25,7 @@ use Rattle.rules.specs.declared.Fix.{Fix}
 use Rattle.rules.specs.declared.Head.{Head}
 use Rattle.rules.specs.declared.Point.{Point}
 use Rattle.rules.specs.declared.Flight.{Flight}
-use Rattle.trips.specs.Limits.{isDate, goodFix, goodNote, goodHead, goodPoint}
+use Rattle.trips.specs.Limits.{isTime, isDate, goodFix, goodNote, goodHead, goodPoint}
 
 -- every element keeps to P
 abbrev pub Each : {A : Type 0} → (A → Type 0) → List A → Type 0
@@ -56,11 +59,30 @@ pub record IsHLine (l : List ℕ) : Type 0 where
   pub source : isEither (getD l (byte 2) 0) (code "F") (code "O") ≡ true
   pub subject : codesAt l (byte 3) 3 ≡ true
 
--- "I, J 3 to 99"; "NN, then NN entries of start SS, finish FF and a code CCC of 3 code characters": the text of a layout that its line can tell, in 13 slots
+-- "start SS, finish FF and a code CCC of 3 code characters"; "FF is not below SS"; a listed code has a width of its table
+pub record IsEntry (start : ℕ) (e : Entry) : Type 0 where
+  pub starts : e .first ≡ start
+  pub ends : e .first ≤ e .last
+  pub spelt : e .last ≤ 99
+  pub word : isCodeWord (e .code) ≡ true
+  pub wide : widthFits (e .code) (e .last - e .first + 1) ≡ true
+
+-- "each next starts one past the last finish (h)"; "No code comes twice in one layout."
+abbrev pub Tiles : ℕ → List Entry → Type 0
+Tiles start [] = Unit {0}
+Tiles start (e ∷ es) = IsEntry start e × Each (λ x. x .code ≡ e .code → ⊥) es × Tiles (e .last + 1) es
+
+-- the layout of these entries: they stand in the first of 13 slots, and the others are all zero
+abbrev pub laid : List Entry → Layout
+laid es = record { count = length es; entries = es ++ replicate (13 - length es) unused }
+
+-- "I, J 3 to 99"; "NN, then NN entries"; "The first entry starts at 36 (I) or 8 (J)"
 pub record IsLayoutLine (f : Family) (layout : Layout) (l : List ℕ) : Type 0 where
-  pub text : l ≡ layoutText f layout
-  pub good : allowed (firstStart f) layout ≡ true
-  pub slots : length (layout .entries) ≡ 13
+  pub entries : List Entry
+  pub tiles : Tiles (firstStart f) entries
+  pub text : l ≡ layoutLetter f ∷ (digitsOf 2 (length entries) ++ entryTexts entries)
+  pub short : length l ≤ 99
+  pub slots : layout ≡ laid entries
 
 -- "C head 25 to 255"; "C head: declared date, time, flight date .., 4-digit task number, 2-digit number of turn points, text."
 pub record IsHeadLine (h : Head) (l : List ℕ) : Type 0 where
@@ -84,18 +106,20 @@ pub record IsDLine (l : List ℕ) : Type 0 where
 
 -- "E 10 to 255"; "E: time, 3 code characters, text."
 pub record IsELine (t : ℕ) (l : List ℕ) : Type 0 where
-  pub letter : getD l 0 0 ≡ code "E"
+  pub rest : List ℕ
+  pub text : l ≡ code "E" ∷ (timeText t ++ rest)
+  pub good : isTime t ≡ true
   pub shape : Shaped 10 255 false l
-  pub time : timeAt l (byte 2) ≡ some t
   pub event : codesAt l (byte 8) 3 ≡ true
 
 -- "F 7 to 255"; "F: time, then pairs of code characters, perhaps none."
 pub record IsFLine (t : ℕ) (l : List ℕ) : Type 0 where
-  pub letter : getD l 0 0 ≡ code "F"
+  pub pairs : List ℕ
+  pub text : l ≡ code "F" ∷ (timeText t ++ pairs)
+  pub good : isTime t ≡ true
   pub shape : Shaped 7 255 false l
-  pub time : timeAt l (byte 2) ≡ some t
-  pub pairs : (length l - 7) % 2 ≡ 0
-  pub codes : Each (λ b. isCode b ≡ true) (drop (byte 8) l)
+  pub even : length pairs % 2 ≡ 0
+  pub codes : Each (λ b. isCode b ≡ true) pairs
 
 -- "B .. exactly what [its] layout gives"; "B: time 2 to 7; latitude ..; longitude ..; A or V, 25; pressure altitude ..; GNSS altitude ..; columns from 36."
 pub record IsBLine (fixes : Layout) (f : Fix) (l : List ℕ) : Type 0 where
