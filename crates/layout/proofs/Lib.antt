@@ -1,0 +1,2 @@
+-- Laws of the definitions that the proofs share.
+pub mod Scans
