@@ -1,2 +1,2 @@
 -- Laws of the definitions that the proofs share.
-pub mod Scans
+pub mod Laws

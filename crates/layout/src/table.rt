@@ -107,10 +107,10 @@ fn keeps_sign(sign: bool, text: &[u8]) -> bool
     if !sign {
         return false;
     }
-    if text.len() < 2 {
+    if chars::byte(text, 0) != b'-' {
         return false;
     }
-    if text[0] != b'-' {
+    if text.len() < 2 {
         return false;
     }
     is_digits(&text[1..])

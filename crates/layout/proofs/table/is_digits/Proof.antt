@@ -9,7 +9,7 @@ use lib.ListN.{length, drop}
 use Rattle.rules.specs.Choice.{leads}
 use Rattle.rules.specs.Chars.{isDigit}
 use Rattle.rules.specs.Listed.{isDigits}
-use Rattle.layout.proofs.Scans.{leads-more, leads-other}
+use Rattle.chars.proofs.Laws.{leads-more, leads-other}
 use Rattle.layout.proofs.table.is_digits.Statement.{statement}
 use Rattle.layout.proofs.table.is_digits.Tie as tie
 
@@ -27,7 +27,7 @@ returns : tie.Need-returns Inv-loop μ-loop
 returns c =
     let l = c .before .before .before .before .loop in
     let other = sym (c .before .is-digit .ensures) ∙ not-true _ (c .if1 .taken) in
-    sym (leads-other isDigit _ _ 0 (l .i) (search needs) (search needs) other) ∙ l .inv .1
+    sym (leads-other isDigit _ 0 (l .i) _ (search needs) (search needs) other) ∙ l .inv .1
 
 loop-again : tie.Need-loop-again Inv-loop μ-loop
 loop-again c =
@@ -35,7 +35,7 @@ loop-again c =
     let l = c .before .before .before .before .loop in
     let digit = sym (c .before .is-digit .ensures) ∙ not-false _ (c .if1 .left) in
     let left : length s - (l .i + 1) ≡ length s - l .i - 1 = omega arith in
-    (search needs, rw left (sym (leads-more isDigit _ s 0 (l .i) (search needs) (search needs) digit) ∙ l .inv .1))
+    (search needs, rw left (sym (leads-more isDigit s 0 (l .i) _ (search needs) (search needs) digit) ∙ l .inv .1))
 
 returns-2 : tie.Need-returns-2 Inv-loop μ-loop
 unfolding leads

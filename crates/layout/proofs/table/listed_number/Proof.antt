@@ -10,7 +10,7 @@ use Rattle.rules.specs.Choice.{firstOf}
 use Rattle.rules.specs.Listed.{listed, unlisted, listedNumber}
 use Rattle.rules.specs.Promises.{foundTold}
 use Rattle.rules.specs.declared.Listed.{Listed}
-use Rattle.layout.proofs.Scans.{hit, miss, past}
+use Rattle.chars.proofs.Laws.{hit, miss, past}
 use Rattle.layout.proofs.table.listed_number.Statement.{statement}
 use Rattle.layout.proofs.table.listed_number.Tie as tie
 
