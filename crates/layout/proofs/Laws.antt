@@ -2,14 +2,20 @@
 use Prim.Native.Nat.{ℕ, _-_, _≤_, _<_}
 use mathlib.Core.Bool.{Bool, true, false, _&&_}
 use mathlib.Core.List.{List, map}
+use mathlib.Core.Option.{Option}
 use mathlib.Core.Path.{_≡_, sym, _∙_, ap}
 use native.Mathlib.Omega.{arith}
 use borrow.Author.Tests.{eq-eqb, ne-eqb, not-true, not-false}
 use lib.Dec.{leb, eqb}
 use lib.ListN.{length, getD, take, drop, length-drop, length-map}
 use lib.Seq.{take-all}
+use Rattle.rules.specs.Choice.{given}
+use Rattle.rules.specs.Layouts.{Span}
 use Rattle.rules.specs.Listed.{listed, unlisted, isDigits, keepsSign}
 use Rattle.rules.specs.declared.Listed.{Listed}
+use Rattle.layout.specs.Parts.{spotTold}
+use Rattle.layout.specs.declared.entries.Spot.{Spot}
+use Rattle.layout.specs.declared.entries.Spot.the-variants as spot
 use Rattle.rules.proofs.Links.{found-at, found-nothing}
 use Rattle.chars.proofs.Laws.{joined, told}
 
@@ -38,6 +44,16 @@ pub digits-rest : (a : ℕ) (t : List ℕ) (r : Bool) → r ≡ isDigits (take (
 digits-rest a t r e = e ∙ ap isDigits (rest a t)
 
 pub ruleset rows = (joined, told, told-eq, told-ne, not-true, not-false, found-at, found-nothing, row-width, row-sign, digits-rest)
+
+-- ---- links: what a part of this crate told, to the way on of the definition
+
+pub spot-at : {B : Type 0} (n : Option Span) (r : Spot) (a e : ℕ) (x b : B) (f : Span → B) → spotTold r ≡ n → r ≡ spot.At a e → x ≡ f (record { first = a; last = e }) → x ≡ given n b f
+unfolding spotTold
+spot-at n r a e x b f h g k = rw (← h, g) k
+
+pub spot-nowhere : {B : Type 0} (n : Option Span) (r : Spot) (x b : B) (f : Span → B) → spotTold r ≡ n → r ≡ spot.Nowhere → x ≡ b → x ≡ given n b f
+unfolding spotTold
+spot-nowhere n r x b f h g k = rw (← h, g) k
 
 -- ---- lists
 

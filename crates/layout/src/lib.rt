@@ -1,4 +1,5 @@
 // Layouts: the columns that an I or a J line tells. The listed codes, a layout read and looked up, and the columns of a line.
+mod entries;
 mod table;
 
 pub use table::keeps_rule;
