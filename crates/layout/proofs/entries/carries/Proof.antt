@@ -1,7 +1,7 @@
 -- `layout::entries::carries` meets its contract: it is there where the look-up finds it. Assumes nothing.
 use borrow.Author.Needs.{needs}
 use Rattle.rules.specs.Layouts.{carries}
-use Rattle.layout.proofs.Laws.{spot-at, spot-nowhere}
+use Rattle.layout.proofs.Laws.{links}
 use Rattle.layout.proofs.entries.carries.Statement.{statement}
 use Rattle.layout.proofs.entries.carries.Tie as tie
 
@@ -13,5 +13,5 @@ carries-spec =
     (λ c κs. search needs)
     (λ c. search needs)
     (λ c. search needs)
-    (λ c. search (spot-at, spot-nowhere, needs) depth 16)
-    (λ c. search (spot-at, spot-nowhere, needs) depth 16))
+    (λ c. search (links, needs) depth 16)
+    (λ c. search (links, needs) depth 16))
