@@ -22,7 +22,7 @@ use lib.Dec.{eqb}
 use Rattle.chars.proofs.Laws.{and-true, and-false}
 use Rattle.rules.specs.Choice.{given}
 use Rattle.rules.specs.declared.Planned.{Planned}
-use Rattle.rules.proofs.Links.{by-some, by-none, need-true, need-false, cond-eq, cond-ne, on-is, number-value, number-none, time-secs, time-none, day-on, day-none, place-is, place-none, altitude-metres, altitude-none, outcome-accepted, outcome-refused, found-at, found-nothing}
+use Rattle.rules.proofs.Links.{by-some, by-none, need-true, need-false, cond-eq, cond-ne, on-is, number-value, number-none, time-secs, time-none, day-on, day-none, place-is, place-none, altitude-metres, altitude-none, outcome-accepted, outcome-refused, found-at, found-nothing, fix-is, fix-refused}
 use Rattle.line.specs.Parts.{plannedTold}
 use Rattle.line.specs.declared.PlannedRead.{PlannedRead}
 use Rattle.line.specs.declared.PlannedRead.the-variants.{Is, NoPlan}
@@ -106,3 +106,7 @@ pub ruleset heads = (number-value, number-none, time-secs, time-none, day-on, da
 pub ruleset points = (outcome-accepted, outcome-refused, place-is, place-none)
 
 pub ruleset fixes = (not-true, not-false, need-true, need-false, on-is, time-secs, time-none, place-is, place-none, altitude-metres, altitude-none)
+
+pub ruleset columned = (outcome-accepted, outcome-refused)
+
+pub ruleset whole = (outcome-accepted, outcome-refused, fix-is, fix-refused)

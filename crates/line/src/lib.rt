@@ -3,9 +3,11 @@ ghost use mathlib.Core.Path.{_≡_};
 ghost use Prim.Native.Nat.{_-_, _%_};
 ghost use lib.Dec.{eqb};
 ghost use lib.ListN.{length, drop};
-ghost use Rattle.rules.specs.Lines.{isDateMark, plannedAt, headFields, badPair, fixFields};
+ghost use Rattle.rules.specs.Lines.{isDateMark, plannedAt, headFields, badPair, fixFields, shapedBy};
+ghost use Rattle.rules.specs.Layouts.{columns};
+ghost use Rattle.rules.specs.Refusals.{outcomeTold, andThen, says};
 ghost use Rattle.rules.specs.Reads.{headTold, fixTold};
-ghost use Rattle.rules.specs.Promises.{RecorderChecked, DateLineChecked, HeaderChecked, HeadChecked, PointChecked, DifferentialChecked, EventChecked, SatellitesChecked, foundTold};
+ghost use Rattle.rules.specs.Promises.{RecorderChecked, DateLineChecked, HeaderChecked, HeadChecked, PointChecked, DifferentialChecked, EventChecked, SatellitesChecked, FixChecked, NoteChecked, foundTold};
 ghost use Rattle.line.specs.Parts.{plannedTold};
 use rules::Altitude;
 use rules::DateRead;
@@ -15,6 +17,7 @@ use rules::FixRead;
 use rules::Found;
 use rules::Head;
 use rules::HeadRead;
+use rules::Layout;
 use rules::Number;
 use rules::Outcome;
 use rules::Place;
@@ -381,6 +384,57 @@ pub fn satellites(line: &[u8]) -> TimeRead
             line: 0,
             byte: (i + 1) as u32,
         });
+    }
+    TimeRead::Secs(t)
+}
+
+// The length that a layout gives, then the characters.
+fn shaped_by(start: u8, layout: Layout, line: &[u8]) -> Outcome
+    ensures { λ r. ⌜ outcomeTold r ≡ shapedBy start layout (now (line .entry)) ⌝ }
+{
+    let n = column::line_length(start, layout);
+    shape::shaped(line, n, n, false)
+}
+
+// A fix whose line's columns keep their rules.
+fn with_columns(f: Fix, line: &[u8], layout: Layout) -> FixRead
+    ensures { λ r. ⌜ fixTold r ≡ andThen (columns (now (line .entry)) layout) (λ _. says f) ⌝ }
+{
+    if let Outcome::Refused(r) = column::columns(line, layout) {
+        return FixRead::Refused(r);
+    }
+    FixRead::Is(f)
+}
+
+// A B line by an I layout: its fix. Refusals: LENGTH, CHARACTER, FORM at 2, 8, 16, 25, 26 or 31, COLUMN. Defined for every layout value.
+pub fn fix_line(line: &[u8], layout: Layout) -> FixRead
+    ensures { λ r. ⌜ FixChecked (now (line .entry)) layout r ⌝ }
+{
+    if let Outcome::Refused(r) = shaped_by(36, layout, line) {
+        return FixRead::Refused(r);
+    }
+    match fix_fields(line) {
+        FixRead::Refused(r) => FixRead::Refused(r),
+        FixRead::Is(f) => with_columns(f, line, layout),
+    }
+}
+
+// A K line by a J layout: its time. Refusals: LENGTH, CHARACTER, FORM at 2, COLUMN. Defined for every layout value.
+pub fn note_line(line: &[u8], layout: Layout) -> TimeRead
+    ensures { λ r. ⌜ NoteChecked (now (line .entry)) layout r ⌝ }
+{
+    if let Outcome::Refused(r) = shaped_by(8, layout, line) {
+        return TimeRead::Refused(r);
+    }
+    let Time::Secs(t) = field::time_at(line, 1) else {
+        return TimeRead::Refused(Refusal {
+            reason: Reason::Form,
+            line: 0,
+            byte: 2,
+        });
+    };
+    if let Outcome::Refused(r) = column::columns(line, layout) {
+        return TimeRead::Refused(r);
     }
     TimeRead::Secs(t)
 }
