@@ -19,6 +19,20 @@ module _ {A : Type 0} where
   each-both P Q R f [] h g = tt
   each-both P Q R f (x ∷ xs) h g = (f x (h .0) (g .0), each-both P Q R f xs (h .1) (g .1))
 
+  -- two lists, element by element
+  abbrev pub Pairs : (A → A → Type 0) → List A → List A → Type 0
+  Pairs R [] [] = Unit {0}
+  Pairs R [] (y ∷ ys) = ⊥
+  Pairs R (x ∷ xs) [] = ⊥
+  Pairs R (x ∷ xs) (y ∷ ys) = R x y × Pairs R xs ys
+
+  pub pair-at : (R : A → A → Type 0) (d : A) (xs ys : List A) (n : ℕ) → Pairs R xs ys → n < length xs → R (getD xs n d) (getD ys n d)
+  pair-at R d [] [] n h p = absurd (omega arith)
+  pair-at R d [] (y ∷ ys) n h p = absurd h
+  pair-at R d (x ∷ xs) [] n h p = absurd h
+  pair-at R d (x ∷ xs) (y ∷ ys) zero h p = h .0
+  pair-at R d (x ∷ xs) (y ∷ ys) (suc n) h p = pair-at R d xs ys n (h .1) (omega arith)
+
 -- ---- the first element that passes a test
 
 module _ {A B : Type 0} (test : A → Bool) (found : ℕ → A → B) where

@@ -1,5 +1,6 @@
 -- To add columns to the B lines or the K lines of a file: which lines may differ, and what each of them must still say.
 use Prim.Native.Nat.{ℕ, _+_, _-_}
+use Prim.Native.Char.{code}
 use mathlib.Core.Bool.{Bool, true, false}
 use mathlib.Core.List.{List, [], _∷_}
 use mathlib.Core.Option.{Option, none, some}
@@ -69,9 +70,9 @@ isPlain = elim [ kind.A ↦ false | kind.B ↦ false | kind.C ↦ true | kind.D 
 pub data Body (i i′ j j′ : Layout) : Lines → Lines → Type 0 where
   done : Body i i′ j j′ end end
   same : {t : List ℕ} {ls ls′ : Lines} → isPlain (kindOf (getD t 0 0)) ≡ true → Body i i′ j j′ ls ls′ → Body i i′ j j′ (line t ls) (line t ls′)
-  fix : {t t′ : List ℕ} {ls ls′ : Lines} → kindOf (getD t 0 0) ≡ kind.B → WiderLine (firstStart family.B) i i′ t t′ → Body i i′ j j′ ls ls′
+  fix : {t t′ : List ℕ} {ls ls′ : Lines} → getD t 0 0 ≡ code "B" → WiderLine (firstStart family.B) i i′ t t′ → Body i i′ j j′ ls ls′
       → Body i i′ j j′ (line t ls) (line t′ ls′)
-  note : {t t′ : List ℕ} {ls ls′ : Lines} → kindOf (getD t 0 0) ≡ kind.K → WiderLine (firstStart family.K) j j′ t t′ → Body i i′ j j′ ls ls′
+  note : {t t′ : List ℕ} {ls ls′ : Lines} → getD t 0 0 ≡ code "K" → WiderLine (firstStart family.K) j j′ t t′ → Body i i′ j j′ ls ls′
       → Body i i′ j j′ (line t ls) (line t′ ls′)
 
 -- At the place of the I line, or of the J line: there is none before and after; or it is changed in place; or, where there was none, it is put in.
