@@ -217,8 +217,6 @@ pub order-stage : (k : Kind) (st : State) (stage : ℕ) → orderOf k st ≡ som
 unfolding orderOf
 order-stage k st stage h = need-inv (fitsDeclaration (isC k) st) none (some stage) _ none-some h .1
 
--- ---- the parts of a file
-
 pub leading-in : (low high next s : ℕ) → low ≤ s → s ≤ high → leading low high next s ≡ some next
 leading-in low high next s p q = simp (le-leb low s p, le-leb s high q)
 
@@ -227,6 +225,34 @@ leading-out low high next s stage h =
     let w = need-inv (leb low s && leb s high) none (some stage) _ none-some h in
     let b = and-inv (leb low s) _ (w .0) in
     (leb-true _ _ (b .0), leb-true _ _ (b .1), cc)
+
+pub i-judged : (l : List ℕ) (st after : State) (i : Layout) → layoutLine 36 l ≡ says i → Judged kind.I l st after → withFixes i (moved 3 st) ≡ after
+unfolding ruled stageAfter
+i-judged l st after i e j =
+    let n = leading-out 2 2 3 (st .stage) (j .stage) (order-stage kind.I st (j .stage) (j .order)) .2 in
+    let r : says (withFixes i (moved (j .stage) st)) ≡ says after = rw e at (j .rule) in
+    let t : withFixes i (moved (j .stage) st) ≡ after = cc in
+    ap (λ s. withFixes i (moved s st)) n ∙ t
+
+pub i-judges : (l : List ℕ) (st : State) (i : Layout) → layoutLine 36 l ≡ says i → st .points ≡ 0 → 2 ≤ st .stage → st .stage ≤ 2
+    → Judged kind.I l st (withFixes i (moved 3 st))
+unfolding ruled stageAfter
+i-judges l st i e p a b = record { stage = 3; order = order-free kind.I st refl p ∙ leading-in 2 2 3 (st .stage) a b; rule = rw e }
+
+pub j-judged : (l : List ℕ) (st after : State) (j : Layout) → layoutLine 8 l ≡ says j → Judged kind.J l st after → withNotes j (moved 4 st) ≡ after
+unfolding ruled stageAfter
+j-judged l st after j e g =
+    let n = leading-out 2 3 4 (st .stage) (g .stage) (order-stage kind.J st (g .stage) (g .order)) .2 in
+    let r : says (withNotes j (moved (g .stage) st)) ≡ says after = rw e at (g .rule) in
+    let t : withNotes j (moved (g .stage) st) ≡ after = cc in
+    ap (λ s. withNotes j (moved s st)) n ∙ t
+
+pub j-judges : (l : List ℕ) (st : State) (j : Layout) → layoutLine 8 l ≡ says j → st .points ≡ 0 → 2 ≤ st .stage → st .stage ≤ 3
+    → Judged kind.J l st (withNotes j (moved 4 st))
+unfolding ruled stageAfter
+j-judges l st j e p a b = record { stage = 4; order = order-free kind.J st refl p ∙ leading-in 2 3 4 (st .stage) a b; rule = rw e }
+
+-- ---- the parts of a file
 
 -- the lines after the layout lines
 abbrev pub isBody : Kind → Bool
