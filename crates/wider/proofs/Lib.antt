@@ -3,3 +3,6 @@ pub mod Placed
 pub mod OneLine
 pub mod Judged
 pub mod Simulated
+pub mod Kept
+pub mod WholeFile
+pub mod Demand

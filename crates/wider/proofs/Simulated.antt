@@ -205,7 +205,7 @@ module _ (room room′ : ℕ) (f : Flight) (i i′ : Layout) (si : Sound 36 i) (
       let st′ : State = wide i′ emptyLayout n (staged s st) in
       let new = byte-here (code "J") (omega arith) kind.J is-j refl t′ st′ (withNotes j′ (moved 4 st′)) (l′ .0) (j-judges t′ st′ j′ (l′ .1) z a′ c′) in
       let r = body room room′ f i i′ j j′ si si′ (sound-line family.K t j e) (sound-line family.K t′ j′ e′) b (withNotes j (moved 4 st)) 4 (n + 1) p refl (alike-same 4)
-          (omega arith) (ap (λ x. run room x ls) g ∙ u .2) in
+      (omega arith) (ap (λ x. run room x ls) g ∙ u .2) in
       record {
         j = j;
         j′ = j′;
@@ -216,7 +216,7 @@ module _ (room room′ : ℕ) (f : Flight) (i i′ : Layout) (si : Sound 36 i) (
       let st′ : State = wide i′ emptyLayout n (staged s st) in
       let new = byte-here (code "J") (omega arith) kind.J is-j refl t′ st′ (withNotes j′ (moved 4 st′)) (l′ .0) (j-judges t′ st′ j′ (l′ .1) z a′ c′) in
       let r = body room room′ f i i′ emptyLayout j′ si si′ (sound-empty 8) (sound-line family.K t′ j′ e′) b st 4 (n + 1) p q
-          (alike-early (st .stage) 4 a (omega arith) (omega arith) (omega arith)) (omega arith) h in
+      (alike-early (st .stage) 4 a (omega arith) (omega arith) (omega arith)) (omega arith) h in
       record { j = emptyLayout; j′ = j′; passed = passed-put room′ i i′ emptyLayout j′ f ls ls′ st′ _ t′ new refl (omega arith) r (j-bare t′ (l′ .0)) }
 
 -- ---- the lines before the layout lines
@@ -273,9 +273,9 @@ module _ (room room′ : ℕ) (f : Flight) where
   fromI (without {ls = ls} {ls′ = ls′} b) st y m h =
       let a = heads-over room ls st f (fromJ-later b) h in
       let r = fromJ room room′ f emptyLayout emptyLayout (sound-empty 36) (sound-empty 36) b st (st .stage) (st .flight .lines) (y .fixes) (y .notes) (y .points)
-          a (omega (arith, y .stage)) a (omega (arith, y .stage)) m h in
+      a (omega (arith, y .stage)) a (omega (arith, y .stage)) m h in
       let e : wide emptyLayout emptyLayout (st .flight .lines) (staged (st .stage) st) ≡ st =
-          ap (λ x. withFixes x (withNotes emptyLayout st)) (sym (y .fixes)) ∙ ap (λ x. withNotes x st) (sym (y .notes)) in
+      ap (λ x. withFixes x (withNotes emptyLayout st)) (sym (y .fixes)) ∙ ap (λ x. withNotes x st) (sym (y .notes)) in
       record {
         i = emptyLayout;
         i′ = emptyLayout;
@@ -296,9 +296,9 @@ module _ (room room′ : ℕ) (f : Flight) where
       let s = sound-line family.B t i e in
       let s′ = sound-line family.B t′ i′ e′ in
       let r = fromJ room room′ f i i′ s s′ b (withFixes i (moved 3 st)) 3 (st .flight .lines + 1) refl (y .notes) (y .points)
-          (omega arith) (omega arith) (omega arith) (omega arith) (omega arith) (ap (λ x. run room x ls) g ∙ u .2) in
+      (omega arith) (omega arith) (omega arith) (omega arith) (omega arith) (ap (λ x. run room x ls) g ∙ u .2) in
       let w : wide i′ emptyLayout (st .flight .lines + 1) (staged 3 (withFixes i (moved 3 st))) ≡ withFixes i′ (moved 3 st) =
-          ap (λ x. withFixes i′ (moved 3 (withNotes x st))) (sym (y .notes)) in
+      ap (λ x. withFixes i′ (moved 3 (withNotes x st))) (sym (y .notes)) in
       let p = subst (λ x. Passed room′ x i i′ (r .j) (r .j′) ls ls′ f) w (r .passed) in
       record {
         i = i;
@@ -318,9 +318,9 @@ module _ (room room′ : ℕ) (f : Flight) where
       let new = byte-here (code "I") (omega arith) kind.I is-i refl t′ st (withFixes i′ (moved 3 st)) (l′ .0) (i-judges t′ st i′ (l′ .1) (y .points) a (y .stage)) in
       let s′ = sound-line family.B t′ i′ e′ in
       let r = fromJ room room′ f emptyLayout i′ (sound-empty 36) s′ b st 3 (st .flight .lines + 1) (y .fixes) (y .notes) (y .points)
-          a (omega (arith, y .stage)) (omega arith) (omega arith) (omega arith) h in
+      a (omega (arith, y .stage)) (omega arith) (omega arith) (omega arith) h in
       let w : wide i′ emptyLayout (st .flight .lines + 1) (staged 3 st) ≡ withFixes i′ (moved 3 st) =
-          ap (λ x. withFixes i′ (moved 3 (withNotes x st))) (sym (y .notes)) in
+      ap (λ x. withFixes i′ (moved 3 (withNotes x st))) (sym (y .notes)) in
       let p = subst (λ x. Passed room′ x emptyLayout i′ (r .j) (r .j′) ls ls′ f) w (r .passed) in
       record {
         i = emptyLayout;
