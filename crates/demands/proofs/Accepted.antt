@@ -10,7 +10,7 @@ use borrow.Author.Tests.{ne-eqb}
 use lib.Dec.{eqb}
 use lib.ListN.{length, getD}
 use Rattle.rules.specs.Choice.{leads}
-use Rattle.rules.specs.Refusals.{Said, says, refuses}
+use Rattle.rules.specs.Refusals.{says}
 use Rattle.rules.specs.Layouts.{emptyLayout, isSaid, isUnused, allPlaced, allowed}
 use Rattle.rules.specs.Lines.{kindOf}
 use Rattle.rules.specs.Order.{start, moved, dated, judge}
@@ -24,9 +24,9 @@ use Rattle.rules.specs.declared.Flight.{Flight}
 use Rattle.rules.specs.declared.State.{State}
 use Rattle.laws.proofs.Chains.{surely}
 use Rattle.laws.proofs.Counted.{isB, isK, OneMore, judge-counts}
-use Rattle.trips.proofs.Laws.{false-true}
 use Rattle.demands.specs.Grammar.{Each, IsText, OrderFrom, InOrder, IsALine, IsDateLine, AtMostOne, Parts, linesIn, Keeps, written, Meets, beginning, flightOf}
 use Rattle.demands.specs.Faults.{Passes, done, next}
+use Rattle.demands.proofs.Laws.{said-some}
 use Rattle.demands.proofs.Leading.{Letter, letter, Part, Leads, first, second, further, fixing, noting, flying, sealing, remarking, Sound, judge-leads, leads-judge}
 use Rattle.demands.proofs.Leading as part
 use Rattle.demands.proofs.Passing.{passes-join, lines-passed, Accepts, accepted-passes}
@@ -322,17 +322,13 @@ module _ (file : List ℕ) (room : ℕ) (f : Flight) where
   pub accepted-as : (verdict file room ≡ says f) ↔ ((m : Meets file) × (length (linesIn (m .parts)) ≤ room) × (flightOf m ≡ f))
   accepted-as = (λ e. accepted-meets (accepted-passes file room f .0 e), λ w. accepted-passes file room f .1 (meets-accepted w))
 
-said-by : (s : Said Flight) → isSaid s ≡ true → (f : Flight) × (s ≡ says f)
-said-by (says f) e = (f, refl)
-said-by (refuses n l b) e = absurd (false-true e)
-
 -- accepted exactly when the file meets the grammar and its lines fit the table
 pub accepted-exactly : (file : List ℕ) (room : ℕ) → (isSaid (verdict file room) ≡ true) ↔ ((m : Meets file) × (length (linesIn (m .parts)) ≤ room))
 accepted-exactly file room = (there, here)
   where
     there : isSaid (verdict file room) ≡ true → (m : Meets file) × (length (linesIn (m .parts)) ≤ room)
     there e =
-        let s = said-by (verdict file room) e in
+        let s = said-some (verdict file room) e in
         let w = accepted-as file room (s .0) .0 (s .1) in
         (w .0, w .1)
 

@@ -126,21 +126,19 @@ time-text l x t p k e = byte-there l 0 1 x refl p k ∙ ap (λ y. x ∷ y) (time
 text-time : (l : List ℕ) (x t : ℕ) (rest : List ℕ) → isTime t ≡ true → l ≡ x ∷ (timeText t ++ rest) → timeAt l 1 ≡ some t
 text-time l x t rest g e = time-trip .here l 1 t rest g (ap (drop 1) e)
 
-pub e-there : (l : List ℕ) (t : ℕ) → getD l 0 0 ≡ code "E" → eLine l ≡ says t → IsELine t l
+pub e-inv : (l : List ℕ) (t : ℕ) → eLine l ≡ says t → Shaped 10 255 false l × (timeAt l 1 ≡ some t) × (codesAt l 7 3 ≡ true)
 unfolding eLine
-e-there l t k e =
+e-inv l t e =
     let s = then-inv (shaped 10 255 false l) t _ e in
     let a = given-inv (timeAt l 1) _ (says t) _ refuses-says (s .2) in
     let n = need-inv (codesAt l 7 3) _ (says t) _ refuses-says (a .2) in
     let i : a .0 ≡ t = cc in
-    let h : timeAt l 1 ≡ some t = a .1 ∙ ap some i in
-    record {
-      rest = drop 7 l;
-      text = time-text l 69 t (omega arith) k h;
-      good = time-trip .limits l 1 t h;
-      shape = shape-there 10 255 false l tt (s .1);
-      event = n .0;
-    }
+    (shape-there 10 255 false l tt (s .1), a .1 ∙ ap some i, n .0)
+
+pub e-there : (l : List ℕ) (t : ℕ) → getD l 0 0 ≡ code "E" → eLine l ≡ says t → IsELine t l
+e-there l t k e =
+    let h = e-inv l t e in
+    record { rest = drop 7 l; text = time-text l 69 t (omega arith) k (h .1); good = time-trip .limits l 1 t (h .1); shape = h .0; event = h .2 }
 
 pub e-said : (l : List ℕ) (t : ℕ) → IsELine t l → (getD l 0 0 ≡ code "E") × (eLine l ≡ says t)
 unfolding eLine
@@ -169,23 +167,27 @@ pairs-here [] at h = refl
 pairs-here (a ∷ []) at h = refl
 pairs-here (a ∷ b ∷ l) at h = rw (h .0, h .1 .0) (pairs-here l (at + 2) (h .1 .1))
 
-pub f-there : (l : List ℕ) (t : ℕ) → getD l 0 0 ≡ code "F" → fLine l ≡ says t → IsFLine t l
+pub f-inv : (l : List ℕ) (t : ℕ) → fLine l ≡ says t → Shaped 7 255 false l × (timeAt l 1 ≡ some t) × ((length l - 7) % 2 ≡ 0) × (badPair 7 (drop 7 l) ≡ none)
 unfolding fLine
-f-there l t k e =
+f-inv l t e =
     let s = then-inv (shaped 7 255 false l) t _ e in
     let a = given-inv (timeAt l 1) _ (says t) _ refuses-says (s .2) in
     let n = need-inv (eqb ((length l - 7) % 2) 0) _ (says t) _ refuses-says (a .2) in
     let p = given-none (badPair 7 (drop 7 l)) (says (a .0)) (says t) _ (λ v. refuses-says) (n .1) in
     let i : a .0 ≡ t = cc in
-    let h : timeAt l 1 ≡ some t = a .1 ∙ ap some i in
-    let even : length (drop 7 l) % 2 ≡ 0 = ap (λ x. x % 2) (length-drop 7 l) ∙ eqb-true _ _ (n .0) in
+    (shape-there 7 255 false l tt (s .1), a .1 ∙ ap some i, eqb-true _ _ (n .0), p .0)
+
+pub f-there : (l : List ℕ) (t : ℕ) → getD l 0 0 ≡ code "F" → fLine l ≡ says t → IsFLine t l
+f-there l t k e =
+    let h = f-inv l t e in
+    let even : length (drop 7 l) % 2 ≡ 0 = ap (λ x. x % 2) (length-drop 7 l) ∙ h .2 in
     record {
       pairs = drop 7 l;
-      text = time-text l 70 t (omega arith) k h;
-      good = time-trip .limits l 1 t h;
-      shape = shape-there 7 255 false l tt (s .1);
+      text = time-text l 70 t (omega arith) k (h .1);
+      good = time-trip .limits l 1 t (h .1);
+      shape = h .0;
       even = even;
-      codes = pairs-there (drop 7 l) 7 even (p .0);
+      codes = pairs-there (drop 7 l) 7 even (h .3);
     }
 
 pub f-said : (l : List ℕ) (t : ℕ) → IsFLine t l → (getD l 0 0 ≡ code "F") × (fLine l ≡ says t)

@@ -22,7 +22,6 @@ use Rattle.rules.specs.declared.Signed.{Signed}
 use Rattle.rules.specs.declared.Entry.{Entry}
 use Rattle.rules.specs.declared.Layout.{Layout}
 use Rattle.rules.specs.declared.Family.{Family}
-use Rattle.rules.specs.declared.Family.the-variants as family
 use Rattle.trips.proofs.Laws.{none-some, given-inv, need-inv, byte-there}
 use Rattle.trips.proofs.Digits.{digits-length, digits-front, number-there, number-here}
 use Rattle.demands.specs.Grammar.{Each, laid}

@@ -10,7 +10,7 @@ use lib.Dec.{eqb, leb}
 use lib.ListN.{length, getD, drop, set, replicate, length-append, length-drop, take-append-drop}
 use lib.Seq.{take-append-seam, drop-append-seam, set-append-seam, append-snoc, length-take-le}
 use Rattle.rules.specs.Choice.{given, leads, firstOf}
-use Rattle.rules.specs.Refusals.{Said, says, refuses}
+use Rattle.rules.specs.Refusals.{says}
 use Rattle.rules.specs.Chars.{isDigit, isCode, codesAt}
 use Rattle.rules.specs.Numbers.{numberAt, digitsOf}
 use Rattle.rules.specs.Listed.{packed, codeText, codeAt, isCodeWord, widthFits}
@@ -22,7 +22,7 @@ use Rattle.trips.proofs.Laws.{none-some, refuses-says, false-true, given-inv, n
 use Rattle.trips.proofs.Texts.{digit-range}
 use Rattle.trips.proofs.Digits.{digits-length, number-there, number-here}
 use Rattle.demands.specs.Grammar.{Each, IsEntry, Tiles, laid}
-use Rattle.demands.proofs.Laws.{each-map, each-join, each-cut, each-both, nothing-found, none-found}
+use Rattle.demands.proofs.Laws.{said-some, each-map, each-join, each-cut, each-both, nothing-found, none-found}
 
 -- ---- three code characters
 
@@ -103,7 +103,7 @@ pub record Fits (start : ℕ) (before : Layout) (e : Entry) : Type 0 where
   pub once : carries before (e .code) ≡ false
   pub wide : widthFits (e .code) (e .last - e .first + 1) ≡ true
 
-placed-there : (start : ℕ) (before : Layout) (e x : Entry) (n : ℕ) → placed start before e n ≡ says x → Fits start before e × (e ≡ x)
+pub placed-there : (start : ℕ) (before : Layout) (e x : Entry) (n : ℕ) → placed start before e n ≡ says x → Fits start before e × (e ≡ x)
 unfolding placed
 placed-there start before e x n h =
     let a = need-inv (eqb (e .first) start) _ (says x) _ refuses-says h in
@@ -115,10 +115,6 @@ placed-there start before e x n h =
 placed-said : (start : ℕ) (before : Layout) (e : Entry) (n : ℕ) → Fits start before e → placed start before e n ≡ says e
 unfolding placed
 placed-said start before e n w = simp (eq-eqb _ _ (w .starts), le-leb _ _ (w .ends), w .once, w .wide)
-
-said-some : {A : Type 0} (s : Said A) → isSaid s ≡ true → (v : A) × (s ≡ says v)
-said-some (says v) e = (v, refl)
-said-some (refuses n l b) e = absurd (false-true e)
 
 pub fits-there : (start : ℕ) (before : Layout) (e : Entry) → isSaid (placed start before e 0) ≡ true → Fits start before e
 fits-there start before e h = let s = said-some (placed start before e 0) h in placed-there start before e (s .0) 0 (s .1) .0

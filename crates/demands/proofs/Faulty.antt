@@ -28,10 +28,12 @@ use Rattle.rules.specs.declared.Fix.{Fix}
 use Rattle.rules.specs.declared.Kind.{Kind}
 use Rattle.rules.specs.declared.Kind.the-variants as kind
 use Rattle.rules.specs.declared.State.{State}
-use Rattle.trips.proofs.Laws.{false-true, refuses-says, given-inv, need-inv, then-inv}
+use Rattle.trips.proofs.Laws.{false-true, refuses-says, given-inv, then-inv}
 use Rattle.trips.proofs.Fixes.{fields-there}
 use Rattle.demands.specs.Checks.{Check, check, AllPass, FailsFirst, isThere, oneEach, orZero, shapeChecks, columnChecks, timeCheck, pairChecks, entryOf, entryChecks, layoutChecks, dateChecks, headerChecks, headChecks, pointChecks, kindChecks, checksOf}
-use Rattle.demands.proofs.Laws.{given-none, each-join}
+use Rattle.demands.proofs.Laws.{each-join}
+use Rattle.demands.proofs.Carried.{e-inv, f-inv}
+use Rattle.demands.proofs.Entries.{placed-there}
 
 -- ---- the first that fails
 
@@ -173,15 +175,6 @@ time-last s a b c h = rw append-assoc at h
 on-time : (l : List ℕ) (t : ℕ) (st : State) → timeAt l 1 ≡ some t → Agrees (timed t st) (timeCheck st l ∷ [])
 on-time l t st e = rw (there (timeAt l 1) e) (timed-agrees t st)
 
-e-time : (l : List ℕ) (t : ℕ) → eLine l ≡ says t → timeAt l 1 ≡ some t
-unfolding eLine
-e-time l t e =
-    let s = then-inv (shaped 10 255 false l) t _ e in
-    let a = given-inv (timeAt l 1) _ (says t) _ refuses-says (s .2) in
-    let n = need-inv (codesAt l 7 3) _ (says t) _ refuses-says (a .2) in
-    let i : a .0 ≡ t = cc in
-    a .1 ∙ ap some i
-
 e-agrees : (l : List ℕ) (st : State) → Agrees (ruled kind.E l st) (kindChecks kind.E st l)
 unfolding ruled eLine number
 e-agrees l st =
@@ -190,7 +183,7 @@ e-agrees l st =
     agree-then (shaped 10 255 false l) _ (shapeChecks 10 255 false l) _ (shape-agrees 10 255 false l) λ u e.
     agree-given 9 2 (timeAt l 1) _ _ λ t e.
     agree-need 9 8 (codesAt l 7 3) _ [] λ e. tt in
-    time-last (ruled kind.E l st) (shapeChecks 10 255 false l) cs (timeCheck st l) (agree-then (eLine l) (λ t. timed t st) _ (timeCheck st l ∷ []) h λ t e. on-time l t st (e-time l t e))
+    time-last (ruled kind.E l st) (shapeChecks 10 255 false l) cs (timeCheck st l) (agree-then (eLine l) (λ t. timed t st) _ (timeCheck st l ∷ []) h λ t e. on-time l t st (e-inv l t e .1))
 
 pairs-agree : {A : Type 0} (v : A) (l : List ℕ) (at : ℕ) → Agrees (given (badPair at l) (says v) λ i. refuses 9 0 (i + 1)) (pairChecks at l)
 unfolding badPair pairChecks
@@ -203,16 +196,6 @@ pairs-agree v (a ∷ b ∷ l) at = go (isCode a && isCode b) (pairs-agree v l (a
     go true h = one-more (given (badPair (at + 2) l) (says v) λ i. refuses 9 0 (i + 1)) (check 9 (at + 1) true) (pairChecks (at + 2) l) refl h
     go false h = (refl, inl (refl, refl, refl))
 
-f-time : (l : List ℕ) (t : ℕ) → fLine l ≡ says t → timeAt l 1 ≡ some t
-unfolding fLine
-f-time l t e =
-    let s = then-inv (shaped 7 255 false l) t _ e in
-    let a = given-inv (timeAt l 1) _ (says t) _ refuses-says (s .2) in
-    let n = need-inv (eqb ((length l - 7) % 2) 0) _ (says t) _ refuses-says (a .2) in
-    let p = given-none (badPair 7 (drop 7 l)) (says (a .0)) (says t) _ (λ v. refuses-says) (n .1) in
-    let i : a .0 ≡ t = cc in
-    a .1 ∙ ap some i
-
 f-agrees : (l : List ℕ) (st : State) → Agrees (ruled kind.F l st) (kindChecks kind.F st l)
 unfolding ruled fLine number
 f-agrees l st =
@@ -222,7 +205,7 @@ f-agrees l st =
     agree-given 9 2 (timeAt l 1) _ _ λ t e.
     agree-need 9 8 (eqb ((length l - 7) % 2) 0) _ _ λ e.
     pairs-agree t (drop 7 l) 7 in
-    time-last (ruled kind.F l st) (shapeChecks 7 255 false l) cs (timeCheck st l) (agree-then (fLine l) (λ t. timed t st) _ (timeCheck st l ∷ []) h λ t e. on-time l t st (f-time l t e))
+    time-last (ruled kind.F l st) (shapeChecks 7 255 false l) cs (timeCheck st l) (agree-then (fLine l) (λ t. timed t st) _ (timeCheck st l ∷ []) h λ t e. on-time l t st (f-inv l t e .1))
 
 fix-checks : List ℕ → List Check
 fix-checks l =
@@ -331,15 +314,6 @@ entry-agrees l at start before =
     rw (there (numberAt l at 2) p, there (numberAt l (at + 2) 2) q, there (codeAt l (at + 4)) r)
     (placed-agrees start before (record { first = ss; last = ff; code = ccc }) (at + 1))
 
-placed-is : (start : ℕ) (before : Layout) (e x : Entry) (n : ℕ) → placed start before e n ≡ says x → e ≡ x
-unfolding placed
-placed-is start before e x n h =
-    let a = need-inv (eqb (e .first) start) _ (says x) _ refuses-says h in
-    let b = need-inv (leb (e .first) (e .last)) _ (says x) _ refuses-says (a .1) in
-    let c = need-inv (not (carries before (e .code))) _ (says x) _ refuses-says (b .1) in
-    let d = need-inv (widthFits (e .code) (e .last - e .first + 1)) _ (says x) _ refuses-says (c .1) in
-    cc
-
 entry-is : (l : List ℕ) (at start : ℕ) (before : Layout) (e : Entry) → entryAt l at start before ≡ says e → entryOf l at ≡ e
 unfolding entryAt
 entry-is l at start before e h =
@@ -347,7 +321,7 @@ entry-is l at start before e h =
     let b = given-inv (numberAt l (at + 2) 2) _ (says e) _ refuses-says (a .2) in
     let c = given-inv (codeAt l (at + 4)) _ (says e) _ refuses-says (b .2) in
     rw (there (numberAt l at 2) (a .1), there (numberAt l (at + 2) 2) (b .1), there (codeAt l (at + 4)) (c .1))
-    (placed-is start before (record { first = a .0; last = b .0; code = c .0 }) e (at + 1) (c .2))
+    (placed-there start before (record { first = a .0; last = b .0; code = c .0 }) e (at + 1) (c .2) .1)
 
 entries-agree : (left : ℕ) (l : List ℕ) (at start : ℕ) (before : Layout) → Agrees (entriesFrom left l at start before) (entryChecks left l at start before)
 unfolding entriesFrom entryChecks entry-checks

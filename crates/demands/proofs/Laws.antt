@@ -8,10 +8,11 @@ use borrow.Author.Tests.{le-leb, leb-true, not-false}
 use lib.Dec.{leb}
 use lib.ListN.{length}
 use Rattle.rules.specs.Choice.{given, firstOf}
-use Rattle.rules.specs.Refusals.{says}
+use Rattle.rules.specs.Refusals.{Said, says, refuses}
 use Rattle.rules.specs.Chars.{isValid, firstInvalid, characters}
+use Rattle.rules.specs.Layouts.{isSaid}
 use Rattle.rules.specs.Lines.{isSized, shaped}
-use Rattle.trips.proofs.Laws.{none-some, refuses-says, need-inv, and-inv}
+use Rattle.trips.proofs.Laws.{none-some, false-true, refuses-says, need-inv, and-inv}
 use Rattle.trips.proofs.Texts.{areValid}
 use Rattle.demands.specs.Grammar.{Each, Shaped}
 
@@ -24,6 +25,11 @@ cond-false false a b x n e = (refl, e)
 pub given-none : {A B : Type 0} (o : Option A) (a x : B) (f : A → B) → ((v : A) → f v ≡ x → ⊥) → given o a f ≡ x → (o ≡ none) × (a ≡ x)
 given-none (some v) a x f n e = absurd (n v e)
 given-none none a x f n e = (refl, e)
+
+-- an answer that is a value
+pub said-some : {A : Type 0} (s : Said A) → isSaid s ≡ true → (v : A) × (s ≡ says v)
+said-some (says v) e = (v, refl)
+said-some (refuses n l b) e = absurd (false-true e)
 
 -- ---- each element
 

@@ -11,3 +11,4 @@ pub mod Faulty
 pub mod Refusing
 pub mod Columns
 pub mod Reading
+pub mod Demands

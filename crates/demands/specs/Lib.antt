@@ -2,3 +2,4 @@ pub mod Grammar
 pub mod Checks
 pub mod Faults
 pub mod Readings
+pub mod BothWays
