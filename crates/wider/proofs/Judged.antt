@@ -1,25 +1,24 @@
 -- One line of a file against those before it, and the same line of a file with added columns: it passes there too, and leaves the states alike. Assumes nothing.
-use Prim.Native.Nat.{ℕ, zero, suc, _+_, _≤_, _<_}
+use Prim.Native.Nat.{ℕ, _+_, _≤_, _<_}
 use Prim.Native.Char.{code}
 use mathlib.Core.Bool.{Bool, true, false, not, _&&_, _||_, cond}
 use mathlib.Core.List.{List, [], _∷_}
-use mathlib.Core.Option.{Option, none, some}
+use mathlib.Core.Option.{none, some}
 use mathlib.Core.Path.{_≡_, refl, sym, ap, _∙_}
 use native.Mathlib.Omega.{arith}
 use borrow.Author.Tests.{le-leb, leb-true, lt-leb, eq-eqb, eqb-true}
 use lib.Dec.{leb, eqb}
 use lib.ListN.{length, getD}
-use Rattle.rules.specs.Choice.{given, need, on}
+use Rattle.rules.specs.Choice.{need, on}
 use Rattle.rules.specs.Refusals.{Said, says, refuses, inLine, andThen}
-use Rattle.rules.specs.Layouts.{emptyLayout, firstStart, allowed}
-use Rattle.rules.specs.Lines.{kindOf, aLine, dateLine, hLine, layoutLine, headLine, pointLine, dLine, eLine, fLine, bLine, kLine, lLine, gLine, otherLine}
-use Rattle.rules.specs.Split.{Lines, end, broken, line}
-use Rattle.rules.specs.Order.{leading, afterG, stageAfter, isC, isKind, fitsDeclaration, orderOf, moved, dated, withFixes, withNotes, counted, begun, pointed, clocked, passing, isBack, timed, ruled, judge}
+use Rattle.rules.specs.Layouts.{firstStart, allowed}
+use Rattle.rules.specs.Lines.{kindOf, layoutLine, headLine, pointLine, dLine, eLine, fLine, bLine, kLine, lLine, gLine, otherLine}
+use Rattle.rules.specs.Split.{Lines, line}
+use Rattle.rules.specs.Order.{leading, afterG, stageAfter, isC, isKind, fitsDeclaration, orderOf, moved, withFixes, withNotes, counted, begun, pointed, clocked, passing, isBack, timed, ruled, judge}
 use Rattle.rules.specs.Files.{run}
 use Rattle.rules.specs.Reads.{layoutLetter, fixSaid, noteSaid, layoutSaid}
 use Rattle.rules.specs.declared.Layout.{Layout}
 use Rattle.rules.specs.declared.Family.{Family}
-use Rattle.rules.specs.declared.Family.the-variants as family
 use Rattle.rules.specs.declared.Fix.{Fix}
 use Rattle.rules.specs.declared.Kind.{Kind}
 use Rattle.rules.specs.declared.Kind.the-variants as kind

@@ -1,5 +1,5 @@
 -- What added columns leave as it is, whatever a file says: the lines without columns; how many lines there are more; the old bits of the presence word. Assumes nothing.
-use Prim.Native.Nat.{ℕ, zero, suc, _+_, _-_, _*_, _^_}
+use Prim.Native.Nat.{ℕ, suc, _+_, _-_, _*_, _^_}
 use mathlib.Core.Bool.{Bool, true, false, not, _&&_, cond}
 use mathlib.Core.List.{List, [], _∷_}
 use mathlib.Core.Option.{Option, none, some}
@@ -9,16 +9,14 @@ use borrow.Author.Tests.{eqb-true}
 use lib.Dec.{eqb}
 use lib.ListN.{length, getD, take}
 use lib.Seq.{getD-take}
-use Rattle.rules.specs.Choice.{given, firstOf}
-use Rattle.rules.specs.Refusals.{says}
+use Rattle.rules.specs.Choice.{given}
 use Rattle.rules.specs.Listed.{listed}
-use Rattle.rules.specs.Layouts.{Span, entriesOf, spanOf, look, carries, bit, wordFrom, presenceOf, presenceSaid, allowed}
+use Rattle.rules.specs.Layouts.{Span, entriesOf, spanOf, look, carries, wordFrom, presenceOf, presenceSaid}
 use Rattle.rules.specs.Lines.{kindOf}
 use Rattle.rules.specs.Split.{Lines, end, broken, line}
 use Rattle.rules.specs.declared.Entry.{Entry}
 use Rattle.rules.specs.declared.Layout.{Layout}
 use Rattle.rules.specs.declared.Listed.{Listed}
-use Rattle.rules.specs.declared.Family.{Family}
 use Rattle.rules.specs.declared.Family.the-variants as family
 use Rattle.rules.specs.declared.Kind.{Kind}
 use Rattle.rules.specs.declared.Kind.the-variants as kind

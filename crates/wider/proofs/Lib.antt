@@ -6,3 +6,5 @@ pub mod Simulated
 pub mod Kept
 pub mod WholeFile
 pub mod Demand
+pub mod Instances
+pub mod NotWider

@@ -1,19 +1,18 @@
 -- The lines of a file with added columns pass one after the other, as the old lines did, and its B lines and K lines read as before. Assumes nothing.
-use Prim.Native.Nat.{ℕ, zero, suc, _+_, _≤_, _<_}
+use Prim.Native.Nat.{ℕ, _+_, _≤_}
 use Prim.Native.Char.{code}
 use mathlib.Core.Bool.{Bool, true, false, cond}
-use mathlib.Core.List.{List, [], _∷_}
-use mathlib.Core.Option.{Option, none, some}
+use mathlib.Core.List.{List}
 use mathlib.Core.Path.{_≡_, refl, sym, ap, subst, _∙_}
 use native.Mathlib.Omega.{arith}
 use borrow.Author.Tests.{leb-true}
 use lib.Dec.{leb, eqb}
 use lib.ListN.{length, getD}
 use Rattle.rules.specs.Refusals.{says, andThen}
-use Rattle.rules.specs.Layouts.{emptyLayout, allowed}
-use Rattle.rules.specs.Lines.{kindOf, aLine, dateLine, hLine, layoutLine}
+use Rattle.rules.specs.Layouts.{emptyLayout}
+use Rattle.rules.specs.Lines.{kindOf, aLine, dateLine, hLine}
 use Rattle.rules.specs.Split.{Lines, end, broken, line}
-use Rattle.rules.specs.Order.{afterG, stageAfter, orderOf, moved, dated, withFixes, withNotes, ruled, judge, start}
+use Rattle.rules.specs.Order.{afterG, stageAfter, moved, dated, withFixes, withNotes, ruled, judge, start}
 use Rattle.rules.specs.Files.{finish, run}
 use Rattle.rules.specs.Reads.{fixSaid, noteSaid}
 use Rattle.rules.specs.declared.Layout.{Layout}
