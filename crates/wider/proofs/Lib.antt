@@ -2,6 +2,7 @@ pub mod Lists
 pub mod Placed
 pub mod OneLine
 pub mod Judged
+pub mod Changing
 pub mod Simulated
 pub mod Kept
 pub mod WholeFile
