@@ -1,16 +1,23 @@
 // Each kind of line, without its CR LF, by the checks 7 to 13 in their order: what the line says, or the first refusal, with 0 for the line number.
 ghost use mathlib.Core.Path.{_≡_};
-ghost use Rattle.rules.specs.Lines.{isDateMark, plannedAt, headFields, fixFields};
+ghost use Prim.Native.Nat.{_-_, _%_};
+ghost use lib.Dec.{eqb};
+ghost use lib.ListN.{length, drop};
+ghost use Rattle.rules.specs.Lines.{isDateMark, plannedAt, headFields, badPair, fixFields, shapedBy};
+ghost use Rattle.rules.specs.Layouts.{columns};
+ghost use Rattle.rules.specs.Refusals.{outcomeTold, andThen, says};
 ghost use Rattle.rules.specs.Reads.{headTold, fixTold};
-ghost use Rattle.rules.specs.Promises.{RecorderChecked, DateLineChecked, HeaderChecked, HeadChecked, PointChecked, DifferentialChecked, EventChecked};
+ghost use Rattle.rules.specs.Promises.{RecorderChecked, DateLineChecked, HeaderChecked, HeadChecked, PointChecked, DifferentialChecked, EventChecked, SatellitesChecked, FixChecked, NoteChecked, foundTold};
 ghost use Rattle.line.specs.Parts.{plannedTold};
 use rules::Altitude;
 use rules::DateRead;
 use rules::Day;
 use rules::Fix;
 use rules::FixRead;
+use rules::Found;
 use rules::Head;
 use rules::HeadRead;
+use rules::Layout;
 use rules::Number;
 use rules::Outcome;
 use rules::Place;
@@ -317,4 +324,117 @@ fn fix_fields(line: &[u8]) -> FixRead
         pressure,
         gnss,
     })
+}
+
+// Whether the bytes behind the time of an F line make whole pairs.
+fn is_paired(line: &[u8]) -> bool
+    ensures { λ r. ⌜ r ≡ eqb ((length (now (line .entry)) - 7) % 2) 0 ⌝ }
+{
+    if line.len() < 7 {
+        return true;
+    }
+    (line.len() - 7) % 2 == 0
+}
+
+// How many bytes stand before the first pair of an F line that is not two code characters.
+fn bad_pair(line: &[u8]) -> Found
+    ensures { λ r. ⌜ foundTold r ≡ badPair 7 (drop 7 (now (line .entry))) ⌝ }
+{
+    let mut i = 7;
+    while i < line.len() {
+        let j = i + 1;
+        if line.len() <= j {
+            return Found::Nothing;
+        }
+        if !chars::is_code(line[i]) {
+            return Found::At(i);
+        }
+        if !chars::is_code(line[j]) {
+            return Found::At(i);
+        }
+        i += 2;
+    }
+    Found::Nothing
+}
+
+// An F line: its time, then pairs of code characters, perhaps none. Refusals: LENGTH, CHARACTER, FORM at 2, at 8 for an odd half pair, or at a pair.
+pub fn satellites(line: &[u8]) -> TimeRead
+    ensures { λ r. ⌜ SatellitesChecked (now (line .entry)) r ⌝ }
+{
+    if let Outcome::Refused(r) = shape::shaped(line, 7, 255, false) {
+        return TimeRead::Refused(r);
+    }
+    let Time::Secs(t) = field::time_at(line, 1) else {
+        return TimeRead::Refused(Refusal {
+            reason: Reason::Form,
+            line: 0,
+            byte: 2,
+        });
+    };
+    if !is_paired(line) {
+        return TimeRead::Refused(Refusal {
+            reason: Reason::Form,
+            line: 0,
+            byte: 8,
+        });
+    }
+    if let Found::At(i) = bad_pair(line) {
+        return TimeRead::Refused(Refusal {
+            reason: Reason::Form,
+            line: 0,
+            byte: (i + 1) as u32,
+        });
+    }
+    TimeRead::Secs(t)
+}
+
+// The length that a layout gives, then the characters.
+fn shaped_by(start: u8, layout: Layout, line: &[u8]) -> Outcome
+    ensures { λ r. ⌜ outcomeTold r ≡ shapedBy start layout (now (line .entry)) ⌝ }
+{
+    let n = column::line_length(start, layout);
+    shape::shaped(line, n, n, false)
+}
+
+// A fix whose line's columns keep their rules.
+fn with_columns(f: Fix, line: &[u8], layout: Layout) -> FixRead
+    ensures { λ r. ⌜ fixTold r ≡ andThen (columns (now (line .entry)) layout) (λ _. says f) ⌝ }
+{
+    if let Outcome::Refused(r) = column::columns(line, layout) {
+        return FixRead::Refused(r);
+    }
+    FixRead::Is(f)
+}
+
+// A B line by an I layout: its fix. Refusals: LENGTH, CHARACTER, FORM at 2, 8, 16, 25, 26 or 31, COLUMN. Defined for every layout value.
+pub fn fix_line(line: &[u8], layout: Layout) -> FixRead
+    ensures { λ r. ⌜ FixChecked (now (line .entry)) layout r ⌝ }
+{
+    if let Outcome::Refused(r) = shaped_by(36, layout, line) {
+        return FixRead::Refused(r);
+    }
+    match fix_fields(line) {
+        FixRead::Refused(r) => FixRead::Refused(r),
+        FixRead::Is(f) => with_columns(f, line, layout),
+    }
+}
+
+// A K line by a J layout: its time. Refusals: LENGTH, CHARACTER, FORM at 2, COLUMN. Defined for every layout value.
+pub fn note_line(line: &[u8], layout: Layout) -> TimeRead
+    ensures { λ r. ⌜ NoteChecked (now (line .entry)) layout r ⌝ }
+{
+    if let Outcome::Refused(r) = shaped_by(8, layout, line) {
+        return TimeRead::Refused(r);
+    }
+    let Time::Secs(t) = field::time_at(line, 1) else {
+        return TimeRead::Refused(Refusal {
+            reason: Reason::Form,
+            line: 0,
+            byte: 2,
+        });
+    };
+    if let Outcome::Refused(r) = column::columns(line, layout) {
+        return TimeRead::Refused(r);
+    }
+    TimeRead::Secs(t)
 }

@@ -8,10 +8,14 @@ use native.Mathlib.Omega.{arith}
 use borrow.Author.Tests.{leb-true}
 use lib.Dec.{leb}
 use lib.ListN.{length}
-use Rattle.rules.specs.Choice.{firstOf}
-use Rattle.rules.specs.Chars.{isValid, firstInvalid}
-use Rattle.rules.specs.Lines.{isSized}
+use Rattle.rules.specs.Choice.{firstOf, need}
+use Rattle.rules.specs.Refusals.{Said, says, no, outcomeTold}
+use Rattle.rules.specs.Chars.{isValid, firstInvalid, characters}
+use Rattle.rules.specs.Lines.{isSized, shaped}
 use Rattle.rules.specs.Promises.{foundTold}
+use Rattle.rules.specs.declared.Outcome.{Outcome}
+use Rattle.rules.specs.declared.Outcome.the-variants.{Accepted}
+use Rattle.rules.specs.declared.Reason.the-variants.{Length}
 use Rattle.rules.specs.declared.Found.{Found}
 use Rattle.rules.specs.declared.Found.the-variants.{At}
 
@@ -28,7 +32,7 @@ and-right : (a b : Bool) → (a && b) ≡ true → b ≡ true
 and-right true b e = e
 and-right false b e = cc
 
-sized-most : (least most : ℕ) (l : List ℕ) → isSized least most l ≡ true → length l ≤ most
+pub sized-most : (least most : ℕ) (l : List ℕ) → isSized least most l ≡ true → length l ≤ most
 unfolding isSized
 sized-most least most l e = leb-true (length l) most (and-right (leb least (length l)) (leb (length l) most) e)
 
@@ -39,3 +43,12 @@ module _ (inH : Bool) (least most : ℕ) (l : List ℕ) (i : ℕ) (r : Found) (t
   byte-within =
       let f : firstInvalid inH l ≡ some i = rw (← e, g) in
       omega (arith, first-below (λ b. not (isValid inH b)) l 0 i f, sized-most least most l (sym s ∙ h))
+
+-- a line that was accepted is of its size: r is what its check answered
+pub accepted-most : (least most : ℕ) (inH : Bool) (l : List ℕ) (r : Outcome) → outcomeTold r ≡ shaped least most inH l → r ≡ Accepted → length l ≤ most
+unfolding shaped outcomeTold
+accepted-most least most inH l r e g = by (isSized least most l) refl (rw g at e)
+  where
+    by : (t : Bool) → isSized least most l ≡ t → says tt ≡ need t (no Length 0) (λ _. characters inH l) → length l ≤ most
+    by true s k = sized-most least most l s
+    by false s k = let z : _≡_ {A = ℕ} 0 1 = cc in omega arith
