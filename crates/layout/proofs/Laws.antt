@@ -7,8 +7,8 @@ use mathlib.Core.Path.{_≡_, refl, sym, _∙_, ap}
 use native.Mathlib.Omega.{arith}
 use borrow.Author.Tests.{leb-true, le-leb, lt-leb, eq-eqb, ne-eqb, not-true, not-false}
 use lib.Dec.{leb, eqb}
-use lib.ListN.{length, getD, take, drop, length-drop, length-map}
-use lib.Seq.{take-all}
+use lib.ListN.{length, getD, take, drop, drop-of-length-le, length-drop, length-map}
+use lib.Seq.{take-all, take-nil}
 use Rattle.rules.specs.Choice.{given, need, firstOf}
 use Rattle.rules.specs.Refusals.{Said, says, no, outcomeTold}
 use Rattle.rules.specs.Chars.{isDigit, isCode, isValid, firstInvalid, characters}
@@ -54,6 +54,17 @@ module _ (n : ℕ) (row : Listed) (x : Bool) (e : row ≡ getD listed n unlisted
 -- a part of a slice from a place to its end
 pub rest : {A : Type 0} (a : ℕ) (l : List A) → take (length l - a) (drop a l) ≡ drop a l
 rest a l = take-all (length l - a) (drop a l) (simp length-drop (omega arith))
+
+-- a part that begins past its end or the slice's, or ends past the slice's
+module _ {A : Type 0} (a e : ℕ) (l : List A) where
+  pub part-none : e ≤ a → [] ≡ take (e - a) (drop a l)
+  part-none h = let z : e - a ≡ 0 = omega arith in rw z
+
+  pub part-past : length l ≤ a → [] ≡ take (e - a) (drop a l)
+  part-past h = rw (drop-of-length-le l {i = a} h, take-nil)
+
+  pub part-long : length l ≤ e → take (length l - a) (drop a l) ≡ take (e - a) (drop a l)
+  part-long h = rest a l ∙ sym (take-all (e - a) (drop a l) (simp length-drop (omega arith)))
 
 pub digits-rest : (a : ℕ) (t : List ℕ) (r : Bool) → r ≡ isDigits (take (length t - a) (drop a t)) → r ≡ isDigits (drop a t)
 digits-rest a t r e = e ∙ ap isDigits (rest a t)

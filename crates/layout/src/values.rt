@@ -1,20 +1,31 @@
 // A layout as a value: whether a line can tell it, and what it says of a line's length and columns.
 ghost use Prim.Native.Nat.{_-_, _≤_};
 ghost use mathlib.Core.Path.{_≡_};
-ghost use lib.ListN.{drop};
+ghost use lib.ListN.{drop, getD};
 ghost use Rattle.rules.specs.Choice.{leads};
-ghost use Rattle.rules.specs.Listed.{isCodeWord};
-ghost use Rattle.rules.specs.Layouts.{entriesOf, emptyLayout, isSpelt, isUnused, allPlaced};
-ghost use Rattle.rules.specs.Promises.{AllowedTest};
+ghost use Rattle.rules.specs.Listed.{isCodeWord, listed, unlisted};
+ghost use Rattle.rules.specs.Layouts.{firstStart, entriesOf, emptyLayout, isSpelt, isUnused, allPlaced, lineLength, bit, wordFrom};
+ghost use Rattle.rules.specs.Promises.{AllowedTest, LengthGiven, LookGiven, PresenceGiven};
 ghost use Rattle.layout.specs.Parts.{Follows};
 use crate::entries::EntryRead;
+use crate::entries::Spot;
+use crate::entries::carries;
 use crate::entries::empty_layout;
+use crate::entries::look;
 use crate::entries::placed;
 use crate::entries::with_entry;
 use crate::reading::first_start;
+use crate::table::listed_at;
+use crate::table::pack;
+use rules::ColumnRead;
 use rules::Entry;
 use rules::Family;
 use rules::Layout;
+use rules::LengthRead;
+use rules::Presence;
+use rules::PresenceRead;
+use rules::Reason;
+use rules::Refusal;
 
 // Whether three code characters make this number.
 pub fn is_code_word(code: u32) -> bool
@@ -117,4 +128,95 @@ pub fn allowed(family: Family, l: Layout) -> bool
         return false;
     }
     rest_unused(l)
+}
+
+// How many bytes a line of the family has by a layout, allowed or not: up to the last column's last byte, or where there is none, 35 for B and 7 for K.
+pub fn line_length(family: Family, l: Layout) -> u8
+    ensures { λ r. ⌜ r ≡ lineLength (firstStart family) l ⌝ }
+{
+    let n = l.count;
+    if n == 0 {
+        return match family {
+            Family::B => 35,
+            Family::K => 7,
+        };
+    }
+    if 13 < n {
+        return 0;
+    }
+    l.entries[n - 1].last
+}
+
+// How many bytes a line of the family has by a layout. 17 where the layout is not allowed.
+pub fn length(family: Family, l: Layout) -> LengthRead
+    ensures { λ r. ⌜ LengthGiven family l r ⌝ }
+{
+    if !allowed(family, l) {
+        return LengthRead::Refused(Refusal {
+            reason: Reason::BadValue,
+            line: 0,
+            byte: 0,
+        });
+    }
+    LengthRead::Bytes(line_length(family, l) as usize)
+}
+
+// Where the column of a code stands, its first and last byte counted from 1. 17 where the layout is not allowed; 19 where it has no such code.
+pub fn look_up(family: Family, l: Layout, code: [u8; 3]) -> ColumnRead
+    ensures { λ r. ⌜ LookGiven family l code r ⌝ }
+{
+    if !allowed(family, l) {
+        return ColumnRead::Refused(Refusal {
+            reason: Reason::BadValue,
+            line: 0,
+            byte: 0,
+        });
+    }
+    let Spot::At(first, last) = look(l, pack(code[0], code[1], code[2])) else {
+        return ColumnRead::Refused(Refusal {
+            reason: Reason::Absent,
+            line: 0,
+            byte: 0,
+        });
+    };
+    ColumnRead::Between(first, last)
+}
+
+// 1 where the layout carries the listed code of the number n, else 0.
+pub fn bit_of(l: Layout, n: usize) -> u32
+    ensures { λ r. ⌜ r ≡ bit l (getD listed n unlisted) ⌝ }
+{
+    let row = listed_at(n);
+    if carries(l, row.code) { 1 } else { 0 }
+}
+
+// The listed codes that a layout carries, as one word: bit n for the number n.
+pub fn word(l: Layout) -> u32
+    ensures { λ r. ⌜ r ≡ wordFrom l listed 0 ⌝ }
+{
+    let mut word: u32 = 0;
+    let mut n: usize = 15;
+    while 0 < n {
+        n -= 1;
+        word = word * 2 + bit_of(l, n);
+    }
+    word
+}
+
+// Which listed codes the layout of an I line carries, and how many. 17 where the layout is not allowed for B lines.
+pub fn presence(l: Layout) -> PresenceRead
+    ensures { λ r. ⌜ PresenceGiven l r ⌝ }
+{
+    if !allowed(Family::B, l) {
+        return PresenceRead::Refused(Refusal {
+            reason: Reason::BadValue,
+            line: 0,
+            byte: 0,
+        });
+    }
+    let word = word(l);
+    PresenceRead::Carries(Presence {
+        word,
+        count: u32::count_ones(word),
+    })
 }
