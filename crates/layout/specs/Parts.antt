@@ -4,15 +4,17 @@ use mathlib.Core.Bool.{Bool, _&&_}
 use mathlib.Core.List.{List}
 use mathlib.Core.Option.{Option, none, some}
 use mathlib.Core.Path.{_≡_}
-use Rattle.rules.specs.Choice.{part, byte}
-use Rattle.rules.specs.Listed.{codeAt, listedNumber}
+use Rattle.rules.specs.Choice.{given, part, byte}
+use Rattle.rules.specs.Listed.{packedOf, codeAt, listedNumber}
 use Rattle.rules.specs.Promises.{foundTold}
-use Rattle.rules.specs.Refusals.{Said, says, refusal, outcomeTold}
-use Rattle.rules.specs.Layouts.{Span, look, placed, entryAt, isSpelt, isSaid, columns}
+use Rattle.rules.specs.Refusals.{Said, says, no, refusal, outcomeTold}
+use Rattle.rules.specs.Layouts.{Span, look, placed, entryAt, isSpelt, isSaid, columns, columnTold}
+use Rattle.rules.specs.declared.Reason.the-variants.{Absent}
 use Rattle.rules.specs.declared.Outcome.{Outcome}
 use Rattle.rules.specs.declared.Found.{Found}
 use Rattle.rules.specs.declared.Entry.{Entry}
 use Rattle.rules.specs.declared.Layout.{Layout}
+use Rattle.rules.specs.declared.ColumnRead.{ColumnRead}
 use Rattle.layout.specs.declared.entries.Spot.{Spot}
 use Rattle.layout.specs.declared.entries.Spot.the-variants as spot
 use Rattle.layout.specs.declared.entries.EntryRead.{EntryRead}
@@ -62,3 +64,7 @@ ColumnCut l first last r = r ≡ part (byte first) last l
 -- the columns of a line by a layout
 abbrev pub ColumnsChecked : List ℕ → Layout → Outcome → Type 0
 ColumnsChecked l layout r = outcomeTold r ≡ columns l layout
+
+-- the column of a code by a layout, allowed or not
+abbrev pub ColumnFound : Layout → List ℕ → ColumnRead → Type 0
+ColumnFound l name r = columnTold r ≡ given (look l (packedOf name)) (no Absent 0) λ s. says s

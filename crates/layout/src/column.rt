@@ -13,7 +13,7 @@ use rules::Reason;
 use rules::Refusal;
 
 // How many bytes stand before a byte, counted from 1.
-pub fn before(first: u8) -> usize
+fn before(first: u8) -> usize
     ensures { λ r. ⌜ r ≡ byte first ⌝ }
 {
     if first == 0 {
@@ -41,7 +41,7 @@ pub fn column_text<'a>(line: &'a [u8], first: u8, last: u8) -> &'a [u8]
 }
 
 // Whether the column of an entry keeps the rule of its code.
-pub fn column_kept(line: &[u8], e: Entry) -> bool
+fn column_kept(line: &[u8], e: Entry) -> bool
     ensures { λ r. ⌜ r ≡ keepsRule (e .code) (part (byte (e .first)) (e .last) (now (line .entry))) ⌝ }
 {
     keeps_rule(e.code, column_text(line, e.first, e.last))

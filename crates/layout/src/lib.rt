@@ -7,12 +7,14 @@ mod values;
 
 pub use column::column_text;
 pub use column::columns;
+pub use entries::empty_layout;
 pub use reading::first_start;
 pub use reading::layout_line;
 pub use reading::shaped;
 pub use table::keeps_rule;
 pub use table::listed_at;
 pub use values::allowed;
+pub use values::find;
 pub use values::length;
 pub use values::line_length;
 pub use values::look_up;

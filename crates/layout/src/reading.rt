@@ -30,7 +30,7 @@ pub enum Letters {
 }
 
 // The code at a place of a line. NoCode where not three code characters stand there.
-pub fn code_at(line: &[u8], at: usize) -> Letters
+fn code_at(line: &[u8], at: usize) -> Letters
     requires { ⌜ at ≤ 1000 ⌝ }
     ensures { λ r. ⌜ CodeRead (now (line .entry)) at r ⌝ }
 {
@@ -46,7 +46,7 @@ pub fn code_at(line: &[u8], at: usize) -> Letters
 
 // The entry that stands behind `at` bytes of a line, and has to start at `start` behind those of a layout. 9 at the first byte of SS, FF or CCC, whichever
 // breaks its rule first; then 10, 11 and 12 at the entry's first byte.
-pub fn entry_at(line: &[u8], at: usize, start: usize, before: Layout) -> EntryRead
+fn entry_at(line: &[u8], at: usize, start: usize, before: Layout) -> EntryRead
     requires { ⌜ at ≤ 900 ⌝ }
     ensures { λ r. ⌜ EntryGiven (now (line .entry)) at start before r ⌝ }
 {
@@ -65,7 +65,7 @@ pub fn entry_at(line: &[u8], at: usize, start: usize, before: Layout) -> EntryRe
 }
 
 // No layout: the refusal, and the empty layout beside it.
-pub fn refused(why: Refusal) -> LayoutRead
+fn refused(why: Refusal) -> LayoutRead
     ensures { λ r. ⌜ LayoutTold (refusal why) r ⌝ }
 {
     let layout = empty_layout();
@@ -76,7 +76,7 @@ pub fn refused(why: Refusal) -> LayoutRead
 }
 
 // The entries of a line, `count` of them, the first of which has to start at `origin`.
-pub fn entries(line: &[u8], count: usize, origin: usize) -> LayoutRead
+fn entries(line: &[u8], count: usize, origin: usize) -> LayoutRead
     requires { ⌜ count ≤ 13 ⌝ }
     ensures { λ r. ⌜ LayoutTold (entriesFrom count (now (line .entry)) 3 origin emptyLayout) r ⌝ }
 {
@@ -102,7 +102,7 @@ pub fn entries(line: &[u8], count: usize, origin: usize) -> LayoutRead
 }
 
 // NN and the length against it, 9 at byte 2; then the entries from the left.
-pub fn fields(start: usize, line: &[u8]) -> LayoutRead
+fn fields(start: usize, line: &[u8]) -> LayoutRead
     requires { ⌜ length (now line) ≤ 99 ⌝ }
     ensures { λ r. ⌜ LayoutTold (layoutFields start (now (line .entry))) r ⌝ }
 {

@@ -6,7 +6,7 @@ ghost use Rattle.rules.specs.Choice.{leads};
 ghost use Rattle.rules.specs.Listed.{isCodeWord, listed, unlisted};
 ghost use Rattle.rules.specs.Layouts.{firstStart, entriesOf, emptyLayout, isSpelt, isUnused, allPlaced, lineLength, bit, wordFrom};
 ghost use Rattle.rules.specs.Promises.{AllowedTest, LengthGiven, LookGiven, PresenceGiven};
-ghost use Rattle.layout.specs.Parts.{Follows};
+ghost use Rattle.layout.specs.Parts.{Follows, ColumnFound};
 use crate::entries::EntryRead;
 use crate::entries::Spot;
 use crate::entries::carries;
@@ -28,7 +28,7 @@ use rules::Reason;
 use rules::Refusal;
 
 // Whether three code characters make this number.
-pub fn is_code_word(code: u32) -> bool
+fn is_code_word(code: u32) -> bool
     ensures { λ r. ⌜ r ≡ isCodeWord code ⌝ }
 {
     let a = code / 65536;
@@ -45,7 +45,7 @@ pub fn is_code_word(code: u32) -> bool
 }
 
 // Whether two digits each and three code characters can spell the entry.
-pub fn is_spelt(e: Entry) -> bool
+fn is_spelt(e: Entry) -> bool
     ensures { λ r. ⌜ r ≡ isSpelt e ⌝ }
 {
     if 99 < e.last {
@@ -55,7 +55,7 @@ pub fn is_spelt(e: Entry) -> bool
 }
 
 // Whether a line can tell the entry at `start`, behind those of a layout.
-pub fn follows(start: usize, before: Layout, e: Entry) -> bool
+fn follows(start: usize, before: Layout, e: Entry) -> bool
     ensures { λ r. ⌜ Follows start before e r ⌝ }
 {
     if !is_spelt(e) {
@@ -68,7 +68,7 @@ pub fn follows(start: usize, before: Layout, e: Entry) -> bool
 }
 
 // Whether each entry follows those before it, the first one at `origin`.
-pub fn all_placed(l: Layout, origin: usize) -> bool
+fn all_placed(l: Layout, origin: usize) -> bool
     requires { ⌜ l .count ≤ 13 ⌝ }
     ensures { λ r. ⌜ r ≡ allPlaced (entriesOf l) origin emptyLayout ⌝ }
 {
@@ -89,7 +89,7 @@ pub fn all_placed(l: Layout, origin: usize) -> bool
 }
 
 // Whether an entry is all zero.
-pub fn is_unused(e: Entry) -> bool
+fn is_unused(e: Entry) -> bool
     ensures { λ r. ⌜ r ≡ isUnused e ⌝ }
 {
     if e.first != 0 {
@@ -102,7 +102,7 @@ pub fn is_unused(e: Entry) -> bool
 }
 
 // Whether the entries behind those that count are all zero.
-pub fn rest_unused(l: Layout) -> bool
+fn rest_unused(l: Layout) -> bool
     requires { ⌜ l .count ≤ 13 ⌝ }
     ensures { λ r. ⌜ r ≡ leads isUnused (13 - l .count) (drop (l .count) (l .entries)) ⌝ }
 {
@@ -161,17 +161,10 @@ pub fn length(family: Family, l: Layout) -> LengthRead
     LengthRead::Bytes(line_length(family, l) as usize)
 }
 
-// Where the column of a code stands, its first and last byte counted from 1. 17 where the layout is not allowed; 19 where it has no such code.
-pub fn look_up(family: Family, l: Layout, code: [u8; 3]) -> ColumnRead
-    ensures { λ r. ⌜ LookGiven family l code r ⌝ }
+// Where the column of a code stands by a layout, allowed or not: its first and last byte, counted from 1. 19 where it has no such code.
+pub fn find(l: Layout, code: [u8; 3]) -> ColumnRead
+    ensures { λ r. ⌜ ColumnFound l code r ⌝ }
 {
-    if !allowed(family, l) {
-        return ColumnRead::Refused(Refusal {
-            reason: Reason::BadValue,
-            line: 0,
-            byte: 0,
-        });
-    }
     let Spot::At(first, last) = look(l, pack(code[0], code[1], code[2])) else {
         return ColumnRead::Refused(Refusal {
             reason: Reason::Absent,
@@ -182,8 +175,22 @@ pub fn look_up(family: Family, l: Layout, code: [u8; 3]) -> ColumnRead
     ColumnRead::Between(first, last)
 }
 
+// Where the column of a code stands by a layout: its first and last byte, counted from 1. 17 where the layout is not allowed; 19 where it has no such code.
+pub fn look_up(family: Family, l: Layout, code: [u8; 3]) -> ColumnRead
+    ensures { λ r. ⌜ LookGiven family l code r ⌝ }
+{
+    if !allowed(family, l) {
+        return ColumnRead::Refused(Refusal {
+            reason: Reason::BadValue,
+            line: 0,
+            byte: 0,
+        });
+    }
+    find(l, code)
+}
+
 // 1 where the layout carries the listed code of the number n, else 0.
-pub fn bit_of(l: Layout, n: usize) -> u32
+fn bit_of(l: Layout, n: usize) -> u32
     ensures { λ r. ⌜ r ≡ bit l (getD listed n unlisted) ⌝ }
 {
     let row = listed_at(n);
@@ -191,7 +198,7 @@ pub fn bit_of(l: Layout, n: usize) -> u32
 }
 
 // The listed codes that a layout carries, as one word: bit n for the number n.
-pub fn word(l: Layout) -> u32
+fn word(l: Layout) -> u32
     ensures { λ r. ⌜ r ≡ wordFrom l listed 0 ⌝ }
 {
     let mut word: u32 = 0;
