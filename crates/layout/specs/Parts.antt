@@ -4,13 +4,12 @@ use mathlib.Core.Bool.{Bool, _&&_}
 use mathlib.Core.List.{List}
 use mathlib.Core.Option.{Option, none, some}
 use mathlib.Core.Path.{_≡_}
-use Rattle.rules.specs.Choice.{given, part, byte}
+use Rattle.rules.specs.Choice.{given}
 use Rattle.rules.specs.Listed.{packedOf, codeAt, listedNumber}
 use Rattle.rules.specs.Promises.{foundTold}
-use Rattle.rules.specs.Refusals.{Said, says, no, refusal, outcomeTold}
-use Rattle.rules.specs.Layouts.{Span, look, placed, entryAt, isSpelt, isSaid, columns, columnTold}
+use Rattle.rules.specs.Refusals.{Said, says, no, refusal}
+use Rattle.rules.specs.Layouts.{Span, look, placed, entryAt, isSpelt, isSaid, columnTold}
 use Rattle.rules.specs.declared.Reason.the-variants.{Absent}
-use Rattle.rules.specs.declared.Outcome.{Outcome}
 use Rattle.rules.specs.declared.Found.{Found}
 use Rattle.rules.specs.declared.Entry.{Entry}
 use Rattle.rules.specs.declared.Layout.{Layout}
@@ -56,14 +55,6 @@ EntryGiven l at start before r = entryTold r ≡ entryAt l at start before
 -- whether a line can tell an entry behind others
 abbrev pub Follows : ℕ → Layout → Entry → Bool → Type 0
 Follows start before e r = r ≡ (isSpelt e && isSaid (placed start before e 0))
-
--- the bytes of a line from the first to the last place of a column
-abbrev pub ColumnCut : List ℕ → ℕ → ℕ → List ℕ → Type 0
-ColumnCut l first last r = r ≡ part (byte first) last l
-
--- the columns of a line by a layout
-abbrev pub ColumnsChecked : List ℕ → Layout → Outcome → Type 0
-ColumnsChecked l layout r = outcomeTold r ≡ columns l layout
 
 -- the column of a code by a layout, allowed or not
 abbrev pub ColumnFound : Layout → List ℕ → ColumnRead → Type 0

@@ -48,7 +48,7 @@ pub(crate) fn with_entry(l: Layout, e: Entry) -> Layout
 }
 
 // Where the column of a code stands. Nowhere, where no entry has the code.
-pub(crate) fn look(l: Layout, code: u32) -> Spot
+pub fn look(l: Layout, code: u32) -> Spot
     ensures { λ r. ⌜ SpotFound l code r ⌝ }
 {
     let n = l.count;

@@ -3,9 +3,9 @@ ghost use Prim.Native.Nat.{_+_, _*_, _≤_};
 ghost use mathlib.Core.Bool.{false};
 ghost use mathlib.Core.Path.{_≡_};
 ghost use lib.ListN.{length};
-ghost use Rattle.rules.specs.Refusals.{refusal, no};
+ghost use Rattle.rules.specs.Refusals.{refusal};
 ghost use Rattle.rules.specs.Layouts.{LayoutTold, firstStart, emptyLayout, entriesFrom, layoutFields};
-ghost use Rattle.rules.specs.Promises.{ShapeChecked, LayoutChecked};
+ghost use Rattle.rules.specs.Promises.{LayoutChecked};
 ghost use Rattle.layout.specs.Parts.{CodeRead, EntryGiven};
 use crate::entries::EntryRead;
 use crate::entries::empty_layout;
@@ -15,7 +15,6 @@ use crate::entries::with_entry;
 use crate::table::pack;
 use rules::Entry;
 use rules::Family;
-use rules::Found;
 use rules::Layout;
 use rules::LayoutRead;
 use rules::Number;
@@ -65,7 +64,7 @@ fn entry_at(line: &[u8], at: usize, start: usize, before: Layout) -> EntryRead
 }
 
 // No layout: the refusal, and the empty layout beside it.
-fn refused(why: Refusal) -> LayoutRead
+pub fn refused(why: Refusal) -> LayoutRead
     ensures { λ r. ⌜ LayoutTold (refusal why) r ⌝ }
 {
     let layout = empty_layout();
@@ -120,31 +119,6 @@ fn fields(start: usize, line: &[u8]) -> LayoutRead
     entries(line, nn as usize, start)
 }
 
-// The shape of a line: 7 at byte 0 where its length is outside least to most, then 8 at its first invalid byte. In an H line a comma is valid.
-pub fn shaped(line: &[u8], least: u8, most: u8, in_h: bool) -> Outcome
-    ensures { λ r. ⌜ ShapeChecked least most «in_h» (now (line .entry)) r ⌝ }
-{
-    let wrong = Refusal {
-        reason: Reason::Length,
-        line: 0,
-        byte: 0,
-    };
-    if line.len() < least as usize {
-        return Outcome::Refused(wrong);
-    }
-    if (most as usize) < line.len() {
-        return Outcome::Refused(wrong);
-    }
-    let Found::At(i) = chars::first_invalid(in_h, line) else {
-        return Outcome::Accepted;
-    };
-    Outcome::Refused(Refusal {
-        reason: Reason::Character,
-        line: 0,
-        byte: i as u32 + 1,
-    })
-}
-
 // Where the first column of a family starts: byte 36 of a B line, byte 8 of a K line.
 pub fn first_start(family: Family) -> usize
     ensures { λ r. ⌜ r ≡ firstStart family ⌝ }
@@ -160,7 +134,7 @@ pub fn first_start(family: Family) -> usize
 pub fn layout_line(family: Family, line: &[u8]) -> LayoutRead
     ensures { λ r. ⌜ LayoutChecked family (now (line .entry)) r ⌝ }
 {
-    match shaped(line, 3, 99, false) {
+    match shape::shaped(line, 3, 99, false) {
         Outcome::Accepted => fields(first_start(family), line),
         Outcome::Refused(why) => refused(why),
     }

@@ -28,7 +28,7 @@ const TABLE: [Row; 15] = [
 ];
 
 // The three characters of a code as one number.
-pub(crate) fn pack(a: u8, b: u8, c: u8) -> u32
+pub fn pack(a: u8, b: u8, c: u8) -> u32
     ensures { λ r. ⌜ r ≡ packed a b c ⌝ }
 {
     (a as u32) * 65536 + (b as u32) * 256 + (c as u32)

@@ -162,7 +162,7 @@ pub fn length(family: Family, l: Layout) -> LengthRead
 }
 
 // Where the column of a code stands by a layout, allowed or not: its first and last byte, counted from 1. 19 where it has no such code.
-pub fn find(l: Layout, code: [u8; 3]) -> ColumnRead
+fn find(l: Layout, code: [u8; 3]) -> ColumnRead
     ensures { λ r. ⌜ ColumnFound l code r ⌝ }
 {
     let Spot::At(first, last) = look(l, pack(code[0], code[1], code[2])) else {
