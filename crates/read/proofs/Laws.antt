@@ -1,9 +1,11 @@
 -- What `search` puts the ways out of a reader together from, and what the text behind a line's fields is. Assumes nothing.
 use Prim.Native.Nat.{ℕ, _-_, _≤_}
+use mathlib.Core.Bool.{cond}
 use mathlib.Core.List.{List, []}
 use mathlib.Core.Path.{_≡_, refl, sym, _∙_}
 use native.Mathlib.Omega.{arith}
-use borrow.Author.Tests.{eq-eqb, ne-eqb}
+use borrow.Author.Tests.{eq-eqb, ne-eqb, not-true, not-false}
+use Rattle.rules.proofs.Links.{need-true, need-false, fix-is, fix-refused, timed-secs, timed-refused}
 use lib.Dec.{eqb}
 use lib.ListN.{length, take, drop, length-drop, drop-of-length-le}
 use lib.Seq.{take-all}
@@ -25,7 +27,17 @@ kind-is m n r x a f e h k = rw (eq-eqb m n (sym e ∙ h)) k
 pub kind-is-not : {A : Type 0} (m n r : ℕ) (x a : A) (f : Unit {0} → A) → r ≡ m → (r ≡ n → ⊥) → x ≡ a → x ≡ need (eqb m n) a f
 kind-is-not m n r x a f e h k = rw (ne-eqb m n (λ q. h (e ∙ q))) k
 
+pub first-is : {A : Type 0} (m n r : ℕ) (x a b : A) → r ≡ m → r ≡ n → x ≡ a → x ≡ cond (eqb m n) a b
+first-is m n r x a b e h k = rw (eq-eqb m n (sym e ∙ h)) k
+
+pub first-is-not : {A : Type 0} (m n r : ℕ) (x a b : A) → r ≡ m → (r ≡ n → ⊥) → x ≡ b → x ≡ cond (eqb m n) a b
+first-is-not m n r x a b e h k = rw (ne-eqb m n (λ q. h (e ∙ q))) k
+
 pub ruleset kinds = (kind-is, kind-is-not)
+
+pub ruleset either = (first-is, first-is-not, fix-is, fix-refused, timed-secs, timed-refused)
+
+pub ruleset laid = (kinds, need-true, need-false, not-true, not-false)
 
 -- the part from n on is all that stands there, and nothing does in a shorter line
 pub rest-part : (n : ℕ) (l : List ℕ) → take (length l - n) (drop n l) ≡ drop n l

@@ -1,7 +1,14 @@
 // The readers of a line, total on every line and every layout: 17 first, then the checks of its kind, then 19 and 20; with 0 for the line number.
-ghost use Rattle.rules.specs.Promises.{EventGiven, SatellitesGiven, DateGiven, HeadGiven, HeadRest, PointGiven, PointRest};
+ghost use mathlib.Core.Path.{_≡_};
+ghost use Rattle.rules.specs.Refusals.{outcomeTold};
+ghost use Rattle.rules.specs.Reads.{lineSaid};
+ghost use Rattle.rules.specs.Promises.{EventGiven, SatellitesGiven, DateGiven, HeadGiven, HeadRest, PointGiven, PointRest, FixGiven, NoteGiven};
 use rules::DateRead;
+use rules::Family;
+use rules::FixRead;
 use rules::HeadRead;
+use rules::Layout;
+use rules::Outcome;
 use rules::PointRead;
 use rules::Reason;
 use rules::Refusal;
@@ -101,4 +108,62 @@ pub fn point_rest(line: &[u8]) -> &[u8]
         return &line[0..0];
     }
     &line[18..]
+}
+
+// The fix of a B line by its I layout. BAD_VALUE for another kind or a layout that is not allowed; then what `line::fix_line` refuses.
+pub fn fix(line: &[u8], layout: Layout) -> FixRead
+    ensures { λ r. ⌜ FixGiven (now (line .entry)) layout r ⌝ }
+{
+    if chars::byte(line, 0) != b'B' {
+        return FixRead::Refused(Refusal {
+            reason: Reason::BadValue,
+            line: 0,
+            byte: 0,
+        });
+    }
+    if !layout::allowed(Family::B, layout) {
+        return FixRead::Refused(Refusal {
+            reason: Reason::BadValue,
+            line: 0,
+            byte: 0,
+        });
+    }
+    line::fix_line(line, layout)
+}
+
+// The time of a K line by its J layout. BAD_VALUE for another kind or a layout that is not allowed; then what `line::note_line` refuses.
+pub fn note(line: &[u8], layout: Layout) -> TimeRead
+    ensures { λ r. ⌜ NoteGiven (now (line .entry)) layout r ⌝ }
+{
+    if chars::byte(line, 0) != b'K' {
+        return TimeRead::Refused(Refusal {
+            reason: Reason::BadValue,
+            line: 0,
+            byte: 0,
+        });
+    }
+    if !layout::allowed(Family::K, layout) {
+        return TimeRead::Refused(Refusal {
+            reason: Reason::BadValue,
+            line: 0,
+            byte: 0,
+        });
+    }
+    line::note_line(line, layout)
+}
+
+// Whether a B or a K line is one that its layout allows. BAD_VALUE for another kind or layout; then what its check refuses.
+fn by_layout(line: &[u8], layout: Layout) -> Outcome
+    ensures { λ r. ⌜ outcomeTold r ≡ lineSaid (now (line .entry)) layout ⌝ }
+{
+    if chars::byte(line, 0) == b'B' {
+        return match fix(line, layout) {
+            FixRead::Is(_) => Outcome::Accepted,
+            FixRead::Refused(r) => Outcome::Refused(r),
+        };
+    }
+    match note(line, layout) {
+        TimeRead::Secs(_) => Outcome::Accepted,
+        TimeRead::Refused(r) => Outcome::Refused(r),
+    }
 }
