@@ -1,0 +1,2 @@
+-- What the file's own types say, in the paper's terms.
+pub mod Steps
