@@ -1,2 +1,3 @@
 -- What the file's own types say, in the paper's terms.
 pub mod Steps
+pub mod Judges

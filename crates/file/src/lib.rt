@@ -1,13 +1,37 @@
 // A file in lent memory: a line by its number, and a place that steps over the lines.
-ghost use Rattle.rules.specs.Promises.{LineGiven, LineRest};
+ghost use Rattle.rules.specs.Promises.{KindGiven, LineGiven, LineRest};
 ghost use mathlib.Core.Path.{_≡_};
 ghost use Rattle.file.specs.Steps.{LineStepped, AtFirst, badPlace};
 use rules::Found;
+use rules::Kind;
 use rules::LineRead;
 use rules::Reason;
 use rules::Refusal;
 
+mod order;
 mod scan;
+
+// The kind of a line, told by its first byte; NoKind for a byte that is not A to Z.
+pub fn kind_of(b: u8) -> Kind
+    ensures { λ r. ⌜ KindGiven b r ⌝ }
+{
+    match b {
+        b'A' => Kind::A,
+        b'B' => Kind::B,
+        b'C' => Kind::C,
+        b'D' => Kind::D,
+        b'E' => Kind::E,
+        b'F' => Kind::F,
+        b'G' => Kind::G,
+        b'H' => Kind::H,
+        b'I' => Kind::I,
+        b'J' => Kind::J,
+        b'K' => Kind::K,
+        b'L' => Kind::L,
+        b'M'..=b'Z' => Kind::Other,
+        _ => Kind::NoKind,
+    }
+}
 
 // Where line n stands, by a table of the lines' offsets: how many bytes stand before it and before its CR LF. Refused with 17 where n is 0 or past the table's
 // entries, where the entry is neither 0 nor just past a CR LF, and where no CR LF comes from there on.
