@@ -8,6 +8,7 @@ use rules::LineRead;
 use rules::Reason;
 use rules::Refusal;
 
+mod judge;
 mod order;
 mod scan;
 
