@@ -1,20 +1,21 @@
 -- Document 01, 'Lines' and 'Fields': each kind of line, without its CR LF, by the checks 7 to 13 in their order, and what it says.
-use Prim.Native.Nat.{ℕ, zero, suc, _+_, _-_, _*_, _%_}
+use Prim.Native.Nat.{ℕ, _+_, _-_, _%_}
 use Prim.Native.Char.{code}
-use mathlib.Core.Bool.{Bool, true, false, not, _&&_, cond}
+use mathlib.Core.Bool.{Bool, true, false, _&&_, cond}
 use mathlib.Core.List.{List, [], _∷_}
 use mathlib.Core.Option.{Option, none, some}
 use lib.Dec.{eqb, leb, ltb}
 use lib.ListN.{length, getD, drop}
 use Rattle.rules.specs.Choice.{given, need, on, byte}
-use Rattle.rules.specs.Refusals.{Said, says, refuses, no, andThen, breaks, time, position, altitude, date, other}
+use Rattle.rules.specs.Refusals.{Said, says, no, andThen, breaks, time, position, altitude, date, other}
 use Rattle.rules.specs.Chars.{characters, isCode, codesAt}
 use Rattle.rules.specs.Numbers.{numberAt}
 use Rattle.rules.specs.Fields.{timeAt, dateAt, latitudeAt, longitudeAt, altitudeAt, isEither}
-use Rattle.rules.specs.Layouts.{layoutFields, lineLength, columns}
+use Rattle.rules.specs.Layouts.{firstStart, layoutFields, lineLength, columns}
 use Rattle.rules.specs.declared.Reason.the-variants.{Length}
 use Rattle.rules.specs.declared.Date.{Date}
 use Rattle.rules.specs.declared.Layout.{Layout}
+use Rattle.rules.specs.declared.Family.the-variants as family
 use Rattle.rules.specs.declared.Fix.{Fix}
 use Rattle.rules.specs.declared.Planned.{Planned}
 use Rattle.rules.specs.declared.Planned.the-variants as planned
@@ -74,7 +75,8 @@ dateLine l =
 unfoldable pub hLine : List ℕ → Said (Unit {0})
 hLine l =
     andThen (shaped 5 255 true l) λ _.
-    need (isEither (getD l (byte 2) 0) (code "F") (code "O")) (breaks other 2) λ _.
+    on (getD l (byte 2) 0) λ b.
+    need (isEither b (code "F") (code "O")) (breaks other 2) λ _.
     need (codesAt l (byte 3) 3) (breaks other 3) λ _.
     says tt
 
@@ -88,7 +90,8 @@ plannedAt l at =
     given (numberAt l at 6) none λ v.
     cond (eqb v 0) (some planned.NotGiven) (given (dateAt l at) none λ d. some (planned.On d))
 
--- "C head: declared date, time, flight date .., 4-digit task number, 2-digit number of turn points, text."
+-- "C head: declared date, time, flight date (000000 means not given; every other value must be a date, and the declared date always), 4-digit task number, 2-digit
+-- number of turn points, text."
 unfoldable pub headFields : List ℕ → Said Head
 headFields l =
     given (dateAt l (byte 2)) (breaks date 2) λ d.
@@ -114,7 +117,8 @@ pointLine l =
 unfoldable pub dLine : List ℕ → Said (Unit {0})
 dLine l =
     andThen (shaped 6 6 false l) λ _.
-    need (isEither (getD l (byte 2) 0) (code "1") (code "2")) (breaks other 2) λ _.
+    on (getD l (byte 2) 0) λ b.
+    need (isEither b (code "1") (code "2")) (breaks other 2) λ _.
     need (codesAt l (byte 3) 4) (breaks other 3) λ _.
     says tt
 
@@ -159,7 +163,7 @@ shapedBy start layout l = shaped (lineLength start layout) (lineLength start lay
 -- "columns from 36"
 unfoldable pub bLine : Layout → List ℕ → Said Fix
 bLine layout l =
-    andThen (shapedBy 36 layout l) λ _.
+    andThen (shapedBy (firstStart family.B) layout l) λ _.
     andThen (fixFields l) λ f.
     andThen (columns l layout) λ _.
     says f
@@ -167,7 +171,7 @@ bLine layout l =
 -- "K: time 2 to 7, columns from 8."
 unfoldable pub kLine : Layout → List ℕ → Said ℕ
 kLine layout l =
-    andThen (shapedBy 8 layout l) λ _.
+    andThen (shapedBy (firstStart family.K) layout l) λ _.
     given (timeAt l (byte 2)) (breaks time 2) λ t.
     andThen (columns l layout) λ _.
     says t
@@ -176,6 +180,7 @@ kLine layout l =
 abbrev pub lLine : List ℕ → Said (Unit {0})
 lLine l = shaped 1 99 false l
 
+-- "The G code is carried and never judged."
 abbrev pub gLine : List ℕ → Said (Unit {0})
 gLine l = shaped 2 255 false l
 
