@@ -19,11 +19,12 @@ use Rattle.rules.specs.Refusals.{Said, says, refuses, no, refusal}
 use Rattle.rules.specs.Split.{Lines, end, broken, line, text, linesOf, afterCR, beginsCRLF, firstCRLF, Bounds, isStart, boundsOf, lineText, lineTold}
 use Rattle.rules.specs.declared.LineRead.{LineRead}
 use Rattle.rules.specs.declared.LineRead.the-variants as lineRead
+use Rattle.rules.specs.declared.Reason.{Reason}
 use Rattle.rules.specs.declared.Reason.the-variants.{BadValue}
 use Rattle.rules.specs.declared.Refusal.{Refusal}
 use Rattle.rules.specs.declared.Found.{Found}
 use Rattle.rules.specs.declared.Found.the-variants as found
-use Rattle.file.specs.Steps.{endedAt, badPlace}
+use Rattle.file.specs.Steps.{endedAt, unplaced}
 use Rattle.file.specs.declared.scan.Ended.the-variants as ended
 
 -- the rest of a file from a byte on, with the code's `i + 1`
@@ -34,6 +35,10 @@ rest f i h = rw add-one (drop-cons f i 0 h)
 pub by-cond : {A : Type 0} (P : A → Type 0) (t : Bool) {a b : A} → P a → P b → P (cond t a b)
 by-cond P true p q = p
 by-cond P false p q = q
+
+pub by-need : {A : Type 0} (P : A → Type 0) (t : Bool) (g : Unit {0} → A) {a : A} → P a → P (g tt) → P (need t a g)
+by-need P true g p q = q
+by-need P false g p q = p
 
 -- ---- CR LF at a place
 
@@ -145,10 +150,6 @@ lies-by : (f : List ℕ) (o : ℕ) (x : Option ℕ) → Within o (length (drop o
 lies-by f o (some e) h = (h .0, omega (arith, h .0, h .1, length-drop o f))
 lies-by f o none h = tt
 
-by-need : {A : Type 0} (P : A → Type 0) (t : Bool) (g : Unit {0} → A) {a : A} → P a → P (g tt) → P (need t a g)
-by-need P true g p q = q
-by-need P false g p q = p
-
 lies : (f table : List ℕ) (n : ℕ) → Lies f (boundsOf f table n)
 unfolding boundsOf on
 lies f table n =
@@ -178,7 +179,7 @@ pub no-line : (f table : List ℕ) (n : ℕ) (r : LineRead) (w : Refusal) → li
 unfolding lineTold lineText
 no-line f table n r w q g = rw (← q, g)
 
--- ---- "17 BAD_VALUE .. 0, 0"
+-- ---- a refusal with no line and no byte
 
-pub bad-place : {A : Type 0} (r : Refusal) → r ≡ badPlace → refusal {A = A} r ≡ no BadValue 0
-bad-place r e = rw e
+pub refuses-unplaced : {A : Type 0} (reason : Reason) (r : Refusal) → r ≡ unplaced reason → refusal {A = A} r ≡ no reason 0
+refuses-unplaced reason r e = rw e

@@ -6,7 +6,7 @@ use mathlib.Core.Path.{_≡_}
 use lib.ListN.{length}
 use Rattle.rules.specs.Refusals.{Said, says, refusal}
 use Rattle.rules.specs.Split.{Lines, end, broken, line, Stepped, stepAt}
-use Rattle.rules.specs.declared.Reason.the-variants.{BadValue}
+use Rattle.rules.specs.declared.Reason.{Reason}
 use Rattle.rules.specs.declared.Refusal.{Refusal}
 use Rattle.file.specs.declared.Cursor.{Cursor}
 use Rattle.file.specs.declared.Step.{Step}
@@ -28,9 +28,9 @@ LineStepped file at r = stepTold r ≡ stepAt file at
 abbrev pub AtFirst : Cursor → Type 0
 AtFirst r = r .at ≡ 0
 
--- "17 BAD_VALUE: value, layout, line number or place given is not allowed; 0, 0"
-abbrev pub badPlace : Refusal
-badPlace = record { reason = BadValue; line = 0; byte = 0 }
+-- a refusal with no line and no byte: "0, 0"
+abbrev pub unplaced : Reason → Refusal
+unplaced reason = record { reason = reason; line = 0; byte = 0 }
 
 -- how the first of the lines ends, behind `from` bytes and its own text
 unfoldable pub endedAt : ℕ → Lines → Ended

@@ -1,7 +1,8 @@
 // A file in lent memory: a line by its number, and a place that steps over the lines.
-ghost use Rattle.rules.specs.Promises.{KindGiven, LineGiven, LineRest};
+ghost use Rattle.rules.specs.Promises.{FileChecked, KindGiven, LineGiven, LineRest};
 ghost use mathlib.Core.Path.{_≡_};
-ghost use Rattle.file.specs.Steps.{LineStepped, AtFirst, badPlace};
+ghost use Rattle.file.specs.Steps.{LineStepped, AtFirst, unplaced};
+use rules::Checked;
 use rules::Found;
 use rules::Kind;
 use rules::LineRead;
@@ -9,6 +10,7 @@ use rules::Reason;
 use rules::Refusal;
 
 mod judge;
+mod lines;
 mod order;
 mod scan;
 
@@ -34,23 +36,37 @@ pub fn kind_of(b: u8) -> Kind
     }
 }
 
+// The check of a whole file: what it says, with the table's first entries set to its lines' offsets. Refused with 1 to 16, the table then set for the lines before
+// the faulty one; entries past the last good line stay as they are.
+pub fn check(file: &[u8], table: &mut [u32]) -> Checked
+    ensures { λ r. ⌜ FileChecked (now (file .entry)) (now (table .entry)) r (now (table .exit)) ⌝ }
+{
+    if file.len() < 1 {
+        return lines::refused(unplaced(Reason::Empty));
+    }
+    if 16777216 < file.len() {
+        return lines::refused(unplaced(Reason::TooLong));
+    }
+    lines::check_lines(file, table)
+}
+
 // Where line n stands, by a table of the lines' offsets: how many bytes stand before it and before its CR LF. Refused with 17 where n is 0 or past the table's
 // entries, where the entry is neither 0 nor just past a CR LF, and where no CR LF comes from there on.
 pub fn bounds(file: &[u8], table: &[u32], n: usize) -> LineRead
     ensures { λ r. ⌜ LineGiven (now (file .entry)) (now (table .entry)) n r ⌝ }
 {
     if n < 1 {
-        return LineRead::Refused(bad_place());
+        return LineRead::Refused(unplaced(Reason::BadValue));
     }
     if table.len() < n {
-        return LineRead::Refused(bad_place());
+        return LineRead::Refused(unplaced(Reason::BadValue));
     }
     let start = table[n - 1] as usize;
     if !scan::is_start(file, start) {
-        return LineRead::Refused(bad_place());
+        return LineRead::Refused(unplaced(Reason::BadValue));
     }
     let Found::At(end) = scan::crlf_from(file, start) else {
-        return LineRead::Refused(bad_place());
+        return LineRead::Refused(unplaced(Reason::BadValue));
     };
     LineRead::Part(start, end)
 }
@@ -95,13 +111,13 @@ impl Cursor {
     {
         let at = self.at;
         if file.len() < at {
-            return Step::Refused(bad_place());
+            return Step::Refused(unplaced(Reason::BadValue));
         }
         if at == file.len() {
             return Step::Done;
         }
         let Found::At(end) = scan::crlf_from(file, at) else {
-            return Step::Refused(bad_place());
+            return Step::Refused(unplaced(Reason::BadValue));
         };
         Step::Line {
             start: at,
@@ -111,11 +127,12 @@ impl Cursor {
     }
 }
 
-fn bad_place() -> Refusal
-    ensures { λ r. ⌜ r ≡ badPlace ⌝ }
+// A refusal with no line and no byte.
+fn unplaced(reason: Reason) -> Refusal
+    ensures { λ r. ⌜ r ≡ unplaced reason ⌝ }
 {
     Refusal {
-        reason: Reason::BadValue,
+        reason,
         line: 0,
         byte: 0,
     }
