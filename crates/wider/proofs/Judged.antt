@@ -1,26 +1,20 @@
 -- One line of a file against those before it, and the same line of a file with added columns: it passes there too, and leaves the states alike. Assumes nothing.
-use Prim.Native.Nat.{ℕ, zero, suc, _+_, _≤_, _<_}
-use Prim.Native.Char.{code}
+use Prim.Native.Nat.{ℕ, _+_, _≤_, _<_}
 use mathlib.Core.Bool.{Bool, true, false, not, _&&_, _||_, cond}
 use mathlib.Core.List.{List, [], _∷_}
-use mathlib.Core.Option.{Option, none, some}
+use mathlib.Core.Option.{none, some}
 use mathlib.Core.Path.{_≡_, refl, sym, ap, _∙_}
 use native.Mathlib.Omega.{arith}
-use borrow.Author.Tests.{le-leb, leb-true, lt-leb, eq-eqb, eqb-true}
+use borrow.Author.Tests.{le-leb, leb-true, lt-leb}
 use lib.Dec.{leb, eqb}
 use lib.ListN.{length, getD}
-use Rattle.rules.specs.Choice.{given, need, on}
+use Rattle.rules.specs.Choice.{need, on}
 use Rattle.rules.specs.Refusals.{Said, says, refuses, inLine, andThen}
-use Rattle.rules.specs.Layouts.{emptyLayout, firstStart, allowed}
-use Rattle.rules.specs.Lines.{kindOf, aLine, dateLine, hLine, layoutLine, headLine, pointLine, dLine, eLine, fLine, bLine, kLine, lLine, gLine, otherLine}
-use Rattle.rules.specs.Split.{Lines, end, broken, line}
-use Rattle.rules.specs.Order.{leading, afterG, stageAfter, isC, isKind, fitsDeclaration, orderOf, moved, dated, withFixes, withNotes, counted, begun, pointed, clocked, passing, isBack, timed, ruled, judge}
+use Rattle.rules.specs.Lines.{kindOf, headLine, pointLine, dLine, eLine, fLine, lLine, gLine, otherLine}
+use Rattle.rules.specs.Split.{Lines, line}
+use Rattle.rules.specs.Order.{leading, afterG, stageAfter, isC, isKind, fitsDeclaration, orderOf, moved, begun, pointed, clocked, passing, isBack, timed, ruled, judge}
 use Rattle.rules.specs.Files.{run}
-use Rattle.rules.specs.Reads.{layoutLetter, fixSaid, noteSaid, layoutSaid}
 use Rattle.rules.specs.declared.Layout.{Layout}
-use Rattle.rules.specs.declared.Family.{Family}
-use Rattle.rules.specs.declared.Family.the-variants as family
-use Rattle.rules.specs.declared.Fix.{Fix}
 use Rattle.rules.specs.declared.Kind.{Kind}
 use Rattle.rules.specs.declared.Kind.the-variants as kind
 use Rattle.rules.specs.declared.Flight.{Flight}
@@ -92,7 +86,7 @@ staged s st = record { stage = s; declared = st .declared; points = st .points; 
 
 module _ (i j : Layout) (n : ℕ) where
   -- what r says of the old state, r′ says of the new one, and the old layouts stay
-  abbrev Follows : State → Said State → Said State → Type 0
+  abbrev pub Follows : State → Said State → Said State → Type 0
   Follows st r r′ = (after : State) → r ≡ says after → (r′ ≡ says (wide i j n after)) × (after .flight .fixes ≡ st .flight .fixes) × (after .flight .notes ≡ st .flight .notes)
 
   follows-value : {A : Type 0} (st : State) (s : Said A) (g : A → State → State) → ((v : A) → g v (wide i j n st) ≡ wide i j n (g v st))
@@ -110,7 +104,7 @@ module _ (i j : Layout) (n : ℕ) where
   follows-cond st true r r′ q q′ x y = x
   follows-cond st false r r′ q q′ x y = y
 
-  follows-time : (t : ℕ) (st : State) → Follows st (timed t st) (timed t (wide i j n st))
+  pub follows-time : (t : ℕ) (st : State) → Follows st (timed t st) (timed t (wide i j n st))
   unfolding timed
   follows-time t st after h =
       let w = need-inv (not (isBack (passing (st .clock) t))) _ (says after) _ refuses-says h in
@@ -137,75 +131,7 @@ module _ (i j : Layout) (n : ℕ) where
   follows kind.Other l st h = follows-value st (otherLine l) (λ v s. s) (λ v. refl) (λ v. (refl, refl))
   follows kind.NoKind l st h = absurd (false-true h)
 
--- ---- B lines and K lines
-
-module _ (b : ℕ) (low : 0 < b) (k : Kind) (is : kindOf b ≡ k) (real : isKind k ≡ true) where
-  -- a line with this first byte
-  pub byte-there : (l : List ℕ) (st after : State) → getD l 0 0 ≡ b → judge l st ≡ says after → Judged k l st after
-  byte-there l st after e h = judged-there k l st after (ap kindOf e ∙ is) h
-
-  pub byte-here : (l : List ℕ) (st after : State) → getD l 0 0 ≡ b → Judged k l st after → judge l st ≡ says after
-  byte-here l st after e j = judged-here k l st after (ap kindOf e ∙ is) real (omega arith) j
-
-pub is-b : kindOf (code "B") ≡ kind.B
-unfolding kindOf
-is-b = refl
-
-pub is-k : kindOf (code "K") ≡ kind.K
-unfolding kindOf
-is-k = refl
-
-pub is-i : kindOf (code "I") ≡ kind.I
-unfolding kindOf
-is-i = refl
-
-pub is-j : kindOf (code "J") ≡ kind.J
-unfolding kindOf
-is-j = refl
-
--- what is read of a B line by its layout, and the state after it
-pub fix-judged : (l : List ℕ) (st after : State) → getD l 0 0 ≡ code "B" → allowed 36 (st .flight .fixes) ≡ true → Judged kind.B l st after
-    → (x : Fix) × (fixSaid l (st .flight .fixes) ≡ says x) × (stage : ℕ) × (orderOf kind.B st ≡ some stage) × (timed (x .time) (counted 1 0 (moved stage st)) ≡ says after)
-unfolding ruled fixSaid
-fix-judged l st after e a j =
-    let t = then-inv (bLine (st .flight .fixes) l) after _ (j .rule) in
-    (t .0, rw (eq-eqb _ _ e, a) (t .1), j .stage, j .order, t .2)
-
-pub fix-judges : (i j : Layout) (n s stage : ℕ) (l : List ℕ) (st after : State) (x : Fix) → fixSaid l i ≡ says x → orderOf kind.B (wide i j n (staged s st)) ≡ some stage
-    → timed (x .time) (counted 1 0 (moved stage st)) ≡ says after
-    → Judged kind.B l (wide i j n (staged s st)) (wide i j (n + 1) after) × (after .flight .fixes ≡ st .flight .fixes) × (after .flight .notes ≡ st .flight .notes)
-unfolding ruled fixSaid
-fix-judges i j n s stage l st after x e o t =
-    let k = need-inv (eqb (getD l 0 0) (code "B")) _ (says x) _ refuses-says e in
-    let a = need-inv (allowed 36 i) _ (says x) _ refuses-says (k .1) in
-    let w = follows-time i j (n + 1) (x .time) (counted 1 0 (moved stage st)) after t in
-    (record { stage = stage; order = o; rule = rw (a .1) (w .0) }, w .1, w .2)
-
-pub note-judged : (l : List ℕ) (st after : State) → getD l 0 0 ≡ code "K" → allowed 8 (st .flight .notes) ≡ true → Judged kind.K l st after
-    → (x : ℕ) × (noteSaid l (st .flight .notes) ≡ says x) × (stage : ℕ) × (orderOf kind.K st ≡ some stage) × (timed x (counted 0 1 (moved stage st)) ≡ says after)
-unfolding ruled noteSaid
-note-judged l st after e a j =
-    let t = then-inv (kLine (st .flight .notes) l) after _ (j .rule) in
-    (t .0, rw (eq-eqb _ _ e, a) (t .1), j .stage, j .order, t .2)
-
-pub note-judges : (i j : Layout) (n s stage : ℕ) (l : List ℕ) (st after : State) (x : ℕ) → noteSaid l j ≡ says x → orderOf kind.K (wide i j n (staged s st)) ≡ some stage
-    → timed x (counted 0 1 (moved stage st)) ≡ says after
-    → Judged kind.K l (wide i j n (staged s st)) (wide i j (n + 1) after) × (after .flight .fixes ≡ st .flight .fixes) × (after .flight .notes ≡ st .flight .notes)
-unfolding ruled noteSaid
-note-judges i j n s stage l st after x e o t =
-    let k = need-inv (eqb (getD l 0 0) (code "K")) _ (says x) _ refuses-says e in
-    let a = need-inv (allowed 8 j) _ (says x) _ refuses-says (k .1) in
-    let w = follows-time i j (n + 1) x (counted 0 1 (moved stage st)) after t in
-    (record { stage = stage; order = o; rule = rw (a .1) (w .0) }, w .1, w .2)
-
--- ---- I lines and J lines
-
--- what is read of a layout line
-pub layout-there : (f : Family) (l : List ℕ) (layout : Layout) → layoutSaid f l ≡ says layout → (getD l 0 0 ≡ layoutLetter f) × (layoutLine (firstStart f) l ≡ says layout)
-unfolding layoutSaid
-layout-there f l layout h =
-    let k = need-inv (eqb (getD l 0 0) (layoutLetter f)) _ (says layout) _ refuses-says h in
-    (eqb-true _ _ (k .0), k .1)
+-- ---- the order of lines
 
 -- where no points are to come, a line that is no C line may come where its kind may
 pub order-free : (k : Kind) (st : State) → isC k ≡ false → st .points ≡ 0 → orderOf k st ≡ stageAfter k (st .stage)
@@ -217,6 +143,8 @@ pub order-stage : (k : Kind) (st : State) (stage : ℕ) → orderOf k st ≡ som
 unfolding orderOf
 order-stage k st stage h = need-inv (fitsDeclaration (isC k) st) none (some stage) _ none-some h .1
 
+-- ---- the parts of a file
+
 pub leading-in : (low high next s : ℕ) → low ≤ s → s ≤ high → leading low high next s ≡ some next
 leading-in low high next s p q = simp (le-leb low s p, le-leb s high q)
 
@@ -225,34 +153,6 @@ leading-out low high next s stage h =
     let w = need-inv (leb low s && leb s high) none (some stage) _ none-some h in
     let b = and-inv (leb low s) _ (w .0) in
     (leb-true _ _ (b .0), leb-true _ _ (b .1), cc)
-
-pub i-judged : (l : List ℕ) (st after : State) (i : Layout) → layoutLine 36 l ≡ says i → Judged kind.I l st after → withFixes i (moved 3 st) ≡ after
-unfolding ruled stageAfter
-i-judged l st after i e j =
-    let n = leading-out 2 2 3 (st .stage) (j .stage) (order-stage kind.I st (j .stage) (j .order)) .2 in
-    let r : says (withFixes i (moved (j .stage) st)) ≡ says after = rw e at (j .rule) in
-    let t : withFixes i (moved (j .stage) st) ≡ after = cc in
-    ap (λ s. withFixes i (moved s st)) n ∙ t
-
-pub i-judges : (l : List ℕ) (st : State) (i : Layout) → layoutLine 36 l ≡ says i → st .points ≡ 0 → 2 ≤ st .stage → st .stage ≤ 2
-    → Judged kind.I l st (withFixes i (moved 3 st))
-unfolding ruled stageAfter
-i-judges l st i e p a b = record { stage = 3; order = order-free kind.I st refl p ∙ leading-in 2 2 3 (st .stage) a b; rule = rw e }
-
-pub j-judged : (l : List ℕ) (st after : State) (j : Layout) → layoutLine 8 l ≡ says j → Judged kind.J l st after → withNotes j (moved 4 st) ≡ after
-unfolding ruled stageAfter
-j-judged l st after j e g =
-    let n = leading-out 2 3 4 (st .stage) (g .stage) (order-stage kind.J st (g .stage) (g .order)) .2 in
-    let r : says (withNotes j (moved (g .stage) st)) ≡ says after = rw e at (g .rule) in
-    let t : withNotes j (moved (g .stage) st) ≡ after = cc in
-    ap (λ s. withNotes j (moved s st)) n ∙ t
-
-pub j-judges : (l : List ℕ) (st : State) (j : Layout) → layoutLine 8 l ≡ says j → st .points ≡ 0 → 2 ≤ st .stage → st .stage ≤ 3
-    → Judged kind.J l st (withNotes j (moved 4 st))
-unfolding ruled stageAfter
-j-judges l st j e p a b = record { stage = 4; order = order-free kind.J st refl p ∙ leading-in 2 3 4 (st .stage) a b; rule = rw e }
-
--- ---- the parts of a file
 
 -- the lines after the layout lines
 abbrev pub isBody : Kind → Bool

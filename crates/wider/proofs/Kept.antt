@@ -1,5 +1,5 @@
 -- What added columns leave as it is, whatever a file says: the lines without columns; how many lines there are more; the old bits of the presence word. Assumes nothing.
-use Prim.Native.Nat.{ℕ, zero, suc, _+_, _-_, _*_, _^_}
+use Prim.Native.Nat.{ℕ, suc, _+_, _-_, _*_, _^_}
 use mathlib.Core.Bool.{Bool, true, false, not, _&&_, cond}
 use mathlib.Core.List.{List, [], _∷_}
 use mathlib.Core.Option.{Option, none, some}
@@ -9,17 +9,14 @@ use borrow.Author.Tests.{eqb-true}
 use lib.Dec.{eqb}
 use lib.ListN.{length, getD, take}
 use lib.Seq.{getD-take}
-use Rattle.rules.specs.Choice.{given, firstOf}
-use Rattle.rules.specs.Refusals.{says}
+use Rattle.rules.specs.Choice.{given}
 use Rattle.rules.specs.Listed.{listed}
-use Rattle.rules.specs.Layouts.{Span, entriesOf, spanOf, look, carries, bit, wordFrom, presenceOf, presenceSaid, allowed}
+use Rattle.rules.specs.Layouts.{Span, entriesOf, spanOf, look, carries, wordFrom, presenceOf, presenceSaid}
 use Rattle.rules.specs.Lines.{kindOf}
 use Rattle.rules.specs.Split.{Lines, end, broken, line}
 use Rattle.rules.specs.declared.Entry.{Entry}
 use Rattle.rules.specs.declared.Layout.{Layout}
 use Rattle.rules.specs.declared.Listed.{Listed}
-use Rattle.rules.specs.declared.Family.{Family}
-use Rattle.rules.specs.declared.Family.the-variants as family
 use Rattle.rules.specs.declared.Kind.{Kind}
 use Rattle.rules.specs.declared.Kind.the-variants as kind
 use Rattle.trips.proofs.Laws.{none-some, false-true, given-inv}
@@ -30,7 +27,7 @@ use Rattle.wider.specs.Wider.{Extends, widthIn, Body, done, same, fix, n
 use Rattle.wider.specs.Before.{isB, isK, linesWith, addedFrom, MoreBits, putInJ, putInI, putIn}
 use Rattle.wider.proofs.Lists.{found-one}
 use Rattle.wider.proofs.Placed.{Sound}
-use Rattle.wider.proofs.Judged.{is-b, is-k, is-i, is-j, layout-there}
+use Rattle.wider.proofs.Changing.{is-b, is-k, i-line, j-line, told-kind}
 
 -- ---- the lines without columns
 
@@ -39,28 +36,28 @@ first-same n l l′ e = sym (getD-take (suc n) l′ 0 0 (omega arith)) ∙ ap (�
 
 module _ (test : Kind → Bool) (ni : test kind.I ≡ false) (nj : test kind.J ≡ false) (nb : test kind.B ≡ false) (nk : test kind.K ≡ false) where
   -- a line of a kind that is not asked for
-  skip : (t : List ℕ) (ls : Lines) (b : ℕ) (k : Kind) → getD t 0 0 ≡ b → kindOf b ≡ k → test k ≡ false → linesWith test (line t ls) ≡ linesWith test ls
-  skip t ls b k e i n = rw (ap test (ap kindOf e ∙ i) ∙ n)
+  skip : (t : List ℕ) (ls : Lines) (k : Kind) → kindOf (getD t 0 0) ≡ k → test k ≡ false → linesWith test (line t ls) ≡ linesWith test ls
+  skip t ls k e n = rw (ap test e ∙ n)
 
   body-others : {i i′ j j′ : Layout} {ls ls′ : Lines} → Body i i′ j j′ ls ls′ → linesWith test ls′ ≡ linesWith test ls
   body-others done = refl
   body-others (same {t = t} x b) = ap (λ (r : List (List ℕ)). cond (test (kindOf (getD t 0 0))) (t ∷ r) r) (body-others b)
   body-others (fix {t = t} {t′ = t′} {ls = ls} {ls′ = ls′} x w b) =
-      skip t′ ls′ _ kind.B (first-same 34 t t′ (w .fields) ∙ x) is-b nb ∙ body-others b ∙ sym (skip t ls _ kind.B x is-b nb)
+      skip t′ ls′ kind.B (ap kindOf (first-same 34 t t′ (w .fields) ∙ x) ∙ is-b) nb ∙ body-others b ∙ sym (skip t ls kind.B (ap kindOf x ∙ is-b) nb)
   body-others (note {t = t} {t′ = t′} {ls = ls} {ls′ = ls′} x w b) =
-      skip t′ ls′ _ kind.K (first-same 6 t t′ (w .fields) ∙ x) is-k nk ∙ body-others b ∙ sym (skip t ls _ kind.K x is-k nk)
+      skip t′ ls′ kind.K (ap kindOf (first-same 6 t t′ (w .fields) ∙ x) ∙ is-k) nk ∙ body-others b ∙ sym (skip t ls kind.K (ap kindOf x ∙ is-k) nk)
 
   fromJ-others : {i i′ : Layout} {ls ls′ : Lines} → FromJ i i′ ls ls′ → linesWith test ls′ ≡ linesWith test ls
   fromJ-others (without b) = body-others b
   fromJ-others (changed {t = t} {t′ = t′} {ls = ls} {ls′ = ls′} e e′ x b) =
-      skip t′ ls′ _ kind.J (layout-there family.K t′ _ e′ .0) is-j nj ∙ body-others b ∙ sym (skip t ls _ kind.J (layout-there family.K t _ e .0) is-j nj)
-  fromJ-others (put {t′ = t′} {ls′ = ls′} e′ b) = skip t′ ls′ _ kind.J (layout-there family.K t′ _ e′ .0) is-j nj ∙ body-others b
+      skip t′ ls′ kind.J (told-kind j-line t′ _ e′) nj ∙ body-others b ∙ sym (skip t ls kind.J (told-kind j-line t _ e) nj)
+  fromJ-others (put {t′ = t′} {ls′ = ls′} e′ b) = skip t′ ls′ kind.J (told-kind j-line t′ _ e′) nj ∙ body-others b
 
   fromI-others : {ls ls′ : Lines} → FromI ls ls′ → linesWith test ls′ ≡ linesWith test ls
   fromI-others (without b) = fromJ-others b
   fromI-others (changed {t = t} {t′ = t′} {ls = ls} {ls′ = ls′} e e′ x b) =
-      skip t′ ls′ _ kind.I (layout-there family.B t′ _ e′ .0) is-i ni ∙ fromJ-others b ∙ sym (skip t ls _ kind.I (layout-there family.B t _ e .0) is-i ni)
-  fromI-others (put {t′ = t′} {ls′ = ls′} e′ b) = skip t′ ls′ _ kind.I (layout-there family.B t′ _ e′ .0) is-i ni ∙ fromJ-others b
+      skip t′ ls′ kind.I (told-kind i-line t′ _ e′) ni ∙ fromJ-others b ∙ sym (skip t ls kind.I (told-kind i-line t _ e) ni)
+  fromI-others (put {t′ = t′} {ls′ = ls′} e′ b) = skip t′ ls′ kind.I (told-kind i-line t′ _ e′) ni ∙ fromJ-others b
 
   pub others-same : {ls ls′ : Lines} → Wider ls ls′ → linesWith test ls′ ≡ linesWith test ls
   others-same (head {t = t} x w) = ap (λ (r : List (List ℕ)). cond (test (kindOf (getD t 0 0))) (t ∷ r) r) (others-same w)

@@ -1,19 +1,18 @@
 -- One B line or K line with added columns, over the first start: it says what the line said before, and so do its old columns. Assumes nothing.
 use Prim.Native.Nat.{ℕ, suc, _+_, _-_, _≤_}
 use Prim.Native.Char.{code}
-use mathlib.Core.Bool.{Bool, true, false, not, cond}
-use mathlib.Core.List.{List, [], _∷_, _++_, append-assoc, append-nil}
+use mathlib.Core.Bool.{Bool, true, false, not}
+use mathlib.Core.List.{List, [], _++_, append-assoc, append-nil}
 use mathlib.Core.Option.{Option, none, some}
 use mathlib.Core.Path.{_≡_, refl, sym, ap, _∙_}
 use native.Mathlib.Omega.{arith}
 use borrow.Author.Tests.{eq-eqb, eqb-true, not-false}
 use lib.Dec.{eqb}
-use lib.ListN.{length, getD, take, drop, length-append, take-append-drop}
+use lib.ListN.{length, take, drop, length-append, take-append-drop}
 use lib.Seq.{take-at}
-use Rattle.rules.specs.Choice.{given, need, firstOf, byte}
+use Rattle.rules.specs.Choice.{given, need, byte}
 use Rattle.rules.specs.Refusals.{Said, says, no}
 use Rattle.rules.specs.Chars.{characters, firstInvalid}
-use Rattle.rules.specs.Numbers.{wholeOf}
 use Rattle.rules.specs.Listed.{packedOf, keepsRule}
 use Rattle.rules.specs.Layouts.{Span, entriesOf, spanOf, look, carries, allowed, lineLength, columnText, badColumn, columns}
 use Rattle.rules.specs.Lines.{shapedBy}
@@ -187,7 +186,7 @@ fix-reading = record {
 
 note-splits : (t : ℕ) (tail : List ℕ) → noteText t tail ≡ noteText t [] ++ tail
 unfolding noteText
-note-splits t tail = simp (append-assoc, append-nil)
+note-splits t tail = simp append-nil
 
 note-long : (t : ℕ) → suc (length (noteText t [])) ≡ 8
 unfolding noteText

@@ -5,16 +5,16 @@ use mathlib.Core.Bool.{Bool, true, false, not, _&&_, _||_, cond}
 use mathlib.Core.List.{List, [], _∷_, _++_, append-nil}
 use mathlib.Core.Option.{Option, none, some}
 use mathlib.Core.Path.{_≡_, refl, sym, ap, _∙_}
-use native.Mathlib.Nat.{add-zero, zero-add}
+use native.Mathlib.Nat.{add-zero}
 use native.Mathlib.Numerals.{add-one}
 use native.Mathlib.Omega.{arith}
-use borrow.Author.Tests.{le-leb, leb-true, eqb-true, eq-eqb, ne-eqb, not-true}
+use borrow.Author.Tests.{le-leb, leb-true, eqb-true, eq-eqb, not-true}
 use lib.Dec.{leb, eqb, eqb·suc-zero}
-use lib.ListN.{length, getD, take, drop, set, replicate, length-set, length-take, take-append-drop, drop-of-length-le}
-use lib.Seq.{length-take-le, take-suc-set, append-snoc, drop-set-lt, drop-drop, drop-nil, getD-drop, getD-take, drop-cons}
-use Rattle.rules.specs.Choice.{given, need, firstOf, leads, part, byte}
+use lib.ListN.{length, getD, take, drop, replicate, length-set, take-append-drop, drop-of-length-le}
+use lib.Seq.{length-take-le, take-suc-set, append-snoc, drop-set-lt, drop-drop, getD-drop, getD-take}
+use Rattle.rules.specs.Choice.{given, firstOf, leads, byte}
 use Rattle.rules.specs.Refusals.{Said, says, refuses}
-use Rattle.rules.specs.Chars.{characters, firstInvalid, isDigit, isCode, codesAt}
+use Rattle.rules.specs.Chars.{isDigit, isCode, codesAt}
 use Rattle.rules.specs.Numbers.{numberAt}
 use Rattle.rules.specs.Listed.{packed, codeAt, isCodeWord, widthFits}
 use Rattle.rules.specs.Layouts.{firstStart, unused, emptyLayout, withEntry, entriesOf, spanOf, look, carries, placed, entryAt, entriesFrom, layoutFields, isSaid, isSpelt, allPlaced, isUnused, allowed, lineLength, columnText}
@@ -23,10 +23,8 @@ use Rattle.rules.specs.Reads.{layoutLetter, layoutSaid}
 use Rattle.rules.specs.declared.Entry.{Entry}
 use Rattle.rules.specs.declared.Layout.{Layout}
 use Rattle.rules.specs.declared.Family.{Family}
-use Rattle.rules.specs.declared.Family.the-variants as family
-use Rattle.trips.specs.Limits.{isClean}
 use Rattle.trips.proofs.Laws.{none-some, refuses-says, false-true, given-inv, need-inv, then-inv, and-inv}
-use Rattle.trips.proofs.Texts.{areValid, both-valid, clean-valid, digit-range, nothing-there, shaped-there}
+use Rattle.trips.proofs.Texts.{areValid, both-valid, digit-range, shaped-there}
 use Rattle.trips.proofs.Digits.{number-there}
 use Rattle.wider.specs.Wider.{Each}
 use Rattle.wider.proofs.Lists.{none-passes, found-behind}

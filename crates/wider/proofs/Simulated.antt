@@ -1,19 +1,17 @@
 -- The lines of a file with added columns pass one after the other, as the old lines did, and its B lines and K lines read as before. Assumes nothing.
-use Prim.Native.Nat.{ℕ, zero, suc, _+_, _≤_, _<_}
-use Prim.Native.Char.{code}
+use Prim.Native.Nat.{ℕ, _+_, _≤_}
 use mathlib.Core.Bool.{Bool, true, false, cond}
-use mathlib.Core.List.{List, [], _∷_}
-use mathlib.Core.Option.{Option, none, some}
+use mathlib.Core.List.{List}
 use mathlib.Core.Path.{_≡_, refl, sym, ap, subst, _∙_}
 use native.Mathlib.Omega.{arith}
 use borrow.Author.Tests.{leb-true}
 use lib.Dec.{leb, eqb}
 use lib.ListN.{length, getD}
 use Rattle.rules.specs.Refusals.{says, andThen}
-use Rattle.rules.specs.Layouts.{emptyLayout, allowed}
-use Rattle.rules.specs.Lines.{kindOf, aLine, dateLine, hLine, layoutLine}
+use Rattle.rules.specs.Layouts.{emptyLayout}
+use Rattle.rules.specs.Lines.{kindOf, aLine, dateLine, hLine}
 use Rattle.rules.specs.Split.{Lines, end, broken, line}
-use Rattle.rules.specs.Order.{afterG, stageAfter, orderOf, moved, dated, withFixes, withNotes, ruled, judge, start}
+use Rattle.rules.specs.Order.{afterG, stageAfter, moved, dated, withFixes, withNotes, ruled, judge, start}
 use Rattle.rules.specs.Files.{finish, run}
 use Rattle.rules.specs.Reads.{fixSaid, noteSaid}
 use Rattle.rules.specs.declared.Layout.{Layout}
@@ -23,8 +21,6 @@ use Rattle.rules.specs.declared.Kind.the-variants as kind
 use Rattle.rules.specs.declared.Flight.{Flight}
 use Rattle.rules.specs.declared.State.{State}
 use Rattle.trips.proofs.Laws.{refuses-says, false-true, need-inv, then-inv}
-use Rattle.trips.proofs.Notes.{note-there}
-use Rattle.trips.proofs.Fixes.{fix-there}
 use Rattle.laws.proofs.Chains.{surely}
 use Rattle.laws.proofs.Splitting.{textsOf}
 use Rattle.laws.proofs.Counted.{OneMore, judge-counts}
@@ -32,8 +28,8 @@ use Rattle.wider.specs.Wider.{Extends, isHead, isPlain, Body, done, same
 use Rattle.wider.specs.Before.{isB, isK, linesWith, AsBefore}
 use Rattle.wider.proofs.Lists.{Pairs}
 use Rattle.wider.proofs.Placed.{Sound, sound-line, sound-empty}
-use Rattle.wider.proofs.OneLine.{fix-reading, note-reading, says-same, as-before}
-use Rattle.wider.proofs.Judged.{Judged, judged-there, judged-again, run-there, run-here, wideFlight, wide, staged, follows, byte-there, byte-here, is-b, is-k, is-i, is-j, fix-judged, fix-judges, note-judged, note-judges, layout-there, i-judged, i-judges, j-judged, j-judges, order-stage, leading-out, isBody, Alike, alike-same, alike-early, order-alike, after-heads}
+use Rattle.wider.proofs.Judged.{Judged, judged-there, judged-again, run-there, run-here, wideFlight, wide, staged, follows, order-stage, leading-out, isBody, Alike, alike-same, alike-early, order-alike, after-heads}
+use Rattle.wider.proofs.Changing.{is-b, is-k, b-lines, k-lines, step, i-line, j-line, told-kind, told-after, told-passes}
 
 -- ---- what is shown of the lines ls′ of the new file, from its state on, where those of the old one are ls and say f
 
@@ -46,58 +42,20 @@ pub record Passed (room : ℕ) (st : State) (i i′ j j′ : Layout) (ls ls′ :
   pub fixes : Pairs (AsBefore fixSaid i i′) (linesWith isB ls) (linesWith isB ls′)
   pub notes : Pairs (AsBefore noteSaid j j′) (linesWith isK ls) (linesWith isK ls′)
 
--- neither a B line nor a K line
-abbrev Bare : List ℕ → Type 0
-Bare t = (isB (kindOf (getD t 0 0)) ≡ false) × (isK (kindOf (getD t 0 0)) ≡ false)
-
-module _ (room : ℕ) (i i′ j j′ : Layout) (f : Flight) (ls ls′ : Lines) where
-  -- with such a line before the old ones
-  passed-over : (st : State) (t : List ℕ) → Bare t → Passed room st i i′ j j′ ls ls′ f → Passed room st i i′ j j′ (line t ls) ls′ f
-  passed-over st t b r = record {
-    lines = r .lines;
-    count = r .count;
-    runs = r .runs;
-    old-fixes = r .old-fixes;
-    old-notes = r .old-notes;
-    fixes = rw (b .0) (r .fixes);
-    notes = rw (b .1) (r .notes);
-  }
-
-  -- with a line before the new ones
-  module _ (st after : State) (t′ : List ℕ) (g : judge t′ st ≡ says after) (n : after .flight .lines ≡ st .flight .lines + 1) (h : after .flight .lines ≤ room)
-      (r : Passed room after i i′ j j′ ls ls′ f) where
-    passed-put : Bare t′ → Passed room st i i′ j j′ ls (line t′ ls′) f
-    passed-put b = record {
-      lines = r .lines;
-      count = omega (arith, r .count);
-      runs = run-here room st after t′ ls′ _ g h (r .runs);
-      old-fixes = r .old-fixes;
-      old-notes = r .old-notes;
-      fixes = rw (b .0) (r .fixes);
-      notes = rw (b .1) (r .notes);
-    }
-
-    passed-fix : (t : List ℕ) → kindOf (getD t 0 0) ≡ kind.B → kindOf (getD t′ 0 0) ≡ kind.B → AsBefore fixSaid i i′ t t′ → Passed room st i i′ j j′ (line t ls) (line t′ ls′) f
-    passed-fix t k k′ a = record {
-      lines = r .lines;
-      count = omega (arith, r .count);
-      runs = run-here room st after t′ ls′ _ g h (r .runs);
-      old-fixes = r .old-fixes;
-      old-notes = r .old-notes;
-      fixes = rw (k, k′) (a, r .fixes);
-      notes = rw (k, k′) (r .notes);
-    }
-
-    passed-note : (t : List ℕ) → kindOf (getD t 0 0) ≡ kind.K → kindOf (getD t′ 0 0) ≡ kind.K → AsBefore noteSaid j j′ t t′ → Passed room st i i′ j j′ (line t ls) (line t′ ls′) f
-    passed-note t k k′ a = record {
-      lines = r .lines;
-      count = omega (arith, r .count);
-      runs = run-here room st after t′ ls′ _ g h (r .runs);
-      old-fixes = r .old-fixes;
-      old-notes = r .old-notes;
-      fixes = rw (k, k′) (r .fixes);
-      notes = rw (k, k′) (a, r .notes);
-    }
+-- with a line t′ before the new ones
+passed-line : (room : ℕ) (i i′ j j′ : Layout) (f : Flight) (ls ls′ ms : Lines) (st after : State) (t′ : List ℕ) → judge t′ st ≡ says after
+    → after .flight .lines ≡ st .flight .lines + 1 → after .flight .lines ≤ room → (r : Passed room after i i′ j j′ ls ls′ f)
+    → Pairs (AsBefore fixSaid i i′) (linesWith isB ms) (linesWith isB (line t′ ls′)) → Pairs (AsBefore noteSaid j j′) (linesWith isK ms) (linesWith isK (line t′ ls′))
+    → Passed room st i i′ j j′ ms (line t′ ls′) f
+passed-line room i i′ j j′ f ls ls′ ms st after t′ g n h r x y = record {
+  lines = r .lines;
+  count = omega (arith, r .count);
+  runs = run-here room st after t′ ls′ _ g h (r .runs);
+  old-fixes = r .old-fixes;
+  old-notes = r .old-notes;
+  fixes = x;
+  notes = y;
+}
 
 -- ---- after the layout lines
 
@@ -147,38 +105,21 @@ module _ (room room′ : ℕ) (f : Flight) where
         let o = order-alike k i′ j′ n s st (plain-is k x .2) a ∙ g .order in
         let new = judged-again t st (u .0) (wide i′ j′ n (staged s st)) (wide i′ j′ (n + 1) (u .0)) (u .1) (record { stage = g .stage; order = o; rule = w .0 }) in
         let r = body b (u .0) (u .0 .stage) (n + 1) (w .1 ∙ p) (w .2 ∙ q) (alike-same (u .0 .stage)) (omega arith) (u .2) in
-        let c : Bare t = (plain-is k x .0, plain-is k x .1) in
-        passed-over room′ i i′ j j′ f ls (line t ls′) _ t c (passed-put room′ i i′ j j′ f ls ls′ _ _ t new refl (omega arith) r c)
+        passed-line room′ i i′ j j′ f ls ls′ (line t ls) _ _ t new refl (omega arith) r (rw (plain-is k x .0) (r .fixes)) (rw (plain-is k x .1) (r .notes))
     body (fix {t = t} {t′ = t′} {ls = ls} {ls′ = ls′} x w b) st s n p q a m h =
         let u = run-there room st t ls f h in
-        let g = byte-there (code "B") (omega arith) kind.B is-b refl t st (u .0) x (u .1) in
-        let d = fix-judged t st (u .0) x (rw p (si .right)) g in
-        let said : fixSaid t i ≡ says (d .0) = ap (fixSaid t) (sym p) ∙ d .1 in
-        let said′ = says-same 36 fixSaid fix-reading i i′ t t′ (d .0) si′ w said in
-        let x′ = fix-there i′ t′ (d .0) said′ .kind in
-        let v = fix-judges i′ j′ n s (d .2) t′ st (u .0) (d .0) said′ (order-alike kind.B i′ j′ n s st refl a ∙ d .3) (d .4) in
-        let new = byte-here (code "B") (omega arith) kind.B is-b refl t′ (wide i′ j′ n (staged s st)) (wide i′ j′ (n + 1) (u .0)) x′ (v .0) in
-        let r = body b (u .0) (u .0 .stage) (n + 1) (v .1 ∙ p) (v .2 ∙ q) (alike-same (u .0 .stage)) (omega arith) (u .2) in
-        passed-fix room′ i i′ j j′ f ls ls′ _ _ t′ new refl (omega arith) r t (ap kindOf x ∙ is-b) (ap kindOf x′ ∙ is-b) (as-before 36 fixSaid fix-reading i i′ t t′ (d .0) si′ w said)
+        let d = step b-lines i i′ j′ n s st (u .0) t t′ p si si′ a x w (u .1) in
+        let r = body b (u .0) (u .0 .stage) (n + 1) (d .fixes ∙ p) (d .notes ∙ q) (alike-same (u .0 .stage)) (omega arith) (u .2) in
+        passed-line room′ i i′ j j′ f ls ls′ (line t ls) _ _ t′ (d .judged) refl (omega arith) r
+        (rw (d .is-kind, d .is-kind′) (d .reads, r .fixes)) (rw (d .is-kind, d .is-kind′) (r .notes))
     body (note {t = t} {t′ = t′} {ls = ls} {ls′ = ls′} x w b) st s n p q a m h =
         let u = run-there room st t ls f h in
-        let g = byte-there (code "K") (omega arith) kind.K is-k refl t st (u .0) x (u .1) in
-        let d = note-judged t st (u .0) x (rw q (sj .right)) g in
-        let said : noteSaid t j ≡ says (d .0) = ap (noteSaid t) (sym q) ∙ d .1 in
-        let said′ = says-same 8 noteSaid note-reading j j′ t t′ (d .0) sj′ w said in
-        let x′ = note-there j′ t′ (d .0) said′ .kind in
-        let v = note-judges i′ j′ n s (d .2) t′ st (u .0) (d .0) said′ (order-alike kind.K i′ j′ n s st refl a ∙ d .3) (d .4) in
-        let new = byte-here (code "K") (omega arith) kind.K is-k refl t′ (wide i′ j′ n (staged s st)) (wide i′ j′ (n + 1) (u .0)) x′ (v .0) in
-        let r = body b (u .0) (u .0 .stage) (n + 1) (v .1 ∙ p) (v .2 ∙ q) (alike-same (u .0 .stage)) (omega arith) (u .2) in
-        passed-note room′ i i′ j j′ f ls ls′ _ _ t′ new refl (omega arith) r t (ap kindOf x ∙ is-k) (ap kindOf x′ ∙ is-k) (as-before 8 noteSaid note-reading j j′ t t′ (d .0) sj′ w said)
+        let d = step k-lines j i′ j′ n s st (u .0) t t′ q sj sj′ a x w (u .1) in
+        let r = body b (u .0) (u .0 .stage) (n + 1) (d .fixes ∙ p) (d .notes ∙ q) (alike-same (u .0 .stage)) (omega arith) (u .2) in
+        passed-line room′ i i′ j j′ f ls ls′ (line t ls) _ _ t′ (d .judged) refl (omega arith) r
+        (rw (d .is-kind, d .is-kind′) (r .fixes)) (rw (d .is-kind, d .is-kind′) (d .reads, r .notes))
 
 -- ---- the J line
-
-j-bare : (t : List ℕ) → getD t 0 0 ≡ code "J" → Bare t
-j-bare t e = rw (ap kindOf e ∙ is-j) (refl, refl)
-
-i-bare : (t : List ℕ) → getD t 0 0 ≡ code "I" → Bare t
-i-bare t e = rw (ap kindOf e ∙ is-i) (refl, refl)
 
 -- what is shown from the J line's place on
 record PassedJ (room : ℕ) (st : State) (i i′ : Layout) (ls ls′ : Lines) (f : Flight) : Type 0 where
@@ -199,25 +140,27 @@ module _ (room room′ : ℕ) (f : Flight) (i i′ : Layout) (si : Sound 36 i) (
   }
   fromJ (changed {t = t} {t′ = t′} {old = j} {new = j′} {ls = ls} {ls′ = ls′} e e′ x b) st s n p q z a c a′ c′ m h =
       let u = run-there room st t ls f h in
-      let l = layout-there family.K t j e in
-      let l′ = layout-there family.K t′ j′ e′ in
-      let g = j-judged t st (u .0) j (l .1) (byte-there (code "J") (omega arith) kind.J is-j refl t st (u .0) (l .0) (u .1)) in
-      let st′ : State = wide i′ emptyLayout n (staged s st) in
-      let new = byte-here (code "J") (omega arith) kind.J is-j refl t′ st′ (withNotes j′ (moved 4 st′)) (l′ .0) (j-judges t′ st′ j′ (l′ .1) z a′ c′) in
+      let g = told-after j-line t j e st (u .0) (u .1) in
+      let k = told-kind j-line t j e in
+      let k′ = told-kind j-line t′ j′ e′ in
+      let new = told-passes j-line t′ j′ e′ (wide i′ emptyLayout n (staged s st)) z a′ c′ in
       let r = body room room′ f i i′ j j′ si si′ (sound-line family.K t j e) (sound-line family.K t′ j′ e′) b (withNotes j (moved 4 st)) 4 (n + 1) p refl (alike-same 4)
-      (omega arith) (ap (λ x. run room x ls) g ∙ u .2) in
+      (omega arith) (ap (λ (x : State). run room x ls) g ∙ u .2) in
       record {
         j = j;
         j′ = j′;
-        passed = passed-over room′ i i′ j j′ f ls (line t′ ls′) st′ t (j-bare t (l .0)) (passed-put room′ i i′ j j′ f ls ls′ st′ _ t′ new refl (omega arith) r (j-bare t′ (l′ .0)));
+        passed = passed-line room′ i i′ j j′ f ls ls′ (line t ls) _ _ t′ new refl (omega arith) r (rw (k, k′) (r .fixes)) (rw (k, k′) (r .notes));
       }
   fromJ (put {t′ = t′} {new = j′} {ls = ls} {ls′ = ls′} e′ b) st s n p q z a c a′ c′ m h =
-      let l′ = layout-there family.K t′ j′ e′ in
-      let st′ : State = wide i′ emptyLayout n (staged s st) in
-      let new = byte-here (code "J") (omega arith) kind.J is-j refl t′ st′ (withNotes j′ (moved 4 st′)) (l′ .0) (j-judges t′ st′ j′ (l′ .1) z a′ c′) in
+      let k′ = told-kind j-line t′ j′ e′ in
+      let new = told-passes j-line t′ j′ e′ (wide i′ emptyLayout n (staged s st)) z a′ c′ in
       let r = body room room′ f i i′ emptyLayout j′ si si′ (sound-empty 8) (sound-line family.K t′ j′ e′) b st 4 (n + 1) p q
       (alike-early (st .stage) 4 a (omega arith) (omega arith) (omega arith)) (omega arith) h in
-      record { j = emptyLayout; j′ = j′; passed = passed-put room′ i i′ emptyLayout j′ f ls ls′ st′ _ t′ new refl (omega arith) r (j-bare t′ (l′ .0)) }
+      record {
+        j = emptyLayout;
+        j′ = j′;
+        passed = passed-line room′ i i′ emptyLayout j′ f ls ls′ ls _ _ t′ new refl (omega arith) r (rw k′ (r .fixes)) (rw k′ (r .notes));
+      }
 
 -- ---- the lines before the layout lines
 
@@ -234,7 +177,7 @@ body-later (note x w b) = ap isHead (ap kindOf x ∙ is-k)
 
 fromJ-later : {i i′ : Layout} {ls ls′ : Lines} → FromJ i i′ ls ls′ → NotHead ls
 fromJ-later (without b) = body-later b
-fromJ-later (changed {t = t} {old = j} e e′ x b) = ap isHead (ap kindOf (layout-there family.K t j e .0) ∙ is-j)
+fromJ-later (changed {t = t} {old = j} e e′ x b) = ap isHead (told-kind j-line t j e)
 fromJ-later (put e′ b) = body-later b
 
 -- what is no A and no H line, and neither is the end, comes after the H lines
@@ -288,49 +231,47 @@ module _ (room room′ : ℕ) (f : Flight) where
       }
   fromI (changed {t = t} {t′ = t′} {old = i} {new = i′} {ls = ls} {ls′ = ls′} e e′ x b) st y m h =
       let u = run-there room st t ls f h in
-      let a = heads-over room (line t ls) st f (ap isHead (ap kindOf (layout-there family.B t i e .0) ∙ is-i)) h in
-      let l = layout-there family.B t i e in
-      let l′ = layout-there family.B t′ i′ e′ in
-      let g = i-judged t st (u .0) i (l .1) (byte-there (code "I") (omega arith) kind.I is-i refl t st (u .0) (l .0) (u .1)) in
-      let new = byte-here (code "I") (omega arith) kind.I is-i refl t′ st (withFixes i′ (moved 3 st)) (l′ .0) (i-judges t′ st i′ (l′ .1) (y .points) a (y .stage)) in
-      let s = sound-line family.B t i e in
-      let s′ = sound-line family.B t′ i′ e′ in
-      let r = fromJ room room′ f i i′ s s′ b (withFixes i (moved 3 st)) 3 (st .flight .lines + 1) refl (y .notes) (y .points)
-      (omega arith) (omega arith) (omega arith) (omega arith) (omega arith) (ap (λ x. run room x ls) g ∙ u .2) in
+      let g = told-after i-line t i e st (u .0) (u .1) in
+      let k = told-kind i-line t i e in
+      let k′ = told-kind i-line t′ i′ e′ in
+      let a = heads-over room (line t ls) st f (ap isHead k) h in
+      let new = told-passes i-line t′ i′ e′ st (y .points) a (y .stage) in
+      let so = sound-line family.B t i e in
+      let so′ = sound-line family.B t′ i′ e′ in
+      let r = fromJ room room′ f i i′ so so′ b (withFixes i (moved 3 st)) 3 (st .flight .lines + 1) refl (y .notes) (y .points)
+      (omega arith) (omega arith) (omega arith) (omega arith) (omega arith) (ap (λ (x : State). run room x ls) g ∙ u .2) in
       let w : wide i′ emptyLayout (st .flight .lines + 1) (staged 3 (withFixes i (moved 3 st))) ≡ withFixes i′ (moved 3 st) =
-      ap (λ x. withFixes i′ (moved 3 (withNotes x st))) (sym (y .notes)) in
-      let p = subst (λ x. Passed room′ x i i′ (r .j) (r .j′) ls ls′ f) w (r .passed) in
+      ap (λ (x : Layout). withFixes i′ (moved 3 (withNotes x st))) (sym (y .notes)) in
+      let p = subst (λ (x : State). Passed room′ x i i′ (r .j) (r .j′) ls ls′ f) w (r .passed) in
       record {
         i = i;
         i′ = i′;
         j = r .j;
         j′ = r .j′;
-        sound = s;
-        sound′ = s′;
+        sound = so;
+        sound′ = so′;
         extends = x;
-        passed =
-            passed-over room′ i i′ (r .j) (r .j′) f ls (line t′ ls′) st t (i-bare t (l .0))
-            (passed-put room′ i i′ (r .j) (r .j′) f ls ls′ st _ t′ new refl (omega arith) p (i-bare t′ (l′ .0)));
+        passed = passed-line room′ i i′ (r .j) (r .j′) f ls ls′ (line t ls) st _ t′ new refl (omega arith) p (rw (k, k′) (p .fixes)) (rw (k, k′) (p .notes));
       }
   fromI (put {t′ = t′} {new = i′} {ls = ls} {ls′ = ls′} e′ b) st y m h =
       let a = heads-over room ls st f (fromJ-later b) h in
-      let l′ = layout-there family.B t′ i′ e′ in
-      let new = byte-here (code "I") (omega arith) kind.I is-i refl t′ st (withFixes i′ (moved 3 st)) (l′ .0) (i-judges t′ st i′ (l′ .1) (y .points) a (y .stage)) in
-      let s′ = sound-line family.B t′ i′ e′ in
-      let r = fromJ room room′ f emptyLayout i′ (sound-empty 36) s′ b st 3 (st .flight .lines + 1) (y .fixes) (y .notes) (y .points)
+      let k′ = told-kind i-line t′ i′ e′ in
+      let new = told-passes i-line t′ i′ e′ st (y .points) a (y .stage) in
+      let so′ = sound-line family.B t′ i′ e′ in
+      let r = fromJ room room′ f emptyLayout i′ (sound-empty 36) so′ b st 3 (st .flight .lines + 1) (y .fixes) (y .notes) (y .points)
       a (omega (arith, y .stage)) (omega arith) (omega arith) (omega arith) h in
       let w : wide i′ emptyLayout (st .flight .lines + 1) (staged 3 st) ≡ withFixes i′ (moved 3 st) =
-      ap (λ x. withFixes i′ (moved 3 (withNotes x st))) (sym (y .notes)) in
-      let p = subst (λ x. Passed room′ x emptyLayout i′ (r .j) (r .j′) ls ls′ f) w (r .passed) in
+      ap (λ (x : Layout). withFixes i′ (moved 3 (withNotes x st))) (sym (y .notes)) in
+      let p = subst (λ (x : State). Passed room′ x emptyLayout i′ (r .j) (r .j′) ls ls′ f) w (r .passed) in
       record {
         i = emptyLayout;
         i′ = i′;
         j = r .j;
         j′ = r .j′;
         sound = sound-empty 36;
-        sound′ = s′;
+        sound′ = so′;
         extends = tt;
-        passed = passed-put room′ emptyLayout i′ (r .j) (r .j′) f ls ls′ st _ t′ new refl (omega arith) p (i-bare t′ (l′ .0));
+        passed = passed-line room′ emptyLayout i′ (r .j) (r .j′) f ls ls′ ls st _ t′ new refl (omega arith) p (rw k′ (p .fixes)) (rw k′ (p .notes));
       }
 
 -- ---- the A line and the H lines
@@ -377,7 +318,6 @@ module _ (room room′ : ℕ) (f : Flight) where
       let n = early-next k t st (u .0) x (judged-there k t st (u .0) refl (u .1)) y in
       let c = surely (OneMore t st) (judge t st) (u .0) (u .1) (judge-counts t st) .lines in
       let r = went w (u .0) (n .0) (omega arith) (u .2) in
-      let b : Bare t = (n .1, n .2) in
       record {
         i = r .i;
         i′ = r .i′;
@@ -387,8 +327,8 @@ module _ (room room′ : ℕ) (f : Flight) where
         sound′ = r .sound′;
         extends = r .extends;
         passed =
-            passed-over room′ (r .i) (r .i′) (r .j) (r .j′) f ls (line t ls′) st t b
-            (passed-put room′ (r .i) (r .i′) (r .j) (r .j′) f ls ls′ st (u .0) t (u .1) c (omega arith) (r .passed) b);
+            passed-line room′ (r .i) (r .i′) (r .j) (r .j′) f ls ls′ (line t ls) st (u .0) t (u .1) c (omega arith) (r .passed)
+            (rw (n .1) (r .passed .fixes)) (rw (n .2) (r .passed .notes));
       }
 
   -- from the first line on
