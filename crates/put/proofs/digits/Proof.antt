@@ -1,18 +1,16 @@
 -- `put::digits` meets its contract: what is left to put from here is the whole answer. Assumes nothing.
 use Prim.Native.Nat.{ℕ, _≤_, _<_, _-_, _+_}
+use mathlib.Core.Logic.{⊎-elim}
 use mathlib.Core.Path.{_≡_, refl, sym, _∙_}
 use borrow.Author.Needs.{needs}
-use borrow.Author.Tests.{not-true, not-false}
+use borrow.Author.Tests.{ltb-true, ltb-false}
 use native.Mathlib.Omega.{arith}
 use lib.ListN.{length, length-set}
 use lib.Seq.{sets}
 use Rattle.rules.specs.Numbers.{digitsOf}
-use Rattle.put.proofs.Laws.{sets-none, sets-step, digits-length, room-there, put-there, put-short}
+use Rattle.put.proofs.Laws.{sets-none, sets-step, digits-length, put-there, put-past}
 use Rattle.put.proofs.digits.Statement.{statement}
 use Rattle.put.proofs.digits.Tie as tie
-use Rattle.put.proofs.digits.Reads as reads
-use Rattle.put.proofs.digits.Lts as lts
-use Rattle.put.proofs.has_room.Reads as has-room-reads
 
 abbrev Inv-loop : tie.InvT-loop
 Inv-loop out₀ at n v left₀ x₀ out left x =
@@ -21,14 +19,14 @@ Inv-loop out₀ at n v left₀ x₀ out left x =
 abbrev μ-loop : tie.MeasureT-loop
 μ-loop out₀ at n v left₀ x₀ out left x = left
 
-has-room-requires : tie.Need-has-room-requires Inv-loop μ-loop
-has-room-requires c κs = search needs
+sub-if2 : tie.Need-sub-if2 Inv-loop μ-loop
+sub-if2 c = search needs
 
 returns : tie.Need-returns Inv-loop μ-loop
-returns c = put-short _ _ _ _ _ _ (c .before .has-room .ensures) (c .if1 .taken) (digits-length _ _) refl
+returns c = ⊎-elim (λ w. put-past _ _ _ _ _ (digits-length _ _) (omega arith) refl) (λ w. put-past _ _ _ _ _ (digits-length _ _) (omega (arith, ltb-true)) refl) (c .if1 .came)
 
 loop-holds : tie.Need-loop-holds Inv-loop μ-loop
-loop-holds c = (refl, refl, omega arith, room-there _ _ _ _ (c .before .has-room .ensures) (c .if1 .left))
+loop-holds c = (refl, refl, omega arith, omega (arith, ltb-false))
 
 sub-left : tie.Need-sub-left Inv-loop μ-loop
 sub-left c = search needs
@@ -64,8 +62,8 @@ returns-2 : tie.Need-returns-2 Inv-loop μ-loop
 returns-2 c =
     let l = c .before .loop in
     let z : l .left ≡ 0 = omega arith in
-    put-there _ _ _ _ (omega (arith, digits-length (c .before .before .before .before .before .args .n) (c .before .before .before .before .before .args .v)))
-    (sym (rw z at (l .inv .0) ∙ sets-none (l .out) _ (l .x)))
+    put-there _ _ _ _ _ (digits-length _ _) (l .inv .3)
+    (record { is = λ g. sym (rw z at (l .inv .0) ∙ sets-none (l .out) _ (l .x)) })
 
 pub digits-spec : {M : Type 1} → statement M
 digits-spec =
@@ -73,7 +71,7 @@ digits-spec =
     (tie.spec
     Inv-loop
     μ-loop
-    has-room-requires
+    sub-if2
     returns
     loop-holds
     sub-left

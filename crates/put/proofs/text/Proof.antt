@@ -1,17 +1,16 @@
 -- `put::text` meets its contract: what is left to put from here is the whole answer. Assumes nothing.
 use Prim.Native.Nat.{ℕ, _≤_, _<_, _-_, _+_}
+use mathlib.Core.Logic.{⊎-elim}
 use mathlib.Core.Path.{_≡_, refl, sym, _∙_}
 use borrow.Author.Needs.{needs}
+use borrow.Author.Tests.{ltb-true, ltb-false}
 use native.Mathlib.Nat.{add-zero}
 use native.Mathlib.Omega.{arith}
 use lib.ListN.{length, drop, length-set}
 use lib.Seq.{sets}
-use Rattle.put.proofs.Laws.{sets-more, sets-over, room-there, put-there, put-short}
+use Rattle.put.proofs.Laws.{sets-more, sets-over, put-there, put-past}
 use Rattle.put.proofs.text.Statement.{statement}
 use Rattle.put.proofs.text.Tie as tie
-use Rattle.put.proofs.text.Reads as reads
-use Rattle.put.proofs.text.Lts as lts
-use Rattle.put.proofs.has_room.Reads as has-room-reads
 
 abbrev Inv-loop : tie.InvT-loop
 Inv-loop out₀ at bytes n i₀ out i = (sets out₀ at bytes ≡ sets out (at + i) (drop i bytes)) × (length out ≡ length out₀) × (n ≡ length bytes) × (at + n ≤ length out₀)
@@ -19,14 +18,14 @@ Inv-loop out₀ at bytes n i₀ out i = (sets out₀ at bytes ≡ sets out (at +
 abbrev μ-loop : tie.MeasureT-loop
 μ-loop out₀ at bytes n i₀ out i = n - i
 
-has-room-requires : tie.Need-has-room-requires Inv-loop μ-loop
-has-room-requires c κs = search needs
+sub-if2 : tie.Need-sub-if2 Inv-loop μ-loop
+sub-if2 c = search needs
 
 returns : tie.Need-returns Inv-loop μ-loop
-returns c = put-short _ _ _ _ _ _ (c .before .has-room .ensures) (c .if1 .taken) refl refl
+returns c = ⊎-elim (λ w. put-past _ _ _ _ _ refl (omega arith) refl) (λ w. put-past _ _ _ _ _ refl (omega (arith, ltb-true)) refl) (c .if1 .came)
 
 loop-holds : tie.Need-loop-holds Inv-loop μ-loop
-loop-holds c = (rw add-zero, refl, refl, room-there _ _ _ _ (c .before .has-room .ensures) (c .if1 .left))
+loop-holds c = (rw add-zero, refl, refl, omega (arith, ltb-false))
 
 shared-slice-read-out : tie.Need-shared-slice-read-out Inv-loop μ-loop
 shared-slice-read-out c = search needs
@@ -57,7 +56,7 @@ same-length c = c .before .loop .inv .1
 
 returns-2 : tie.Need-returns-2 Inv-loop μ-loop
 returns-2 c =
-    let l = c .before .loop in put-there _ _ _ _ (omega arith) (sym (l .inv .0 ∙ sets-over (l .out) _ _ (l .i) (omega arith)))
+    let l = c .before .loop in put-there _ _ _ _ _ refl (omega arith) (record { is = λ g. sym (l .inv .0 ∙ sets-over (l .out) _ _ (l .i) (omega arith)) })
 
 pub text-spec : {M : Type 1} → statement M
 text-spec =
@@ -65,7 +64,7 @@ text-spec =
     (tie.spec
     Inv-loop
     μ-loop
-    has-room-requires
+    sub-if2
     returns
     loop-holds
     shared-slice-read-out
