@@ -5,14 +5,15 @@ use Prim.Native.String.{String}
 use mathlib.Core.Bool.{Bool, true}
 use mathlib.Core.List.{List, [], _∷_, _++_}
 use mathlib.Core.Path.{_≡_, refl}
-use lib.IntN.{ℤ, pos}
+use lib.IntN.{ℤ, pos, negℤ}
 use lib.ListN.{replicate}
 use Rattle.rules.specs.Choice.{bytes}
 use Rattle.rules.specs.Refusals.{Said, says, refuses, andThen}
 use Rattle.rules.specs.Layouts.{unused, emptyLayout}
 use Rattle.rules.specs.Files.{verdict, tableAfter}
-use Rattle.rules.specs.Reads.{fixSaid, numberSaid}
+use Rattle.rules.specs.Reads.{layoutSaid, numberSaid}
 use Rattle.rules.specs.Listing.{listing}
+use Rattle.rules.specs.declared.Family.the-variants as family
 use Rattle.rules.specs.declared.Layout.{Layout}
 use Rattle.rules.specs.declared.Flight.{Flight}
 use Rattle.rules.proofs.Computed.{everything, fileOf, agree, Example, hold}
@@ -53,25 +54,34 @@ listing-of-five = refl
 unfoldable pub linesIn : ℕ → List ℕ → Said ℤ
 linesIn room file = andThen (verdict file room) λ f. says (pos (f .lines))
 
--- a column of a B line as a number
-unfoldable pub columnIn : String → List ℕ → Said ℤ
+-- a column of a B line as a number, by the layout of an I line
+unfoldable pub columnIn : String → String → List ℕ → Said ℤ
 unfolding bytes
-columnIn name l = andThen (numberSaid l fiveLayout (bytes name)) λ z. says (z .value)
+columnIn i name l =
+    andThen (layoutSaid family.B (bytes i)) λ layout.
+    andThen (numberSaid l layout (bytes name)) λ z.
+    says (z .value)
 
 abbrev lines : List String → Said ℤ → Example
 unfolding fileOf
 lines texts answer = record { given = fileOf texts; asked = linesIn 16; answer = answer }
 
-abbrev column : String → String → Said ℤ → Example
+abbrev column : String → String → String → Said ℤ → Example
 unfolding bytes
-column line name answer = record { given = bytes line; asked = columnIn name; answer = answer }
+column i b name answer = record { given = bytes b; asked = columnIn i name; answer = answer }
 
 pub examples : List Example
 unfolding bytes fileOf
 examples =
-    column "B1200005130000N00015000WA001000012001208" "FXA" (says (pos 12)) ∷
-    column "B1200005130000N00015000WA001000012001208" "SIU" (says (pos 8)) ∷
-    column "B1200005130000N00015000WA001000012001208" "ENL" (refuses 19 0 0) ∷
+    column "I023638FXA3940SIU" "B1200005130000N00015000WA001000012001208" "FXA" (says (pos 12)) ∷
+    column "I023638FXA3940SIU" "B1200005130000N00015000WA001000012001208" "SIU" (says (pos 8)) ∷
+    column "I023638FXA3940SIU" "B1200005130000N00015000WA001000012001208" "ENL" (refuses 19 0 0) ∷
+    -- ENL stands where the I line says
+    column "I023638FXA3941ENL" "B1200005130000N00015000WA0010000120012345" "ENL" (says (pos 345)) ∷
+    column "I033638ENL3941FXA4244MOP" "B1200005130000N00015000WA0010000120678012345" "ENL" (says (pos 678)) ∷
+    -- a minus before digits, and a text that is no number
+    column "I013638FLP" "B1200005130000N00015000WA0010000120-05" "FLP" (says (negℤ (pos 5))) ∷
+    column "I013638ZZZ" "B1200005130000N00015000WA00100001201-5" "ZZZ" (refuses 20 0 0) ∷
     lines ("AXYZ001" ∷ "HFDTE150724" ∷ "I023638FXA3940SIU" ∷ "B1200005130000N00015000WA001000012001208" ∷ "GABC" ∷ []) (says (pos 5)) ∷
     -- 3: no CR LF behind the four bytes of line 5
     record {

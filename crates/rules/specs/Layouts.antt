@@ -51,9 +51,12 @@ pub record Span : Type 0 where
   pub first : ℕ
   pub last : ℕ
 
+abbrev pub spanOf : Entry → Span
+spanOf e = record { first = e .first; last = e .last }
+
 -- the first and last byte of the column of a code
 unfoldable pub look : Layout → ℕ → Option Span
-look l x = firstOf (λ (e : Entry). eqb (e .code) x) (λ (k : ℕ) (e : Entry). let s : Span = record { first = e .first; last = e .last } in s) (entriesOf l) 0
+look l x = firstOf (λ e. eqb (e .code) x) (λ k e. spanOf e) (entriesOf l) 0
 
 unfoldable pub carries : Layout → ℕ → Bool
 carries l x = given (look l x) false λ s. true
@@ -121,7 +124,7 @@ columnText l s = part (byte (s .first)) (s .last) l
 -- "13 COLUMN: listed column against its rule; line, column's first byte"
 unfoldable pub badColumn : List ℕ → Layout → Option ℕ
 badColumn l layout =
-    firstOf (λ (e : Entry). not (keepsRule (e .code) (part (byte (e .first)) (e .last) l))) (λ (k : ℕ) (e : Entry). e .first) (entriesOf layout) 0
+    firstOf (λ e. not (keepsRule (e .code) (columnText l (spanOf e)))) (λ k e. e .first) (entriesOf layout) 0
 
 unfoldable pub columns : List ℕ → Layout → Said (Unit {0})
 columns l layout = given (badColumn l layout) (says tt) λ first. no Column first

@@ -11,10 +11,11 @@ use Rattle.rules.specs.Refusals.{Said, says, refuses, no, andThen, break
 use Rattle.rules.specs.Chars.{characters, isCode, codesAt}
 use Rattle.rules.specs.Numbers.{numberAt}
 use Rattle.rules.specs.Fields.{timeAt, dateAt, latitudeAt, longitudeAt, altitudeAt, isEither}
-use Rattle.rules.specs.Layouts.{layoutFields, lineLength, columns}
+use Rattle.rules.specs.Layouts.{firstStart, layoutFields, lineLength, columns}
 use Rattle.rules.specs.declared.Reason.the-variants.{Length}
 use Rattle.rules.specs.declared.Date.{Date}
 use Rattle.rules.specs.declared.Layout.{Layout}
+use Rattle.rules.specs.declared.Family.the-variants as family
 use Rattle.rules.specs.declared.Fix.{Fix}
 use Rattle.rules.specs.declared.Planned.{Planned}
 use Rattle.rules.specs.declared.Planned.the-variants as planned
@@ -74,7 +75,8 @@ dateLine l =
 unfoldable pub hLine : List ℕ → Said (Unit {0})
 hLine l =
     andThen (shaped 5 255 true l) λ _.
-    need (isEither (getD l (byte 2) 0) (code "F") (code "O")) (breaks other 2) λ _.
+    on (getD l (byte 2) 0) λ b.
+    need (isEither b (code "F") (code "O")) (breaks other 2) λ _.
     need (codesAt l (byte 3) 3) (breaks other 3) λ _.
     says tt
 
@@ -114,7 +116,8 @@ pointLine l =
 unfoldable pub dLine : List ℕ → Said (Unit {0})
 dLine l =
     andThen (shaped 6 6 false l) λ _.
-    need (isEither (getD l (byte 2) 0) (code "1") (code "2")) (breaks other 2) λ _.
+    on (getD l (byte 2) 0) λ b.
+    need (isEither b (code "1") (code "2")) (breaks other 2) λ _.
     need (codesAt l (byte 3) 4) (breaks other 3) λ _.
     says tt
 
@@ -159,7 +162,7 @@ shapedBy start layout l = shaped (lineLength start layout) (lineLength start lay
 -- "columns from 36"
 unfoldable pub bLine : Layout → List ℕ → Said Fix
 bLine layout l =
-    andThen (shapedBy 36 layout l) λ _.
+    andThen (shapedBy (firstStart family.B) layout l) λ _.
     andThen (fixFields l) λ f.
     andThen (columns l layout) λ _.
     says f
@@ -167,7 +170,7 @@ bLine layout l =
 -- "K: time 2 to 7, columns from 8."
 unfoldable pub kLine : Layout → List ℕ → Said ℕ
 kLine layout l =
-    andThen (shapedBy 8 layout l) λ _.
+    andThen (shapedBy (firstStart family.K) layout l) λ _.
     given (timeAt l (byte 2)) (breaks time 2) λ t.
     andThen (columns l layout) λ _.
     says t

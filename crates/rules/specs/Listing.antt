@@ -6,16 +6,17 @@ use lib.Dec.{ltb, leb}
 use lib.IntN.{ℤ, pos, negsuc}
 use lib.ListN.{length, getD}
 use Prim.Native.Char.{code}
-use Rattle.rules.specs.Choice.{need, bytes, part, byte}
+use Rattle.rules.specs.Choice.{need, bytes}
 use Rattle.rules.specs.Refusals.{Said, says, refuses, no}
 use Rattle.rules.specs.Listed.{codeText}
-use Rattle.rules.specs.Layouts.{lineLength, entriesOf, firstStart}
+use Rattle.rules.specs.Layouts.{lineLength, entriesOf, firstStart, spanOf, columnText}
 use Rattle.rules.specs.Split.{Lines, end, broken, line, linesOf}
 use Rattle.rules.specs.Reads.{fixSaid}
 use Rattle.rules.specs.Files.{verdict}
 use Rattle.rules.specs.declared.Reason.the-variants.{InputOver}
 use Rattle.rules.specs.declared.Entry.{Entry}
 use Rattle.rules.specs.declared.Layout.{Layout}
+use Rattle.rules.specs.declared.Family.the-variants as family
 use Rattle.rules.specs.declared.Fix.{Fix}
 use Rattle.rules.specs.declared.Flight.{Flight}
 
@@ -52,7 +53,7 @@ refusedText n l b = bytes "REFUSED" ++ (shown n ++ (shown l ++ (shown b ++ lf)))
 unfoldable pub okText : Flight → List ℕ
 unfolding bytes
 okText f =
-    bytes "OK" ++ (shown (f .lines) ++ (shown (f .bs) ++ (shown (f .ks) ++ (shown (lineLength 36 (f .fixes)) ++ (shown (lineLength 8 (f .notes)) ++ lf)))))
+    bytes "OK" ++ (shown (f .lines) ++ (shown (f .bs) ++ (shown (f .ks) ++ (shown (lineLength (firstStart family.B) (f .fixes)) ++ (shown (lineLength (firstStart family.K) (f .notes)) ++ lf)))))
 
 -- "FIX: line, seconds, latitude and letter, longitude and letter, validity, pressure and GNSS altitude."
 unfoldable pub fixShown : ℕ → Fix → List ℕ
@@ -72,7 +73,7 @@ fixShown n f =
 -- "COL: code and text, in layout order, under each fix."
 unfoldable pub columnShown : List ℕ → Entry → List ℕ
 unfolding bytes
-columnShown l e = bytes "COL " ++ (codeText (e .code) ++ (code " " ∷ (part (byte (e .first)) (e .last) l ++ lf)))
+columnShown l e = bytes "COL " ++ (codeText (e .code) ++ (code " " ∷ (columnText l (spanOf e) ++ lf)))
 
 unfoldable pub columnsShown : List ℕ → List Entry → List ℕ
 columnsShown l [] = []

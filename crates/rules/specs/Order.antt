@@ -7,11 +7,12 @@ use lib.Dec.{eqb, leb, ltb}
 use lib.ListN.{length, getD}
 use Rattle.rules.specs.Choice.{given, need, on}
 use Rattle.rules.specs.Refusals.{Said, says, refuses, no, andThen}
-use Rattle.rules.specs.Layouts.{emptyLayout}
+use Rattle.rules.specs.Layouts.{emptyLayout, firstStart}
 use Rattle.rules.specs.Lines.{kindOf, aLine, dateLine, hLine, layoutLine, headLine, pointLine, dLine, eLine, fLine, bLine, kLine, lLine, gLine, otherLine}
 use Rattle.rules.specs.declared.Reason.the-variants as reason
 use Rattle.rules.specs.declared.Date.{Date}
 use Rattle.rules.specs.declared.Layout.{Layout}
+use Rattle.rules.specs.declared.Family.the-variants as family
 use Rattle.rules.specs.declared.Head.{Head}
 use Rattle.rules.specs.declared.Kind.{Kind}
 use Rattle.rules.specs.declared.Kind.the-variants as kind
@@ -193,8 +194,8 @@ timed t st = need (not (isBack (passing (st .clock) t))) (no reason.Back 2) λ _
 unfoldable pub ruled : Kind → List ℕ → State → Said State
 ruled kind.A l st = andThen (aLine l) λ _. says st
 ruled kind.H l st = cond (eqb (st .flight .lines) 2) (andThen (dateLine l) λ d. says (dated d st)) (andThen (hLine l) λ _. says st)
-ruled kind.I l st = andThen (layoutLine 36 l) λ i. says (withFixes i st)
-ruled kind.J l st = andThen (layoutLine 8 l) λ j. says (withNotes j st)
+ruled kind.I l st = andThen (layoutLine (firstStart family.B) l) λ i. says (withFixes i st)
+ruled kind.J l st = andThen (layoutLine (firstStart family.K) l) λ j. says (withNotes j st)
 ruled kind.C l st = cond (eqb (st .points) 0) (andThen (headLine l) λ h. says (begun h st)) (andThen (pointLine l) λ _. says (pointed st))
 ruled kind.D l st = andThen (dLine l) λ _. says st
 ruled kind.E l st = andThen (eLine l) λ t. timed t st
