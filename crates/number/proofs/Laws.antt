@@ -13,9 +13,9 @@ use lib.ListN.{length, getD, drop, drop-of-length-le, length-drop}
 use lib.Seq.{drop-cons}
 use mir.Syntax.{w8, w16, w32, w64}
 use mir.Val.{Fits}
-use Rattle.rules.specs.Choice.{need}
+use Rattle.rules.specs.Choice.{need, on}
 use Rattle.rules.specs.Chars.{isDigit}
-use Rattle.rules.specs.Numbers.{spell, numberAt, numberTold}
+use Rattle.rules.specs.Numbers.{spell, numberAt, wholeOf, numberTold}
 use Rattle.rules.specs.declared.Number.{Number}
 use Rattle.rules.specs.declared.Number.the-variants.{Value}
 
@@ -58,6 +58,12 @@ grows k v d h g = rw (add-one, pow-suc) (omega arith)
 
 pub below-17 : (k v : ℕ) → k ≤ 17 → v < 10 ^ k → v < 10 ^ 17
 below-17 k v le h = omega (arith, pow-le-pow-right {n = 10} (omega arith) le)
+
+-- no text, no number
+pub whole-empty : (t : List ℕ) → length t < 1 → wholeOf t ≡ none
+unfolding wholeOf on
+whole-empty [] h = refl
+whole-empty (b ∷ t) h = let z : ⊥ = omega arith in search
 
 -- ---- what was read has its digits, and is below the power of ten that they allow
 
