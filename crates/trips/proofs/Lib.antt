@@ -1,0 +1,16 @@
+pub mod Laws
+pub mod Texts
+pub mod Trip
+pub mod Digits
+pub mod Times
+pub mod Dates
+pub mod Positions
+pub mod Altitudes
+pub mod Plans
+pub mod Same
+pub mod LineTrip
+pub mod Points
+pub mod Tails
+pub mod Notes
+pub mod Heads
+pub mod Fixes
