@@ -1,0 +1,3 @@
+// The lines that are written: B, I, J, K and C lines, each with its CR LF, into a lent output from a place on.
+mod ending;
+mod points;
