@@ -27,9 +27,10 @@ pub fn point(p: Point, rest: &[u8], out: &mut [u8], place: usize) -> Wrote
     if !limits::good_point(p, rest) {
         return refused(Reason::BadValue);
     }
-    if out.len() < place || out.len() - place < 20 + rest.len() {
+    let n = 20 + rest.len();
+    if out.len() < place || out.len() - place < n {
         return refused(Reason::NoRoom);
     }
     fill_point(p, rest, &mut out[place..]);
-    Wrote::Next(place + 20 + rest.len())
+    Wrote::Next(place + n)
 }
