@@ -108,7 +108,7 @@ fills-then x l l₁ at t b f g = record {
       cc (sets-append l at t b, g .is (rw (e, length-sets l at t) r), e);
 }
 
-put-then : (x l l₁ : List ℕ) (at : ℕ) (t b : List ℕ) (n : ℕ) → length t ≡ n → l₁ ≡ putAt l at t → Fills l₁ (at + n) b x → Fills l at (t ++ b) x
+pub put-then : (x l l₁ : List ℕ) (at : ℕ) (t b : List ℕ) (n : ℕ) → length t ≡ n → l₁ ≡ putAt l at t → Fills l₁ (at + n) b x → Fills l at (t ++ b) x
 put-then x l l₁ at t b n h e f = fills-then x l l₁ at t b (put-last l₁ l at t e) (rw h f)
 
 pub byte-then : (x l l₁ : List ℕ) (at v : ℕ) (b : List ℕ) → l₁ ≡ putAt l at (v ∷ []) → Fills l₁ (at + 1) b x → Fills l at (v ∷ b) x

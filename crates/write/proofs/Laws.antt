@@ -10,14 +10,17 @@ use borrow.Rule.Slice.PartMut.{midOf, putMid}
 use lib.ListN.{length, take, drop, set, length-append, length-drop, drop-of-length-le}
 use lib.Seq.{sets, take-all}
 use Rattle.rules.specs.Refusals.{no}
-use Rattle.rules.specs.Writes.{crlf, written, outAfter, wroteTold, pointText}
+use Rattle.rules.specs.Writes.{crlf, written, outAfter, wroteTold, putAt, plannedText, pointText, headText}
 use Rattle.rules.specs.Promises.{Written}
 use Rattle.rules.specs.declared.Reason.the-variants.{BadValue, NoRoom}
+use Rattle.rules.specs.declared.Head.{Head}
+use Rattle.rules.specs.declared.Planned.{Planned}
+use Rattle.rules.specs.declared.Planned.the-variants as planned
 use Rattle.rules.specs.declared.Point.{Point}
 use Rattle.rules.specs.declared.Wrote.{Wrote}
 use Rattle.rules.specs.declared.Wrote.the-variants.{Next}
 use Rattle.put.specs.Puts.{Fills}
-use Rattle.put.proofs.Laws.{position-length}
+use Rattle.put.proofs.Laws.{put-then, digits-length, date-length, time-length, position-length}
 
 -- ---- a line that is filled part by part
 
@@ -73,3 +76,17 @@ module _ (good test : Bool) (text : List ℕ) (place : ℕ) (out : List ℕ) (r 
 pub point-length : (p : Point) (rest : List ℕ) → length (pointText p rest) + 2 ≡ 20 + length rest
 unfolding pointText
 point-length p rest = simp (length-append, position-length) (omega arith)
+
+pub planned-length : (f : Planned) → length (plannedText f) ≡ 6
+unfolding plannedText
+planned-length (planned.On d) = date-length d
+planned-length planned.NotGiven = digits-length 6 0
+
+pub head-length : (h : Head) (rest : List ℕ) → length (headText h rest) + 2 ≡ 27 + length rest
+unfolding headText
+head-length h rest = simp (length-append, date-length, time-length, planned-length, digits-length) (omega arith)
+
+-- ---- a flight date, in the form that `search` finds
+
+pub planned-then : (x l l₁ : List ℕ) (at : ℕ) (f : Planned) (b : List ℕ) → l₁ ≡ putAt l at (plannedText f) → Fills l₁ (at + 6) b x → Fills l at (plannedText f ++ b) x
+planned-then x l l₁ at f b e g = put-then x l l₁ at (plannedText f) b 6 (planned-length f) e g

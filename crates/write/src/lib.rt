@@ -1,3 +1,7 @@
 // The lines that are written: B, I, J, K and C lines, each with its CR LF, into a lent output from a place on.
 mod ending;
+mod heads;
 mod points;
+
+pub use heads::head;
+pub use points::point;
