@@ -1,6 +1,8 @@
 // The lines that are written: B, I, J, K and C lines, each with its CR LF, into a lent output from a place on.
 mod ending;
+mod fixes;
 mod heads;
+mod notes;
 mod points;
 
 pub use heads::head;
