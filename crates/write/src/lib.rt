@@ -2,6 +2,7 @@
 mod ending;
 mod fixes;
 mod heads;
+mod layouts;
 mod notes;
 mod points;
 

@@ -1,0 +1,44 @@
+// I and J lines.
+ghost use mathlib.Core.List.{_++_};
+ghost use Prim.Native.Nat.{_<_, _≤_};
+ghost use Rattle.rules.specs.Listed.{codeText};
+ghost use Rattle.rules.specs.Layouts.{entriesOf};
+ghost use Rattle.rules.specs.Writes.{entryText, entryTexts, crlf};
+ghost use Rattle.put.specs.Puts.{Fills};
+ghost use Rattle.write.specs.Parts.{Spells};
+use rules::Entry;
+use rules::Layout;
+
+// The three characters of a code.
+fn fill_code(code: u32, out: &mut [u8], at: usize)
+    requires { ⌜ (code < 16777216) × (at ≤ 99) ⌝ }
+    ensures { λ _. ⌜ Fills (now (out .entry)) at (codeText code) (now (out .exit)) ⌝ }
+{
+    put::byte(out, at, (code / 65536) as u8);
+    put::byte(out, at + 1, (code / 256 % 256) as u8);
+    put::byte(out, at + 1 + 1, (code % 256) as u8);
+}
+
+// An entry: start, finish and code.
+fn fill_entry(e: Entry, out: &mut [u8], at: usize)
+    requires { ⌜ (e .code < 16777216) × (at ≤ 95) ⌝ }
+    ensures { λ _. ⌜ Fills (now (out .entry)) at (entryText e) (now (out .exit)) ⌝ }
+{
+    put::digits(out, at, 2, e.first as u64);
+    put::digits(out, at + 2, 2, e.last as u64);
+    fill_code(e.code, out, at + 2 + 2);
+}
+
+// The entries of a layout, one behind the other, from the fourth byte on.
+fn fill_entries(l: Layout, out: &mut [u8])
+    requires { ⌜ Spells l ⌝ }
+    ensures { λ _. ⌜ Fills (now (out .entry)) 3 (entryTexts (entriesOf l)) (now (out .exit)) ⌝ }
+{
+    let n = l.count;
+    let mut i = 0;
+    while i < n {
+        let e = l.entries[i];
+        fill_entry(e, out, 3 + 7 * i);
+        i += 1;
+    }
+}
