@@ -1,12 +1,15 @@
 // I and J lines.
 ghost use mathlib.Core.List.{_++_};
+ghost use mathlib.Core.Path.{_≡_};
 ghost use Prim.Native.Nat.{_<_, _≤_};
 ghost use Rattle.rules.specs.Listed.{codeText};
 ghost use Rattle.rules.specs.Layouts.{entriesOf};
-ghost use Rattle.rules.specs.Writes.{entryText, entryTexts, crlf};
+ghost use Rattle.rules.specs.Writes.{entryText, entryTexts, layoutText, crlf};
+ghost use Rattle.rules.specs.Reads.{layoutLetter};
 ghost use Rattle.put.specs.Puts.{Fills};
 ghost use Rattle.write.specs.Parts.{Spells};
 use rules::Entry;
+use rules::Family;
 use rules::Layout;
 
 // The three characters of a code.
@@ -41,4 +44,26 @@ fn fill_entries(l: Layout, out: &mut [u8])
         fill_entry(e, out, 3 + 7 * i);
         i += 1;
     }
+}
+
+// I for the layout of B lines, J for that of K lines.
+fn letter(family: Family) -> u8
+    ensures { λ r. ⌜ r ≡ layoutLetter family ⌝ }
+{
+    match family {
+        Family::B => b'I',
+        Family::K => b'J',
+    }
+}
+
+// A layout's line and its CR LF, at the front of an output.
+fn fill_layout(family: Family, l: Layout, out: &mut [u8])
+    requires { ⌜ Spells l ⌝ }
+    ensures { λ _. ⌜ Fills (now (out .entry)) 0 (layoutText family l ++ crlf) (now (out .exit)) ⌝ }
+{
+    let n = l.count;
+    put::byte(out, 0, letter(family));
+    put::digits(out, 1, 2, n as u64);
+    fill_entries(l, out);
+    put::text(out, 3 + 7 * n, b"\r\n");
 }

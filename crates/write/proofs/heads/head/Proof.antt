@@ -8,8 +8,6 @@ use Rattle.trips.proofs.Heads.{head-good}
 use Rattle.write.proofs.Laws.{bad, short, done, head-length}
 use Rattle.write.proofs.heads.head.Statement.{statement}
 use Rattle.write.proofs.heads.head.Tie as tie
-use Rattle.write.proofs.heads.head.Reads as reads
-use Rattle.write.proofs.heads.head.Lts as lts
 
 returns : tie.Need-returns
 returns c = bad _ _ _ _ _ _ _ (head-good _ _) (c .before .before .good-head .ensures) _ (c .before .if1 .taken) (c .refused .ensures) refl

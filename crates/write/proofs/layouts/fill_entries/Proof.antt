@@ -10,9 +10,6 @@ use Rattle.put.specs.Puts.{Fills}
 use Rattle.write.proofs.Entries.{entry-more, entries-none, entries-all, unmapped}
 use Rattle.write.proofs.layouts.fill_entries.Statement.{statement}
 use Rattle.write.proofs.layouts.fill_entries.Tie as tie
-use Rattle.write.proofs.layouts.fill_entries.Reads as reads
-use Rattle.write.proofs.layouts.fill_entries.Lts as lts
-use Rattle.write.proofs.layouts.fill_entry.Reads as fill-entry-reads
 
 abbrev Inv-loop : tie.InvT-loop
 Inv-loop out₀ l n i₀ out i = Fills out₀ 3 (entryTexts (take i (entriesOf l))) out × (length out ≡ length out₀) × (i ≤ n) × (n ≡ l .count)

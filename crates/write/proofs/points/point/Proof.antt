@@ -8,8 +8,6 @@ use Rattle.trips.proofs.Points.{point-good}
 use Rattle.write.proofs.Laws.{bad, short, done, point-length}
 use Rattle.write.proofs.points.point.Statement.{statement}
 use Rattle.write.proofs.points.point.Tie as tie
-use Rattle.write.proofs.points.point.Reads as reads
-use Rattle.write.proofs.points.point.Lts as lts
 
 returns : tie.Need-returns
 returns c = bad _ _ _ _ _ _ _ (point-good _ _) (c .before .before .good-point .ensures) _ (c .before .if1 .taken) (c .refused .ensures) refl
