@@ -1,0 +1,3 @@
+-- Laws of the definitions that the proofs share.
+pub mod Laws
+pub mod Turns

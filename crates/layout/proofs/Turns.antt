@@ -1,0 +1,71 @@
+-- One turn of a loop over the entries of a layout: the entry at the place i decides, or those behind it do. Assumes nothing.
+use Prim.Native.Nat.{ℕ, suc, _+_, _-_, _≤_, _<_}
+use mathlib.Core.Bool.{Bool, true, false}
+use mathlib.Core.Option.{Option, none, some}
+use mathlib.Core.List.{List}
+use mathlib.Core.Path.{_≡_, refl, sym, _∙_, ap}
+use native.Mathlib.Omega.{arith}
+use lib.ListN.{length, getD, drop, length-take}
+use lib.Seq.{getD-take}
+use Rattle.rules.specs.Choice.{firstOf}
+use Rattle.rules.specs.Refusals.{Said, says, refuses, outcomeTold}
+use Rattle.rules.specs.Layouts.{unused, entriesOf, withEntry, entryAt, entriesFrom, LayoutTold}
+use Rattle.rules.specs.declared.Entry.{Entry}
+use Rattle.rules.specs.declared.Layout.{Layout}
+use Rattle.rules.specs.declared.LayoutRead.{LayoutRead}
+use Rattle.rules.specs.declared.Outcome.the-variants.{Accepted}
+use Rattle.chars.proofs.Laws.{hit, miss, past}
+
+module _ (l : Layout) (i : ℕ) where
+  there : length (l .entries) ≡ 13 → i < 13 → i < l .count → i < length (entriesOf l)
+  there e h k = simp length-take (omega arith)
+
+  same : i < l .count → getD (entriesOf l) i unused ≡ getD (l .entries) i unused
+  same k = getD-take (l .count) (l .entries) i unused k
+
+-- the first entry that passes a test
+module _ {B : Type 0} (test : Entry → Bool) (found : ℕ → Entry → B) (l : Layout) (i : ℕ) where
+  pub entry-hit : length (l .entries) ≡ 13 → i < 13 → i < l .count → test (getD (l .entries) i unused) ≡ true
+      → firstOf test found (drop i (entriesOf l)) i ≡ some (found i (getD (l .entries) i unused))
+  entry-hit e h k t =
+      hit test found (entriesOf l) unused i i (there l i e h k) (ap test (same l i k) ∙ t) ∙ ap (λ x. some (found i x)) (same l i k)
+
+  pub entry-miss : length (l .entries) ≡ 13 → i < 13 → i < l .count → test (getD (l .entries) i unused) ≡ false
+      → firstOf test found (drop i (entriesOf l)) i ≡ firstOf test found (drop (i + 1) (entriesOf l)) (i + 1)
+  entry-miss e h k t = miss test found (entriesOf l) unused i i (there l i e h k) (ap test (same l i k) ∙ t)
+
+  pub entry-past : l .count ≤ i → firstOf test found (drop i (entriesOf l)) i ≡ none
+  entry-past k = past test found (entriesOf l) unused i i (simp length-take (omega arith))
+
+  pub entry-end : length (l .entries) ≡ 13 → 13 ≤ i → firstOf test found (drop i (entriesOf l)) i ≡ none
+  entry-end e h = past test found (entriesOf l) unused i i (simp length-take (omega arith))
+
+-- ---- the entries of a line, i of count being read
+
+module _ (count i : ℕ) (l : List ℕ) (at start : ℕ) (before : Layout) where
+  one-left : i < count → count - i ≡ suc (count - (i + 1))
+  one-left h = omega arith
+
+  none-left : count ≤ i → count - i ≡ 0
+  none-left h = omega arith
+
+  pub taken : i < count → (e : Entry) → entryAt l at start before ≡ says e
+      → entriesFrom (count - i) l at start before ≡ entriesFrom (count - (i + 1)) l (at + 7) (e .last + 1) (withEntry before e)
+  unfolding entriesFrom
+  taken h e p = rw (one-left h, p)
+
+  pub ends : i < count → (n k b : ℕ) → entryAt l at start before ≡ refuses n k b → entriesFrom (count - i) l at start before ≡ refuses n k b
+  unfolding entriesFrom
+  ends h n k b p = rw (one-left h, p)
+
+  pub done : count ≤ i → entriesFrom (count - i) l at start before ≡ says before
+  unfolding entriesFrom
+  done h = rw (none-left h)
+
+-- what is beside an answer
+pub told-same : (s t : Said Layout) (r : LayoutRead) → s ≡ t → LayoutTold s r → LayoutTold t r
+told-same s t r e h = rw (← e) h
+
+pub told-read : (s : Said Layout) (l : Layout) → s ≡ says l → LayoutTold s (record { outcome = Accepted; layout = l })
+unfolding outcomeTold
+told-read s l e = rw e (record { answer = refl; layout = refl })
