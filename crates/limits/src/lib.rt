@@ -1,6 +1,7 @@
 // Whether values given to a writer keep to their limits: the tests of which number 17 is made.
 mod fields;
 mod lines;
+mod tails;
 
 pub use lines::good_head;
 pub use lines::good_point;

@@ -18,29 +18,11 @@ Inv-loop out₀ at bytes n i₀ out i = (sets out₀ at bytes ≡ sets out (at +
 abbrev μ-loop : tie.MeasureT-loop
 μ-loop out₀ at bytes n i₀ out i = n - i
 
-sub-if2 : tie.Need-sub-if2 Inv-loop μ-loop
-sub-if2 c = search needs
-
 returns : tie.Need-returns Inv-loop μ-loop
 returns c = ⊎-elim (λ w. put-past _ _ _ _ _ refl (omega arith) refl) (λ w. put-past _ _ _ _ _ refl (omega (arith, ltb-true)) refl) (c .if1 .came)
 
 loop-holds : tie.Need-loop-holds Inv-loop μ-loop
 loop-holds c = (rw add-zero, refl, refl, omega (arith, ltb-false))
-
-shared-slice-read-out : tie.Need-shared-slice-read-out Inv-loop μ-loop
-shared-slice-read-out c = search needs
-
-add-out : tie.Need-add-out Inv-loop μ-loop
-add-out c = search needs
-
-slice-write-out : tie.Need-slice-write-out Inv-loop μ-loop
-slice-write-out c = search needs
-
-add-i : tie.Need-add-i Inv-loop μ-loop
-add-i c = search needs
-
-loop-less : tie.Need-loop-less Inv-loop μ-loop
-loop-less c = search needs
 
 loop-again : tie.Need-loop-again Inv-loop μ-loop
 loop-again c =
@@ -64,14 +46,14 @@ text-spec =
     (tie.spec
     Inv-loop
     μ-loop
-    sub-if2
+    (λ c. search needs)
     returns
     loop-holds
-    shared-slice-read-out
-    add-out
-    slice-write-out
-    add-i
-    loop-less
+    (λ c. search needs)
+    (λ c. search needs)
+    (λ c. search needs)
+    (λ c. search needs)
+    (λ c. search needs)
     loop-again
     same-length
     returns-2)

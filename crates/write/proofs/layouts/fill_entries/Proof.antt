@@ -23,29 +23,14 @@ long c = search unmapped
 loop-holds : tie.Need-loop-holds Inv-loop μ-loop
 loop-holds c = (entries-none _, refl, search needs, refl)
 
-mul-e : tie.Need-mul-e Inv-loop μ-loop
-mul-e c = search needs
-
 element-copy-out-e : tie.Need-element-copy-out-e Inv-loop μ-loop
 element-copy-out-e c = omega (arith, c .before .before .before .pre .few)
-
-mul-fill-entry : tie.Need-mul-fill-entry Inv-loop μ-loop
-mul-fill-entry c = search needs
-
-add-fill-entry : tie.Need-add-fill-entry Inv-loop μ-loop
-add-fill-entry c = search needs
 
 fill-entry-requires : tie.Need-fill-entry-requires Inv-loop μ-loop
 fill-entry-requires c κs =
     let a = c .before .before .before in
     let p = a .before .before .pre in
     (p .codes (a .loop .i) (c .before .before .loop-test .taken), omega (arith, p .few))
-
-add-i : tie.Need-add-i Inv-loop μ-loop
-add-i c = search needs
-
-loop-less : tie.Need-loop-less Inv-loop μ-loop
-loop-less c = search needs
 
 loop-again : tie.Need-loop-again Inv-loop μ-loop
 loop-again c =
@@ -70,13 +55,13 @@ fill-entries-spec =
     Inv-loop
     μ-loop
     loop-holds
-    mul-e
+    (λ c. search needs)
     element-copy-out-e
-    mul-fill-entry
-    add-fill-entry
+    (λ c. search needs)
+    (λ c. search needs)
     fill-entry-requires
-    add-i
-    loop-less
+    (λ c. search needs)
+    (λ c. search needs)
     loop-again
     same-length
     returns)
