@@ -11,10 +11,12 @@ use lib.ListN.{length, getD, take, drop, length-drop, length-map}
 use lib.Seq.{take-all}
 use Rattle.rules.specs.Choice.{given, need, firstOf}
 use Rattle.rules.specs.Refusals.{Said, says, no, outcomeTold}
-use Rattle.rules.specs.Chars.{isValid, firstInvalid, characters}
-use Rattle.rules.specs.Layouts.{Span}
+use Rattle.rules.specs.Chars.{isDigit, isCode, isValid, firstInvalid, characters}
+use Rattle.rules.specs.Layouts.{Span, isSaid}
 use Rattle.rules.specs.Listed.{listed, unlisted, isDigits, keepsSign}
+use Rattle.rules.specs.declared.Refusal.{Refusal}
 use Rattle.rules.specs.declared.Listed.{Listed}
+use Rattle.rules.specs.declared.Entry.{Entry}
 use Rattle.rules.specs.Lines.{isSized, shaped}
 use Rattle.rules.specs.Promises.{foundTold}
 use Rattle.rules.specs.declared.Reason.the-variants.{Length}
@@ -22,9 +24,11 @@ use Rattle.rules.specs.declared.Outcome.{Outcome}
 use Rattle.rules.specs.declared.Outcome.the-variants.{Accepted}
 use Rattle.rules.specs.declared.Found.{Found}
 use Rattle.rules.specs.declared.Found.the-variants as found
-use Rattle.layout.specs.Parts.{spotTold, lettersTold}
+use Rattle.layout.specs.Parts.{spotTold, lettersTold, entryTold}
 use Rattle.layout.specs.declared.entries.Spot.{Spot}
 use Rattle.layout.specs.declared.entries.Spot.the-variants as spot
+use Rattle.layout.specs.declared.entries.EntryRead.{EntryRead}
+use Rattle.layout.specs.declared.entries.EntryRead.the-variants as entryRead
 use Rattle.layout.specs.declared.reading.Letters.{Letters}
 use Rattle.layout.specs.declared.reading.Letters.the-variants as letters
 use Rattle.rules.proofs.Links.{found-at, found-nothing, number-value, number-none}
@@ -55,6 +59,13 @@ pub digits-rest : (a : ℕ) (t : List ℕ) (r : Bool) → r ≡ isDigits (take (
 digits-rest a t r e = e ∙ ap isDigits (rest a t)
 
 pub ruleset rows = (joined, told, told-eq, told-ne, not-true, not-false, found-at, found-nothing, row-width, row-sign, digits-rest)
+
+-- no character is past 255
+pub not-code : (n : ℕ) → 255 < n → false ≡ isCode n
+unfolding isCode isDigit
+not-code n h = sym (simp (le-leb 48 n (omega arith), lt-leb n 57 (omega arith), le-leb 65 n (omega arith), lt-leb n 90 (omega arith)))
+
+pub ruleset values = (joined, told, not-true, not-false, not-code)
 
 -- ---- links: what a part of this crate told, to the way on of the definition
 
@@ -116,6 +127,14 @@ unfolding foundTold firstInvalid
 invalid-fits inH l r i e g h = omega (arith, found-below (λ b. not (isValid inH b)) l 0 i (sym (rw g at e)))
 
 pub ruleset shapes = (short, long, sized, found-at, found-nothing)
+
+pub said-is : (n : Said Entry) (r : EntryRead) (e : Entry) → entryTold r ≡ n → r ≡ entryRead.Is e → true ≡ isSaid n
+unfolding entryTold
+said-is n r e h g = rw (← h, g)
+
+pub said-refused : (n : Said Entry) (r : EntryRead) (w : Refusal) → entryTold r ≡ n → r ≡ entryRead.Refused w → false ≡ isSaid n
+unfolding entryTold
+said-refused n r w h g = rw (← h, g)
 
 -- ---- lists
 

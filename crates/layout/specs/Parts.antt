@@ -1,12 +1,13 @@
 -- The promises of the parts that layouts are read with, and their answers in the paper's terms.
 use Prim.Native.Nat.{ℕ}
+use mathlib.Core.Bool.{Bool, _&&_}
 use mathlib.Core.List.{List}
 use mathlib.Core.Option.{Option, none, some}
 use mathlib.Core.Path.{_≡_}
 use Rattle.rules.specs.Listed.{codeAt, listedNumber}
 use Rattle.rules.specs.Promises.{foundTold}
 use Rattle.rules.specs.Refusals.{Said, says, refusal}
-use Rattle.rules.specs.Layouts.{Span, look, placed, entryAt}
+use Rattle.rules.specs.Layouts.{Span, look, placed, entryAt, isSpelt, isSaid}
 use Rattle.rules.specs.declared.Found.{Found}
 use Rattle.rules.specs.declared.Entry.{Entry}
 use Rattle.rules.specs.declared.Layout.{Layout}
@@ -47,3 +48,7 @@ EntryPlaced start before e first r = entryTold r ≡ placed start before e first
 
 abbrev pub EntryGiven : List ℕ → ℕ → ℕ → Layout → EntryRead → Type 0
 EntryGiven l at start before r = entryTold r ≡ entryAt l at start before
+
+-- whether a line can tell an entry behind others
+abbrev pub Follows : ℕ → Layout → Entry → Bool → Type 0
+Follows start before e r = r ≡ (isSpelt e && isSaid (placed start before e 0))
