@@ -1,13 +1,13 @@
 -- The entries of an I or a J line, one behind the other. Assumes nothing.
 use Prim.Native.Nat.{ℕ, zero, suc, _+_, _*_, _/_, _%_, _≤_, _<_}
 use mathlib.Core.Bool.{Bool, true, false, _&&_, _||_}
-use mathlib.Core.List.{List, [], _∷_, _++_, map, append-assoc, append-nil}
+use mathlib.Core.List.{List, [], _∷_, _++_, append-assoc, append-nil}
 use mathlib.Core.Path.{_≡_, refl, sym, _∙_, ap}
 use native.Mathlib.Numerals.{add-one}
 use native.Mathlib.Omega.{arith}
 use borrow.Author.Tests.{leb-true}
 use lib.Dec.{leb}
-use lib.ListN.{length, getD, take, length-append, length-map}
+use lib.ListN.{length, getD, take, length-append}
 use lib.Seq.{getD-take, length-take-le, take-all}
 use Rattle.rules.specs.Chars.{isDigit, isCode}
 use Rattle.rules.specs.Listed.{isCodeWord}
@@ -39,10 +39,6 @@ unfolding entryTexts
 more [] i h = let z : ⊥ = omega arith in search
 more (e ∷ es) zero h = append-nil (entryText e)
 more (e ∷ es) (suc i) h = rw (more es i (omega arith)) (sym (append-assoc (entryText e) (entryTexts (take i es)) _))
-
--- what is known of the elements of an array is known of their count
-pub unmapped : {A B : Type 0} (f : A → B) (l : List A) (n : ℕ) → length (map f l) ≡ n → length l ≡ n
-unmapped f l n e = sym (length-map l f) ∙ e
 
 take-short : {A : Type 0} (n : ℕ) (l : List A) → length (take n l) ≤ n
 take-short zero l = omega arith
@@ -78,6 +74,12 @@ layout-filled x out l₁ l₂ l₃ f l b k e p q g w =
     let r = fills-then x l₂ l₃ 3 (entryTexts (entriesOf l)) crlf g (put-last x l₃ _ crlf (rw t w)) in
     let d = regroup x l₁ 1 (digitsOf 2 (l .count)) (entryTexts (entriesOf l)) crlf (digits-then x l₁ l₂ 1 2 (l .count) _ q r) in
     byte-then x out l₁ 0 (layoutLetter f) _ (rw (← e) p) d
+
+pub layout-length : (f : Family) (l : Layout) → l .count ≤ length (l .entries) → length (layoutText f l) + 2 ≡ 5 + 7 * l .count
+unfolding layoutText
+layout-length f l k =
+    let n : length (entriesOf l) ≡ l .count = length-take-le (l .count) (l .entries) k in
+    rw (length-append, digits-length, entries-length, n) (omega arith)
 
 -- ---- a layout that is allowed has codes of three bytes
 

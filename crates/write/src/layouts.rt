@@ -6,11 +6,15 @@ ghost use Rattle.rules.specs.Listed.{codeText};
 ghost use Rattle.rules.specs.Layouts.{entriesOf};
 ghost use Rattle.rules.specs.Writes.{entryText, entryTexts, layoutText, crlf};
 ghost use Rattle.rules.specs.Reads.{layoutLetter};
+ghost use Rattle.rules.specs.Promises.{LayoutWritten};
 ghost use Rattle.put.specs.Puts.{Fills};
 ghost use Rattle.write.specs.Parts.{Spells};
+use crate::ending::refused;
 use rules::Entry;
 use rules::Family;
 use rules::Layout;
+use rules::Reason;
+use rules::Wrote;
 
 // The three characters of a code.
 fn fill_code(code: u32, out: &mut [u8], at: usize)
@@ -66,4 +70,21 @@ fn fill_layout(family: Family, l: Layout, out: &mut [u8])
     put::digits(out, 1, 2, n as u64);
     fill_entries(l, out);
     put::text(out, 3 + 7 * n, b"\r\n");
+}
+
+// An I line of a layout for B lines, or a J line of one for K lines, into an output from a place on; the place after its CR LF. BadValue where no line
+// tells the layout, NoRoom where the output is too short.
+pub fn layout(family: Family, l: Layout, out: &mut [u8], place: usize) -> Wrote
+    ensures { λ r. ⌜ LayoutWritten family l place (now (out .entry)) r (now (out .exit)) ⌝ }
+{
+    if !layout::allowed(family, l) {
+        return refused(Reason::BadValue);
+    }
+    let count = l.count;
+    let n = 5 + 7 * count;
+    if out.len() < place || out.len() - place < n {
+        return refused(Reason::NoRoom);
+    }
+    fill_layout(family, l, &mut out[place..]);
+    Wrote::Next(place + n)
 }

@@ -7,4 +7,5 @@ mod notes;
 mod points;
 
 pub use heads::head;
+pub use layouts::layout;
 pub use points::point;
