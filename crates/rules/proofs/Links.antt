@@ -102,10 +102,10 @@ on-is n r x f h e = rw (← h) e
 -- ---- answers that are a value or none
 
 module _ {T A B : Type 0} (told : T → Option A) (n : Option A) (r : T) (x : B) (a : B) (f : A → B) (e : told r ≡ n) where
-  by-some : (c : T) (v : A) → told c ≡ some v → r ≡ c → x ≡ f v → x ≡ given n a f
+  pub by-some : (c : T) (v : A) → told c ≡ some v → r ≡ c → x ≡ f v → x ≡ given n a f
   by-some c v k g h = rw (← e, g, k) h
 
-  by-none : (c : T) → told c ≡ none → r ≡ c → x ≡ a → x ≡ given n a f
+  pub by-none : (c : T) → told c ≡ none → r ≡ c → x ≡ a → x ≡ given n a f
   by-none c k g h = rw (← e, g, k) h
 
 pub found-at : {B : Type 0} (n : Option ℕ) (r : Found) (v : ℕ) (x a : B) (f : ℕ → B) → foundTold r ≡ n → r ≡ found.At v → x ≡ f v → x ≡ given n a f
@@ -167,10 +167,10 @@ altitude-none n r x a f e g h = by-none altitudeTold n r x a f e altitude.NoAlti
 -- ---- answers that are a value or a refusal, which is passed on
 
 module _ {T A B : Type 0} (told : T → Said A) (n : Said A) (r : T) (x : Said B) (f : A → Said B) (e : told r ≡ n) where
-  by-says : (c : T) (v : A) → told c ≡ says v → r ≡ c → x ≡ f v → x ≡ andThen n f
+  pub by-says : (c : T) (v : A) → told c ≡ says v → r ≡ c → x ≡ f v → x ≡ andThen n f
   by-says c v k g h = rw (← e, g, k) h
 
-  by-refuses : (c : T) (w : Refusal) → told c ≡ refusal w → r ≡ c → x ≡ refusal w → x ≡ andThen n f
+  pub by-refuses : (c : T) (w : Refusal) → told c ≡ refusal w → r ≡ c → x ≡ refusal w → x ≡ andThen n f
   by-refuses c w k g h = rw (← e, g, k) h
 
 pub outcome-accepted : {B : Type 0} (n : Said (Unit {0})) (r : Outcome) (x : Said B) (f : Unit {0} → Said B) → outcomeTold r ≡ n → r ≡ outcome.Accepted → x ≡ f tt → x ≡ andThen n f

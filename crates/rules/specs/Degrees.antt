@@ -6,7 +6,7 @@ use lib.Dec.{eqb, leb}
 use lib.Ieee.{Float, binary64, round, neg}
 use Rattle.rules.specs.Choice.{need}
 use Rattle.rules.specs.Refusals.{Said, says, no, refusal}
-use Rattle.rules.specs.Fields.{isEither}
+use Rattle.rules.specs.Fields.{isEither, mostLatitude, mostLongitude}
 use Rattle.rules.specs.declared.Reason.the-variants.{BadValue}
 use Rattle.rules.specs.declared.Position.{Position}
 use Rattle.rules.specs.declared.Degrees.{Degrees}
@@ -21,18 +21,19 @@ quotient count = round binary64 false count 60000
 unfoldable pub isNegated : Position → Bool
 isNegated p = not (eqb (p .count) 0) && isEither (p .letter) (code "S") (code "W")
 
+-- one coordinate in degrees
 unfoldable pub angle : Position → Float
 angle p = cond (isNegated p) (neg (quotient (p .count))) (quotient (p .count))
 
--- "Latitude at most 5,400,000, longitude at most 10,800,000"
+-- a count that is `most` at most, with the letter a or b
 unfoldable pub isPosition : ℕ → ℕ → ℕ → Position → Bool
 isPosition most a b p = leb (p .count) most && isEither (p .letter) a b
 
 abbrev pub isLatitude : Position → Bool
-isLatitude p = isPosition 5400000 (code "N") (code "S") p
+isLatitude p = isPosition mostLatitude (code "N") (code "S") p
 
 abbrev pub isLongitude : Position → Bool
-isLongitude p = isPosition 10800000 (code "E") (code "W") p
+isLongitude p = isPosition mostLongitude (code "E") (code "W") p
 
 -- "For the map, a position also comes as a pair of f64 degrees"; 17 for a value that is not allowed
 unfoldable pub degreesOf : Position → Position → Said Degrees

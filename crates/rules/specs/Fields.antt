@@ -32,6 +32,7 @@ timeAt s at =
     need (leb x 59) none λ _.
     some (h * 3600 + m * 60 + x)
 
+-- HHMMSS
 unfoldable pub timeText : ℕ → List ℕ
 timeText t = digitsOf 2 (t / 3600) ++ (digitsOf 2 (t / 60 % 60) ++ digitsOf 2 (t % 60))
 
@@ -63,6 +64,7 @@ dateAt s at =
     need (leb d days) none λ _.
     some (record { day = d; month = m; year = y })
 
+-- DDMMYY
 unfoldable pub dateText : Date → List ℕ
 dateText d = digitsOf 2 (d .day) ++ (digitsOf 2 (d .month) ++ digitsOf 2 (d .year % 100))
 
@@ -70,7 +72,7 @@ dateText d = digitsOf 2 (d .day) ++ (digitsOf 2 (d .month) ++ digitsOf 2 (d .yea
 unfoldable pub isEither : ℕ → ℕ → ℕ → Bool
 isEither x a b = eqb x a || eqb x b
 
--- "Position: a count of thousandths of a minute with its letter kept beside it. Minutes are 00 to 59." Degrees have `width` digits, the count is `most`
+-- "Position: a count of thousandths of a minute with its letter kept beside it. Minutes are 00 to 59." "0 S and 0 N differ." Degrees have `width` digits, the count is `most`
 -- at most, and the letter is a or b.
 unfoldable pub positionAt : List ℕ → ℕ → ℕ → ℕ → ℕ → ℕ → Option Position
 positionAt s at width most a b =
@@ -82,14 +84,22 @@ positionAt s at width most a b =
     need (isEither l a b) none λ _.
     some (record { count = d * 60000 + m; letter = l })
 
--- "latitude DDMMmmm and N or S", "Latitude at most 5,400,000"
+-- "Latitude at most 5,400,000, longitude at most 10,800,000."
+abbrev pub mostLatitude : ℕ
+mostLatitude = 5400000
+
+abbrev pub mostLongitude : ℕ
+mostLongitude = 10800000
+
+-- "latitude DDMMmmm and N or S"
 abbrev pub latitudeAt : List ℕ → ℕ → Option Position
-latitudeAt s at = positionAt s at 2 5400000 (code "N") (code "S")
+latitudeAt s at = positionAt s at 2 mostLatitude (code "N") (code "S")
 
--- "longitude DDDMMmmm and E or W", "longitude at most 10,800,000"
+-- "longitude DDDMMmmm and E or W"
 abbrev pub longitudeAt : List ℕ → ℕ → Option Position
-longitudeAt s at = positionAt s at 3 10800000 (code "E") (code "W")
+longitudeAt s at = positionAt s at 3 mostLongitude (code "E") (code "W")
 
+-- degrees in `width` digits, MMmmm, and the letter
 unfoldable pub positionText : ℕ → Position → List ℕ
 positionText width p = digitsOf width (p .count / 60000) ++ (digitsOf 5 (p .count % 60000) ++ (p .letter ∷ []))
 
@@ -99,7 +109,7 @@ latitudeText p = positionText 2 p
 abbrev pub longitudeText : Position → List ℕ
 longitudeText p = positionText 3 p
 
--- "Altitude in metres: five digits, or a minus and four digits that are not all zero."
+-- "Altitude in metres: five digits, or a minus and four digits that are not all zero. So -9,999 to 99,999."
 unfoldable pub altitudeAt : List ℕ → ℕ → Option Height
 altitudeAt s at =
     on (getD s at 0) λ b.
@@ -107,6 +117,7 @@ altitudeAt s at =
     (given (numberAt s (at + 1) 4) none λ v. need (leb 1 v) none λ _. some (record { metres = negℤ (pos v) }))
     (given (numberAt s at 5) none λ v. some (record { metres = pos v }))
 
+-- five digits, or a minus and four
 abbrev pub metresText : ℤ → List ℕ
 metresText (pos n) = digitsOf 5 n
 metresText (negsuc n) = code "-" ∷ digitsOf 4 (n + 1)

@@ -1,5 +1,6 @@
 -- Document 01, 'The file we take and what we do with it': the verdict on a whole file, and the table of its lines' offsets afterwards.
 use Prim.Native.Nat.{ℕ, _+_, _-_}
+use mathlib.Core.Bool.{Bool}
 use mathlib.Core.List.{List, _++_}
 use mathlib.Core.Path.{_≡_}
 use lib.Dec.{eqb, leb}
@@ -13,11 +14,15 @@ use Rattle.rules.specs.declared.Flight.{Flight}
 use Rattle.rules.specs.declared.State.{State}
 use Rattle.rules.specs.declared.Checked.{Checked}
 
+-- "At least one G is needed (h)."
+abbrev pub isSealed : State → Bool
+isSealed st = leb afterG (st .stage)
+
 -- "16 ENDS_EARLY: end inside a declaration or without G; lines + 1, 0"
 unfoldable pub finish : State → Said Flight
 finish st =
     need (eqb (st .points) 0) (refuses (number EndsEarly) (st .flight .lines + 1) 0) λ _.
-    need (leb afterG (st .stage)) (refuses (number EndsEarly) (st .flight .lines + 1) 0) λ _.
+    need (isSealed st) (refuses (number EndsEarly) (st .flight .lines + 1) 0) λ _.
     says (st .flight)
 
 -- "Checks go line by line, in a line 3 to 15 in this order." "3 LINE_END: line, one past the text before it"; "15 TABLE_FULL: good line, no entry left; line, 0",
@@ -30,7 +35,7 @@ run room st (line t ls) =
     need (leb (after .flight .lines) room) (refuses (number TableFull) (after .flight .lines) 0) λ _.
     run room after ls
 
--- "A file has 1 to 16,777,216 bytes (h)."; "1 EMPTY: no bytes; 0, 0"; "2 TOO_LONG: over the limit; 0, 0"
+-- "One IGC file in lent memory is checked whole." "A file has 1 to 16,777,216 bytes (h)."; "1 EMPTY: no bytes; 0, 0"; "2 TOO_LONG: over the limit; 0, 0"
 unfoldable pub verdict : List ℕ → ℕ → Said Flight
 verdict file room =
     need (leb 1 (length file)) (no Empty 0) λ _.

@@ -2,12 +2,12 @@
 use Prim.Native.Nat.{ℕ, zero, suc, _+_, _-_, _*_, _^_}
 use mathlib.Core.Bool.{Bool, true, false, not, _&&_, cond}
 use mathlib.Core.List.{List, [], _∷_}
-use mathlib.Core.Option.{Option, none, some}
+use mathlib.Core.Option.{Option}
 use mathlib.Core.Path.{_≡_}
 use lib.Count.{ones}
 use lib.Dec.{eqb, leb}
 use lib.ListN.{length, getD, take, drop, set, replicate}
-use Rattle.rules.specs.Choice.{given, need, on, firstOf, leads, part, byte}
+use Rattle.rules.specs.Choice.{given, need, firstOf, leads, part, byte}
 use Rattle.rules.specs.Refusals.{Said, says, refuses, no, refusal, outcomeTold, outcome, valueOr, andThen, breaks, other}
 use Rattle.rules.specs.Numbers.{numberAt}
 use Rattle.rules.specs.Listed.{codeAt, isCodeWord, listed, widthFits, keepsRule, packedOf, listedNumber}
@@ -31,6 +31,7 @@ abbrev pub firstStart : Family → ℕ
 firstStart family.B = 36
 firstStart family.K = 8
 
+-- what stands behind the last entry
 abbrev pub unused : Entry
 unused = record { first = 0; last = 0; code = 0 }
 
@@ -58,6 +59,7 @@ spanOf e = record { first = e .first; last = e .last }
 unfoldable pub look : Layout → ℕ → Option Span
 look l x = firstOf (λ e. eqb (e .code) x) (λ k e. spanOf e) (entriesOf l) 0
 
+-- whether a code has a column
 unfoldable pub carries : Layout → ℕ → Bool
 carries l x = given (look l x) false λ s. true
 
@@ -93,6 +95,7 @@ layoutFields start l =
     entriesFrom nn l (byte 4) start emptyLayout
 
 module _ {A : Type 0} where
+  -- there is a value
   abbrev pub isSaid : Said A → Bool
   isSaid (says v) = true
   isSaid (refuses n l b) = false
@@ -101,6 +104,7 @@ module _ {A : Type 0} where
 unfoldable pub isSpelt : Entry → Bool
 isSpelt e = leb (e .last) 99 && isCodeWord (e .code)
 
+-- every entry can be spelt, and keeps the rules behind those before it
 unfoldable pub allPlaced : List Entry → ℕ → Layout → Bool
 allPlaced [] start before = true
 allPlaced (e ∷ es) start before = isSpelt e && isSaid (placed start before e 0) && allPlaced es (e .last + 1) (withEntry before e)
@@ -117,6 +121,10 @@ allowed start l =
 unfoldable pub lineLength : ℕ → Layout → ℕ
 lineLength start l = cond (eqb (l .count) 0) (start - 1) ((getD (l .entries) (l .count - 1) unused) .last)
 
+-- "columns from 36", "columns from 8": all the columns of a line, as its text from the first start on
+abbrev pub tailOf : ℕ → List ℕ → List ℕ
+tailOf start l = drop (byte start) l
+
 -- the text of a column of a line
 abbrev pub columnText : List ℕ → Span → List ℕ
 columnText l s = part (byte (s .first)) (s .last) l
@@ -126,6 +134,7 @@ unfoldable pub badColumn : List ℕ → Layout → Option ℕ
 badColumn l layout =
     firstOf (λ e. not (keepsRule (e .code) (columnText l (spanOf e)))) (λ k e. e .first) (entriesOf layout) 0
 
+-- every listed column of a line by its rule
 unfoldable pub columns : List ℕ → Layout → Said (Unit {0})
 columns l layout = given (badColumn l layout) (says tt) λ first. no Column first
 
@@ -157,6 +166,7 @@ lookSaid f l name =
     need (allowed (firstStart f) l) (no BadValue 0) λ _.
     given (look l (packedOf name)) (no Absent 0) λ s. says s
 
+-- the presence word "of an I line", so of a layout for B lines
 unfoldable pub presenceSaid : Layout → Said Presence
 presenceSaid l = need (allowed (firstStart family.B) l) (no BadValue 0) λ _. says (presenceOf l)
 

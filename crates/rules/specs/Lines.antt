@@ -1,13 +1,13 @@
 -- Document 01, 'Lines' and 'Fields': each kind of line, without its CR LF, by the checks 7 to 13 in their order, and what it says.
-use Prim.Native.Nat.{ℕ, zero, suc, _+_, _-_, _*_, _%_}
+use Prim.Native.Nat.{ℕ, _+_, _-_, _%_}
 use Prim.Native.Char.{code}
-use mathlib.Core.Bool.{Bool, true, false, not, _&&_, cond}
+use mathlib.Core.Bool.{Bool, true, false, _&&_, cond}
 use mathlib.Core.List.{List, [], _∷_}
 use mathlib.Core.Option.{Option, none, some}
 use lib.Dec.{eqb, leb, ltb}
 use lib.ListN.{length, getD, drop}
 use Rattle.rules.specs.Choice.{given, need, on, byte}
-use Rattle.rules.specs.Refusals.{Said, says, refuses, no, andThen, breaks, time, position, altitude, date, other}
+use Rattle.rules.specs.Refusals.{Said, says, no, andThen, breaks, time, position, altitude, date, other}
 use Rattle.rules.specs.Chars.{characters, isCode, codesAt}
 use Rattle.rules.specs.Numbers.{numberAt}
 use Rattle.rules.specs.Fields.{timeAt, dateAt, latitudeAt, longitudeAt, altitudeAt, isEither}
@@ -90,7 +90,8 @@ plannedAt l at =
     given (numberAt l at 6) none λ v.
     cond (eqb v 0) (some planned.NotGiven) (given (dateAt l at) none λ d. some (planned.On d))
 
--- "C head: declared date, time, flight date .., 4-digit task number, 2-digit number of turn points, text."
+-- "C head: declared date, time, flight date (000000 means not given; every other value must be a date, and the declared date always), 4-digit task number, 2-digit
+-- number of turn points, text."
 unfoldable pub headFields : List ℕ → Said Head
 headFields l =
     given (dateAt l (byte 2)) (breaks date 2) λ d.
@@ -179,6 +180,7 @@ kLine layout l =
 abbrev pub lLine : List ℕ → Said (Unit {0})
 lLine l = shaped 1 99 false l
 
+-- "The G code is carried and never judged."
 abbrev pub gLine : List ℕ → Said (Unit {0})
 gLine l = shaped 2 255 false l
 

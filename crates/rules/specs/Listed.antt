@@ -11,10 +11,11 @@ use Rattle.rules.specs.Choice.{given, need, firstOf, leads, bytes}
 use Rattle.rules.specs.Chars.{isDigit, isCode, codesAt}
 use Rattle.rules.specs.declared.Listed.{Listed}
 
--- the three characters of a code as one number
+-- the three characters of a code as one number, the first one highest
 abbrev pub packed : ℕ → ℕ → ℕ → ℕ
 packed a b c = a * 65536 + b * 256 + c
 
+-- the same of a list of three
 abbrev pub packedOf : List ℕ → ℕ
 packedOf l = packed (getD l 0 0) (getD l 1 0) (getD l 2 0)
 
@@ -28,9 +29,11 @@ codeAt s at =
     need (codesAt s at 3) none λ _.
     some (packed (getD s at 0) (getD s (at + 1) 0) (getD s (at + 2) 0))
 
+-- a number that three code characters make
 unfoldable pub isCodeWord : ℕ → Bool
 isCodeWord x = isCode (x / 65536) && isCode (x / 256 % 256) && isCode (x % 256)
 
+-- one listed code: its name, its least and most width, and whether a minus may come first
 abbrev pub row : String → ℕ → ℕ → Bool → Listed
 unfolding bytes
 row name least most sign = record { code = packedOf (bytes name); least = least; most = most; sign = sign }

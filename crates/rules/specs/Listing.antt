@@ -4,7 +4,7 @@ use mathlib.Core.Bool.{cond}
 use mathlib.Core.List.{List, [], _∷_, _++_}
 use lib.Dec.{ltb, leb}
 use lib.IntN.{ℤ, pos, negsuc}
-use lib.ListN.{length, getD}
+use lib.ListN.{length}
 use Prim.Native.Char.{code}
 use Rattle.rules.specs.Choice.{need, bytes}
 use Rattle.rules.specs.Refusals.{Said, says, refuses, no}

@@ -6,7 +6,7 @@ use mathlib.Core.Option.{Option, none, some}
 use lib.Dec.{eqb, leb, ltb}
 use lib.ListN.{length, getD}
 use Rattle.rules.specs.Choice.{given, need, on}
-use Rattle.rules.specs.Refusals.{Said, says, refuses, no, andThen}
+use Rattle.rules.specs.Refusals.{Said, says, no, andThen}
 use Rattle.rules.specs.Layouts.{emptyLayout, firstStart}
 use Rattle.rules.specs.Lines.{kindOf, aLine, dateLine, hLine, layoutLine, headLine, pointLine, dLine, eLine, fLine, bLine, kLine, lLine, gLine, otherLine}
 use Rattle.rules.specs.declared.Reason.the-variants as reason
@@ -49,7 +49,7 @@ abbrev pub leading : ℕ → ℕ → ℕ → ℕ → Option ℕ
 leading low high next stage = need (leb low stage && leb stage high) none λ _. some next
 
 -- "Line 1 is A, line 2 is H, then further H lines, then at most one I, then at most one J. After these come C, D, E, F, B, K, L and other, with no further A, H, I, J."
--- "Then one or more G lines. After the first G only G or L; after an L that follows a G, only L."
+-- "Then one or more G lines. After the first G only G or L; after an L that follows a G, only L. So a B after G is refused, as 000 A2.3.1 demands."
 unfoldable pub stageAfter : Kind → ℕ → Option ℕ
 stageAfter kind.A stage = leading atStart atStart afterA stage
 stageAfter kind.H stage = leading afterA afterH afterH stage
@@ -66,6 +66,7 @@ stageAfter kind.L stage = cond (leb stage inBody) (leading afterH inBody inBody 
 stageAfter kind.G stage = leading afterH afterG afterG stage
 stageAfter kind.NoKind stage = none
 
+-- a line of a declaration
 abbrev pub isC : Kind → Bool
 isC kind.A = false
 isC kind.B = false
@@ -82,6 +83,7 @@ isC kind.L = false
 isC kind.Other = false
 isC kind.NoKind = false
 
+-- the first byte is A to Z
 abbrev pub isKind : Kind → Bool
 isKind kind.A = true
 isKind kind.B = true
@@ -136,6 +138,7 @@ moved stage st = record {
   };
 }
 
+-- the state with another part, the rest kept
 abbrev pub withFlight : State → Flight → State
 withFlight st f = record { stage = st .stage; declared = st .declared; points = st .points; clock = st .clock; flight = f }
 
@@ -167,6 +170,7 @@ counted bs ks st =
 abbrev pub begun : Head → State → State
 begun h st = record { stage = st .stage; declared = true; points = h .turns + 4; clock = st .clock; flight = st .flight }
 
+-- one point fewer to come
 abbrev pub pointed : State → State
 pointed st = record { stage = st .stage; declared = st .declared; points = st .points - 1; clock = st .clock; flight = st .flight }
 

@@ -1,4 +1,4 @@
--- The promise of every public function, by name. Each is an equation between the answer, in the paper's terms, and what the rules say of the inputs; for what
+-- The promise of every public function whose types stand here, by name (a crate with an answer of its own names its promise in its specs/). Each is an equation between the answer, in the paper's terms, and what the rules say of the inputs; for what
 -- is lent `&mut`, also between the bytes or entries afterwards and those lent. A function's `ensures` cites its promise, and so does the law that no second
 -- answer meets it.
 use Prim.Native.Nat.{ℕ}
@@ -7,7 +7,7 @@ use mathlib.Core.List.{List}
 use mathlib.Core.Option.{Option, none, some}
 use mathlib.Core.Path.{_≡_}
 use lib.ListN.{length, getD}
-use Rattle.rules.specs.Refusals.{Said, refusal, outcomeTold, inLine, outcome, valueOr, number}
+use Rattle.rules.specs.Refusals.{outcomeTold}
 use Rattle.rules.specs.Chars.{isValid, firstInvalid, isDigit, isCode, codesAt}
 use Rattle.rules.specs.Numbers.{numberTold, numberAt, wholeTold, wholeOf, digitsOf}
 use Rattle.rules.specs.Fields.{isEither, timeTold, timeAt, timeText, dayTold, dateAt, dateText, placeTold, latitudeAt, longitudeAt, latitudeText, longitudeText, altitudeTold, altitudeAt, altitudeText}
@@ -19,8 +19,6 @@ use Rattle.rules.specs.Split.{lineTold, boundsOf, lineText}
 use Rattle.rules.specs.Files.{CheckedTold, verdict, tableAfter}
 use Rattle.rules.specs.Reads.{fixTold, fixSaid, timeReadTold, noteSaid, eventSaid, satellitesSaid, dateReadTold, dateSaid, layoutSaid, headTold, headSaid, headRest, pointTold, pointSaid, pointRest, columnSaid, columnRest, numberReadTold, numberSaid}
 use Rattle.rules.specs.Writes.{wroteTold, written, outAfter, putAt, fixText, isFix, noteText, isNote, layoutText, headText, isHead, pointText, isPoint}
-use Rattle.rules.specs.Listing.{listing}
-use Rattle.rules.specs.declared.Reason.{Reason}
 use Rattle.rules.specs.declared.Outcome.{Outcome}
 use Rattle.rules.specs.declared.Found.{Found}
 use Rattle.rules.specs.declared.Found.the-variants as found
@@ -148,6 +146,9 @@ PresenceGiven l r = presenceTold r ≡ presenceSaid l
 
 abbrev pub ColumnTest : ℕ → List ℕ → Bool → Type 0
 ColumnTest x t r = r ≡ keepsRule x t
+
+abbrev pub ColumnsChecked : List ℕ → Layout → Outcome → Type 0
+ColumnsChecked l layout r = outcomeTold r ≡ columns l layout
 
 -- ---- lines: the checks of 7 to 13, of which a file's check is made
 

@@ -3,8 +3,7 @@
 use Prim.Native.Nat.{ℕ}
 use Prim.Native.Char.{code}
 use mathlib.Core.List.{List, []}
-use mathlib.Core.Option.{Option, none, some}
-use mathlib.Core.Bool.{Bool, cond}
+use mathlib.Core.Bool.{cond}
 use lib.Dec.{eqb}
 use lib.ListN.{getD, drop}
 use Rattle.rules.specs.Choice.{given, need, byte}
@@ -63,11 +62,12 @@ satellitesSaid l = ofKind (code "F") l λ _. fLine l
 unfoldable pub dateSaid : List ℕ → Said Date
 dateSaid l = ofKind (code "H") l λ _. dateLine l
 
--- the layout of an I line, for B lines, and of a J line, for K lines
+-- the kind of line that tells the layout of a family
 abbrev pub layoutLetter : Family → ℕ
 layoutLetter family.B = code "I"
 layoutLetter family.K = code "J"
 
+-- the layout of an I line, for B lines, and of a J line, for K lines
 unfoldable pub layoutSaid : Family → List ℕ → Said Layout
 layoutSaid f l = ofKind (layoutLetter f) l λ _. layoutLine (firstStart f) l
 

@@ -5,19 +5,18 @@ use mathlib.Core.Bool.{Bool, true, false, _&&_, cond}
 use mathlib.Core.List.{List, [], _∷_, _++_}
 use lib.Dec.{eqb, leb}
 use lib.IntN.{ℤ, pos, negsuc}
-use lib.ListN.{length, drop}
+use lib.ListN.{length}
 use lib.Seq.{sets}
 use Rattle.rules.specs.Choice.{need}
 use Rattle.rules.specs.Refusals.{Said, says, refuses, no, refusal}
 use Rattle.rules.specs.Numbers.{digitsOf}
 use Rattle.rules.specs.Fields.{timeText, dateText, latitudeText, longitudeText, altitudeText}
 use Rattle.rules.specs.Listed.{codeText}
-use Rattle.rules.specs.Layouts.{firstStart, allowed, entriesOf}
+use Rattle.rules.specs.Layouts.{entriesOf}
 use Rattle.rules.specs.Reads.{fixSaid, noteSaid, headSaid, pointSaid, layoutLetter}
 use Rattle.rules.specs.declared.Reason.the-variants.{BadValue, NoRoom}
 use Rattle.rules.specs.declared.Date.{Date}
 use Rattle.rules.specs.declared.Position.{Position}
-use Rattle.rules.specs.declared.Height.{Height}
 use Rattle.rules.specs.declared.Entry.{Entry}
 use Rattle.rules.specs.declared.Layout.{Layout}
 use Rattle.rules.specs.declared.Family.{Family}
@@ -29,7 +28,8 @@ use Rattle.rules.specs.declared.Point.{Point}
 use Rattle.rules.specs.declared.Wrote.{Wrote}
 use Rattle.rules.specs.declared.Wrote.the-variants as wrote
 
--- ---- the text of each line, without its CR LF
+-- ---- the text of each line, without its CR LF. "Writers make B, I, J, K and C lines." "Writers take what the readings give, columns and other text as bytes; B and K
+-- readers and writers take the layout too; C head and C point have a reader and a writer each."
 
 unfoldable pub fixText : Fix → List ℕ → List ℕ
 fixText f tail =
@@ -132,7 +132,7 @@ isPoint p rest = reads samePoint (pointSaid (pointText p rest)) p
 
 -- ---- what a writer answers, and the output afterwards
 
--- "18 NO_ROOM: output shorter than place + length + 2"; "Writers test 17 before 18"; the answer is the place after the line and its CR LF
+-- "18 NO_ROOM: output shorter than place + length + 2"; "Writers test 17 before 18 (a place past the end is 18)"; the answer is the place after the line and its CR LF
 unfoldable pub written : Bool → List ℕ → ℕ → List ℕ → Said ℕ
 written good text place out =
     need good (no BadValue 0) λ _.

@@ -1,7 +1,7 @@
 -- An altitude both ways: five digits, or a minus and four that are not all zero, read as metres exactly where those metres' text stands. Assumes nothing.
 use Prim.Native.Nat.{ℕ, zero, suc, _+_, _/_, _%_, _^_, _≤_}
 use Prim.Native.Char.{code}
-use mathlib.Core.Bool.{Bool, true, false, cond}
+use mathlib.Core.Bool.{Bool, true, false, cond, _&&_, and-true}
 use mathlib.Core.List.{List, [], _∷_, _++_}
 use mathlib.Core.Option.{none, some}
 use mathlib.Core.Path.{_≡_, refl, sym, _∙_, ap}
@@ -9,7 +9,8 @@ use native.Mathlib.Numerals.{add-one}
 use native.Mathlib.Omega.{arith}
 use borrow.Author.Tests.{le-leb, leb-true, eqb-true, eq-eqb, ne-eqb}
 use lib.Dec.{leb, eqb}
-use lib.IntN.{ℤ, pos, negsuc, negℤ}
+use lib.IntN.{ℤ, pos, negsuc, negℤ, natAbs}
+use lib.Signed.{leZ, nonNeg}
 use lib.ListN.{length, getD, drop}
 use Rattle.rules.specs.Choice.{given, need, on}
 use Rattle.rules.specs.Chars.{isValid}
@@ -17,7 +18,7 @@ use Rattle.rules.specs.Numbers.{numberAt, digitsOf}
 use Rattle.rules.specs.Fields.{altitudeAt, altitudeText, metresText}
 use Rattle.rules.specs.declared.Height.{Height}
 use Rattle.trips.specs.Limits.{isMetres, isAltitude}
-use Rattle.trips.proofs.Laws.{none-some, given-inv, need-inv, past, byte-there, byte-here}
+use Rattle.trips.proofs.Laws.{none-some, bool-eq, given-inv, need-inv, past, byte-there, byte-here}
 use Rattle.trips.proofs.Texts.{areValid}
 use Rattle.trips.proofs.Digits.{digits-length, digits-clean, digits-front, number-there, number-here}
 use Rattle.trips.proofs.Trip.{Trip}
@@ -97,3 +98,23 @@ no-minus-zero s at r e =
     let m = byte-here s at (code "-") _ e in
     let e₂ = past s at 1 (at + 1) (code "-" ∷ []) _ refl refl e in
     simp (eq-eqb (getD s at 0) (code "-") m, number-here s (at + 1) 4 0 r (omega arith) (omega arith) e₂)
+
+-- ---- the limits, as code tests them
+
+-- "So -9,999 to 99,999."
+pub altitude-between : (h : Height) → isAltitude h ≡ (leZ (negℤ (pos 9999)) (h .metres) && leZ (h .metres) (pos 99999))
+unfolding isAltitude
+altitude-between h = go (h .metres)
+  where
+    go : (z : ℤ) → isMetres z ≡ (leZ (negsuc 9998) z && leZ z (pos 99999))
+    go (pos n) = refl
+    go (negsuc n) = bool-eq _ _ (λ e. rw and-true (le-leb n 9998 (omega (arith, leb-true (n + 1) 9999 e)))) (λ e. le-leb (n + 1) 9999 (omega (arith, leb-true n 9998 (rw and-true at e))))
+
+-- by the sign and the metres from zero
+pub altitude-magnitude : (h : Height) → isAltitude h ≡ cond (nonNeg (h .metres)) (leb (natAbs (h .metres)) 99999) (leb (natAbs (h .metres)) 9999)
+unfolding isAltitude
+altitude-magnitude h = go (h .metres)
+  where
+    go : (z : ℤ) → isMetres z ≡ cond (nonNeg z) (leb (natAbs z) 99999) (leb (natAbs z) 9999)
+    go (pos n) = refl
+    go (negsuc n) = rw add-one

@@ -15,10 +15,10 @@ degrees-spec =
     (tie.spec
     (λ c κs. search needs)
     (λ c κs. search needs)
-    (λ c. search (tests, not-true, not-false, pair-is) depth 16)
+    (λ c. search (tests, not-true, not-false) depth 16)
     (λ c κs. search needs)
     (λ c κs. search needs)
-    (λ c. search (tests, not-true, not-false, pair-is) depth 16)
+    (λ c. search (tests, not-true, not-false) depth 16)
     (λ c κs. search (count-within, not-false, lit≤))
     (λ c κs. search (count-within, not-false, lit≤))
     (λ c. search (tests, not-true, not-false, pair-is) depth 16))

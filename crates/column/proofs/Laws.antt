@@ -1,0 +1,43 @@
+-- What the part of a line between two places is, and what a layout's last entry tells. Assumes nothing.
+use Prim.Native.Nat.{ℕ, _-_, _≤_, _<_}
+use mathlib.Core.List.{List, []}
+use mathlib.Core.Option.{none, some}
+use mathlib.Core.Path.{_≡_, refl, sym, _∙_, ap}
+use native.Mathlib.Omega.{arith}
+use lib.ListN.{length, take, drop, getD, length-drop, drop-of-length-le, List·getD-eq-default}
+use lib.Seq.{take-all, take-nil}
+use Rattle.rules.specs.Choice.{part}
+use Rattle.rules.specs.Layouts.{unused, badColumn, columns}
+use Rattle.rules.specs.Refusals.{says, no}
+use Rattle.rules.specs.declared.Reason.the-variants.{Column}
+use Rattle.rules.specs.declared.Layout.{Layout}
+use Rattle.rules.specs.declared.Entry.{Entry}
+
+-- the end comes before the start
+pub part-none : (a b e : ℕ) (l : List ℕ) → a ≡ b → e ≤ a → [] ≡ part b e l
+part-none a b e l q h = let z : e - b ≡ 0 = omega arith in rw z
+
+-- the line ends before the start
+pub part-past : (a b e : ℕ) (l : List ℕ) → a ≡ b → length l ≤ a → [] ≡ part b e l
+part-past a b e l q h = let k : length l ≤ b = omega arith in sym (ap (take (e - b)) (drop-of-length-le l k) ∙ take-nil (e - b))
+
+-- the line ends before the end: all that stands from the start on
+pub part-short : (a b e : ℕ) (l : List ℕ) → a ≡ b → length l < e → take (length l - a) (drop a l) ≡ part b e l
+part-short a b e l q h =
+    rw (← q) (take-all (length l - a) (drop a l) (omega (arith, length-drop a l)) ∙ sym (take-all (e - a) (drop a l) (omega (arith, length-drop a l))))
+
+pub part-whole : (a b e : ℕ) (l : List ℕ) → a ≡ b → take (e - a) (drop a l) ≡ part b e l
+part-whole a b e l q = rw (← q)
+
+-- behind thirteen entries none stands
+pub past-last : (es : List Entry) (n : ℕ) → length es ≡ 13 → 13 < n → 0 ≡ (getD es (n - 1) unused) .last
+past-last es n h k = let q : length es ≤ n - 1 = omega arith in rw (List·getD-eq-default es unused q)
+
+-- what the first bad column tells of all
+pub columns-clear : (l : List ℕ) (layout : Layout) → badColumn l layout ≡ none → says tt ≡ columns l layout
+unfolding columns
+columns-clear l layout e = rw e
+
+pub columns-bad : (l : List ℕ) (layout : Layout) (k : ℕ) → badColumn l layout ≡ some k → no Column k ≡ columns l layout
+unfolding columns
+columns-bad l layout k e = rw e

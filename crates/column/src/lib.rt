@@ -1,0 +1,88 @@
+// The columns of a B or a K line: where its layout ends it, the text of a column, and each listed column by its rule. Every layout value has an answer.
+ghost use Prim.Native.Nat.{_-_};
+ghost use mathlib.Core.Path.{_≡_};
+ghost use Rattle.rules.specs.Choice.{part, byte};
+ghost use Rattle.rules.specs.Layouts.{spanOf, columnText, lineLength};
+ghost use Rattle.rules.specs.Listed.{keepsRule};
+ghost use Rattle.rules.specs.Promises.{ColumnsChecked};
+use rules::Entry;
+use rules::Layout;
+use rules::Outcome;
+use rules::Reason;
+use rules::Refusal;
+
+// How many bytes stand before a byte of a line.
+fn before(first: u8) -> usize
+    ensures { λ r. ⌜ r ≡ byte first ⌝ }
+{
+    if first == 0 {
+        return 0;
+    }
+    (first as usize) - 1
+}
+
+// The bytes first to last of a line, counted from 1, as far as the line has them.
+pub fn text_of(line: &[u8], first: u8, last: u8) -> &[u8]
+    ensures { λ r. ⌜ now r ≡ part (byte first) last (now (line .entry)) ⌝ }
+{
+    let a = before(first);
+    let e = last as usize;
+    if e <= a {
+        return &line[0..0];
+    }
+    if line.len() <= a {
+        return &line[0..0];
+    }
+    if line.len() < e {
+        return &line[a..];
+    }
+    &line[a..e]
+}
+
+// Whether a column of a line keeps the rule of its code.
+fn keeps(line: &[u8], e: Entry) -> bool
+    ensures { λ r. ⌜ r ≡ keepsRule (e .code) (columnText (now (line .entry)) (spanOf e)) ⌝ }
+{
+    layout::keeps_rule(e.code, text_of(line, e.first, e.last))
+}
+
+// COLUMN at the first byte of the first listed column that breaks its rule.
+pub fn columns(line: &[u8], layout: Layout) -> Outcome
+    ensures { λ r. ⌜ ColumnsChecked (now (line .entry)) layout r ⌝ }
+{
+    let n = layout.count;
+    let mut i = 0;
+    while i < 13 {
+        if n <= i {
+            return Outcome::Accepted;
+        }
+        let e = layout.entries[i];
+        if !keeps(line, e) {
+            return Outcome::Refused(Refusal {
+                reason: Reason::Column,
+                line: 0,
+                byte: e.first as u32,
+            });
+        }
+        i += 1;
+    }
+    Outcome::Accepted
+}
+
+// How many bytes a line has by its layout, where the first column would start at `start`.
+pub fn line_length(start: u8, layout: Layout) -> u8
+    ensures { λ r. ⌜ r ≡ lineLength start layout ⌝ }
+{
+    let n = layout.count;
+    if n == 0 {
+        if start == 0 {
+            return 0;
+        }
+        return start - 1;
+    }
+    if 13 < n {
+        return 0;
+    }
+    let e = layout.entries[n - 1];
+    e.last
+}

@@ -1,0 +1,440 @@
+// Each kind of line, without its CR LF, by the checks 7 to 13 in their order: what the line says, or the first refusal, with 0 for the line number.
+ghost use mathlib.Core.Path.{_≡_};
+ghost use Prim.Native.Nat.{_-_, _%_};
+ghost use lib.Dec.{eqb};
+ghost use lib.ListN.{length, drop};
+ghost use Rattle.rules.specs.Lines.{isDateMark, plannedAt, headFields, badPair, fixFields, shapedBy};
+ghost use Rattle.rules.specs.Layouts.{columns};
+ghost use Rattle.rules.specs.Refusals.{outcomeTold, andThen, says};
+ghost use Rattle.rules.specs.Reads.{headTold, fixTold};
+ghost use Rattle.rules.specs.Promises.{RecorderChecked, DateLineChecked, HeaderChecked, HeadChecked, PointChecked, DifferentialChecked, EventChecked, SatellitesChecked, FixChecked, NoteChecked, foundTold};
+ghost use Rattle.line.specs.Parts.{plannedTold};
+use rules::Altitude;
+use rules::DateRead;
+use rules::Day;
+use rules::Fix;
+use rules::FixRead;
+use rules::Found;
+use rules::Head;
+use rules::HeadRead;
+use rules::Layout;
+use rules::Number;
+use rules::Outcome;
+use rules::Place;
+use rules::Planned;
+use rules::Point;
+use rules::PointRead;
+use rules::Reason;
+use rules::Refusal;
+use rules::Time;
+use rules::TimeRead;
+
+// An A line: 3 code characters for the maker, 3 for the serial, then text. Refusals: LENGTH, CHARACTER, FORM at 2 or 5.
+pub fn recorder(line: &[u8]) -> Outcome
+    ensures { λ r. ⌜ RecorderChecked (now (line .entry)) r ⌝ }
+{
+    if let Outcome::Refused(r) = shape::shaped(line, 7, 255, false) {
+        return Outcome::Refused(r);
+    }
+    if !chars::codes_at(line, 1, 3) {
+        return Outcome::Refused(Refusal {
+            reason: Reason::Form,
+            line: 0,
+            byte: 2,
+        });
+    }
+    if !chars::codes_at(line, 4, 3) {
+        return Outcome::Refused(Refusal {
+            reason: Reason::Form,
+            line: 0,
+            byte: 5,
+        });
+    }
+    Outcome::Accepted
+}
+
+// An H line other than line 2: F or O, 3 code characters, text. Refusals: LENGTH, CHARACTER, FORM at 2 or 3.
+pub fn header(line: &[u8]) -> Outcome
+    ensures { λ r. ⌜ HeaderChecked (now (line .entry)) r ⌝ }
+{
+    if let Outcome::Refused(r) = shape::shaped(line, 5, 255, true) {
+        return Outcome::Refused(r);
+    }
+    if !chars::is_either(chars::byte(line, 1), b'F', b'O') {
+        return Outcome::Refused(Refusal {
+            reason: Reason::Form,
+            line: 0,
+            byte: 2,
+        });
+    }
+    if !chars::codes_at(line, 2, 3) {
+        return Outcome::Refused(Refusal {
+            reason: Reason::Form,
+            line: 0,
+            byte: 3,
+        });
+    }
+    Outcome::Accepted
+}
+
+// A D line: 1 or 2, then 4 code characters. Refusals: LENGTH, CHARACTER, FORM at 2 or 3.
+pub fn differential(line: &[u8]) -> Outcome
+    ensures { λ r. ⌜ DifferentialChecked (now (line .entry)) r ⌝ }
+{
+    if let Outcome::Refused(r) = shape::shaped(line, 6, 6, false) {
+        return Outcome::Refused(r);
+    }
+    if !chars::is_either(chars::byte(line, 1), b'1', b'2') {
+        return Outcome::Refused(Refusal {
+            reason: Reason::Form,
+            line: 0,
+            byte: 2,
+        });
+    }
+    if !chars::codes_at(line, 2, 4) {
+        return Outcome::Refused(Refusal {
+            reason: Reason::Form,
+            line: 0,
+            byte: 3,
+        });
+    }
+    Outcome::Accepted
+}
+
+// An E line: its time, 3 code characters, text. Refusals: LENGTH, CHARACTER, FORM at 2 or 8.
+pub fn event(line: &[u8]) -> TimeRead
+    ensures { λ r. ⌜ EventChecked (now (line .entry)) r ⌝ }
+{
+    if let Outcome::Refused(r) = shape::shaped(line, 10, 255, false) {
+        return TimeRead::Refused(r);
+    }
+    let Time::Secs(t) = field::time_at(line, 1) else {
+        return TimeRead::Refused(Refusal {
+            reason: Reason::Form,
+            line: 0,
+            byte: 2,
+        });
+    };
+    if !chars::codes_at(line, 7, 3) {
+        return TimeRead::Refused(Refusal {
+            reason: Reason::Form,
+            line: 0,
+            byte: 8,
+        });
+    }
+    TimeRead::Secs(t)
+}
+
+// Whether FDTE stands at 2 to 5.
+fn is_date_mark(line: &[u8]) -> bool
+    ensures { λ r. ⌜ r ≡ isDateMark (now (line .entry)) ⌝ }
+{
+    if chars::byte(line, 1) != b'F' {
+        return false;
+    }
+    if chars::byte(line, 2) != b'D' {
+        return false;
+    }
+    if chars::byte(line, 3) != b'T' {
+        return false;
+    }
+    chars::byte(line, 4) == b'E'
+}
+
+// Line 2, FDTE and its date. Refusals: LENGTH, CHARACTER, FORM at 2 or 6.
+pub fn date_line(line: &[u8]) -> DateRead
+    ensures { λ r. ⌜ DateLineChecked (now (line .entry)) r ⌝ }
+{
+    if let Outcome::Refused(r) = shape::shaped(line, 11, 11, true) {
+        return DateRead::Refused(r);
+    }
+    if !is_date_mark(line) {
+        return DateRead::Refused(Refusal {
+            reason: Reason::Form,
+            line: 0,
+            byte: 2,
+        });
+    }
+    let Day::On(d) = field::date_at(line, 5) else {
+        return DateRead::Refused(Refusal {
+            reason: Reason::Form,
+            line: 0,
+            byte: 6,
+        });
+    };
+    DateRead::On(d)
+}
+
+// A flight date, which may not be given.
+pub enum PlannedRead {
+    Is(Planned),
+    NoPlan,
+}
+
+// DDMMYY at a place of a line, or 000000 for a date that is not given.
+fn planned_at(line: &[u8], at: usize) -> PlannedRead
+    ensures { λ r. ⌜ plannedTold r ≡ plannedAt (now (line .entry)) at ⌝ }
+{
+    let Number::Value(v) = number::digits(line, at, 6) else {
+        return PlannedRead::NoPlan;
+    };
+    if v == 0 {
+        return PlannedRead::Is(Planned::NotGiven);
+    }
+    let Day::On(d) = field::date_at(line, at) else {
+        return PlannedRead::NoPlan;
+    };
+    PlannedRead::Is(Planned::On(d))
+}
+
+// The fields of a C head.
+fn head_fields(line: &[u8]) -> HeadRead
+    ensures { λ r. ⌜ headTold r ≡ headFields (now (line .entry)) ⌝ }
+{
+    let Day::On(declared) = field::date_at(line, 1) else {
+        return HeadRead::Refused(Refusal {
+            reason: Reason::Form,
+            line: 0,
+            byte: 2,
+        });
+    };
+    let Time::Secs(time) = field::time_at(line, 7) else {
+        return HeadRead::Refused(Refusal {
+            reason: Reason::Form,
+            line: 0,
+            byte: 8,
+        });
+    };
+    let PlannedRead::Is(flight) = planned_at(line, 13) else {
+        return HeadRead::Refused(Refusal {
+            reason: Reason::Form,
+            line: 0,
+            byte: 14,
+        });
+    };
+    let Number::Value(task) = number::digits(line, 19, 4) else {
+        return HeadRead::Refused(Refusal {
+            reason: Reason::Form,
+            line: 0,
+            byte: 20,
+        });
+    };
+    let Number::Value(turns) = number::digits(line, 23, 2) else {
+        return HeadRead::Refused(Refusal {
+            reason: Reason::Form,
+            line: 0,
+            byte: 24,
+        });
+    };
+    HeadRead::Is(Head {
+        declared,
+        time,
+        flight,
+        task: task as u16,
+        turns: turns as u8,
+    })
+}
+
+// A C head: declared date, time, flight date, task number, number of turn points, text. Refusals: LENGTH, CHARACTER, FORM at 2, 8, 14, 20 or 24.
+pub fn head_line(line: &[u8]) -> HeadRead
+    ensures { λ r. ⌜ HeadChecked (now (line .entry)) r ⌝ }
+{
+    if let Outcome::Refused(r) = shape::shaped(line, 25, 255, false) {
+        return HeadRead::Refused(r);
+    }
+    head_fields(line)
+}
+
+// A C point: latitude, longitude, text. Refusals: LENGTH, CHARACTER, FORM at 2 or 10.
+pub fn point_line(line: &[u8]) -> PointRead
+    ensures { λ r. ⌜ PointChecked (now (line .entry)) r ⌝ }
+{
+    if let Outcome::Refused(r) = shape::shaped(line, 18, 255, false) {
+        return PointRead::Refused(r);
+    }
+    let Place::Is(lat) = field::latitude_at(line, 1) else {
+        return PointRead::Refused(Refusal {
+            reason: Reason::Form,
+            line: 0,
+            byte: 2,
+        });
+    };
+    let Place::Is(lon) = field::longitude_at(line, 9) else {
+        return PointRead::Refused(Refusal {
+            reason: Reason::Form,
+            line: 0,
+            byte: 10,
+        });
+    };
+    PointRead::Is(Point { lat, lon })
+}
+
+// The fields of a B line before its columns.
+fn fix_fields(line: &[u8]) -> FixRead
+    ensures { λ r. ⌜ fixTold r ≡ fixFields (now (line .entry)) ⌝ }
+{
+    let Time::Secs(time) = field::time_at(line, 1) else {
+        return FixRead::Refused(Refusal {
+            reason: Reason::Form,
+            line: 0,
+            byte: 2,
+        });
+    };
+    let Place::Is(lat) = field::latitude_at(line, 7) else {
+        return FixRead::Refused(Refusal {
+            reason: Reason::Form,
+            line: 0,
+            byte: 8,
+        });
+    };
+    let Place::Is(lon) = field::longitude_at(line, 15) else {
+        return FixRead::Refused(Refusal {
+            reason: Reason::Form,
+            line: 0,
+            byte: 16,
+        });
+    };
+    let validity = chars::byte(line, 24);
+    if !chars::is_either(validity, b'A', b'V') {
+        return FixRead::Refused(Refusal {
+            reason: Reason::Form,
+            line: 0,
+            byte: 25,
+        });
+    }
+    let Altitude::Metres(pressure) = field::altitude_at(line, 25) else {
+        return FixRead::Refused(Refusal {
+            reason: Reason::Form,
+            line: 0,
+            byte: 26,
+        });
+    };
+    let Altitude::Metres(gnss) = field::altitude_at(line, 30) else {
+        return FixRead::Refused(Refusal {
+            reason: Reason::Form,
+            line: 0,
+            byte: 31,
+        });
+    };
+    FixRead::Is(Fix {
+        time,
+        lat,
+        lon,
+        validity,
+        pressure,
+        gnss,
+    })
+}
+
+// Whether the bytes behind the time of an F line make whole pairs.
+fn is_paired(line: &[u8]) -> bool
+    ensures { λ r. ⌜ r ≡ eqb ((length (now (line .entry)) - 7) % 2) 0 ⌝ }
+{
+    if line.len() < 7 {
+        return true;
+    }
+    (line.len() - 7) % 2 == 0
+}
+
+// How many bytes stand before the first pair of an F line that is not two code characters.
+fn bad_pair(line: &[u8]) -> Found
+    ensures { λ r. ⌜ foundTold r ≡ badPair 7 (drop 7 (now (line .entry))) ⌝ }
+{
+    let mut i = 7;
+    while i < line.len() {
+        let j = i + 1;
+        if line.len() <= j {
+            return Found::Nothing;
+        }
+        if !chars::is_code(line[i]) {
+            return Found::At(i);
+        }
+        if !chars::is_code(line[j]) {
+            return Found::At(i);
+        }
+        i += 2;
+    }
+    Found::Nothing
+}
+
+// An F line: its time, then pairs of code characters, perhaps none. Refusals: LENGTH, CHARACTER, FORM at 2, at 8 for an odd half pair, or at a pair.
+pub fn satellites(line: &[u8]) -> TimeRead
+    ensures { λ r. ⌜ SatellitesChecked (now (line .entry)) r ⌝ }
+{
+    if let Outcome::Refused(r) = shape::shaped(line, 7, 255, false) {
+        return TimeRead::Refused(r);
+    }
+    let Time::Secs(t) = field::time_at(line, 1) else {
+        return TimeRead::Refused(Refusal {
+            reason: Reason::Form,
+            line: 0,
+            byte: 2,
+        });
+    };
+    if !is_paired(line) {
+        return TimeRead::Refused(Refusal {
+            reason: Reason::Form,
+            line: 0,
+            byte: 8,
+        });
+    }
+    if let Found::At(i) = bad_pair(line) {
+        return TimeRead::Refused(Refusal {
+            reason: Reason::Form,
+            line: 0,
+            byte: (i + 1) as u32,
+        });
+    }
+    TimeRead::Secs(t)
+}
+
+// The length that a layout gives, then the characters.
+fn shaped_by(start: u8, layout: Layout, line: &[u8]) -> Outcome
+    ensures { λ r. ⌜ outcomeTold r ≡ shapedBy start layout (now (line .entry)) ⌝ }
+{
+    let n = column::line_length(start, layout);
+    shape::shaped(line, n, n, false)
+}
+
+// A fix whose line's columns keep their rules.
+fn with_columns(f: Fix, line: &[u8], layout: Layout) -> FixRead
+    ensures { λ r. ⌜ fixTold r ≡ andThen (columns (now (line .entry)) layout) (λ _. says f) ⌝ }
+{
+    if let Outcome::Refused(r) = column::columns(line, layout) {
+        return FixRead::Refused(r);
+    }
+    FixRead::Is(f)
+}
+
+// A B line by an I layout: its fix. Refusals: LENGTH, CHARACTER, FORM at 2, 8, 16, 25, 26 or 31, COLUMN. Defined for every layout value.
+pub fn fix_line(line: &[u8], layout: Layout) -> FixRead
+    ensures { λ r. ⌜ FixChecked (now (line .entry)) layout r ⌝ }
+{
+    if let Outcome::Refused(r) = shaped_by(36, layout, line) {
+        return FixRead::Refused(r);
+    }
+    match fix_fields(line) {
+        FixRead::Refused(r) => FixRead::Refused(r),
+        FixRead::Is(f) => with_columns(f, line, layout),
+    }
+}
+
+// A K line by a J layout: its time. Refusals: LENGTH, CHARACTER, FORM at 2, COLUMN. Defined for every layout value.
+pub fn note_line(line: &[u8], layout: Layout) -> TimeRead
+    ensures { λ r. ⌜ NoteChecked (now (line .entry)) layout r ⌝ }
+{
+    if let Outcome::Refused(r) = shaped_by(8, layout, line) {
+        return TimeRead::Refused(r);
+    }
+    let Time::Secs(t) = field::time_at(line, 1) else {
+        return TimeRead::Refused(Refusal {
+            reason: Reason::Form,
+            line: 0,
+            byte: 2,
+        });
+    };
+    if let Outcome::Refused(r) = column::columns(line, layout) {
+        return TimeRead::Refused(r);
+    }
+    TimeRead::Secs(t)
+}
