@@ -1,16 +1,17 @@
 -- The limits of an altitude as tests of a signed number; and the columns of a tail. Assumes nothing.
-use Prim.Native.Nat.{ℕ, zero, suc, _+_, _-_, _<_, _≤_}
-use mathlib.Core.Bool.{true, false}
-use mathlib.Core.List.{List, []}
+use Prim.Native.Nat.{ℕ, _+_, _<_, _≤_}
+use mathlib.Core.Bool.{Bool, true, false}
 use mathlib.Core.Option.{Option, none, some}
 use mathlib.Core.Path.{_≡_, refl, sym, _∙_}
 use native.Mathlib.Omega.{arith}
-use borrow.Author.Tests.{le-leb, lt-leb, ltb-true, ltb-false}
+use borrow.Author.Tests.{le-leb, lt-leb, ltb-true, ltb-false, eq-eqb, ne-eqb}
+use lib.Dec.{eqb}
 use lib.IntN.{ℤ, pos, negsuc}
-use lib.ListN.{length, take, drop, length-drop, drop-of-length-le}
-use lib.Seq.{take-all}
 use lib.Signed.{ltZ, leZ}
-use Rattle.rules.specs.Choice.{given, part}
+use Rattle.rules.specs.Choice.{given, need}
+use Rattle.rules.specs.Layouts.{firstStart, allowed}
+use Rattle.rules.specs.declared.Family.{Family}
+use Rattle.rules.specs.declared.Layout.{Layout}
 use Rattle.trips.specs.Limits.{isMetres}
 
 pub too-low : (z : ℤ) → ltZ z (negsuc 9998) ≡ true → false ≡ isMetres z
@@ -21,23 +22,6 @@ pub low-enough : (z : ℤ) → ltZ z (negsuc 9998) ≡ false → leZ z (pos 9999
 low-enough (pos n) e = refl
 low-enough (negsuc n) e = let h : n ≤ 9998 = ltb-false _ _ e in sym (le-leb (n + 1) 9999 (omega arith))
 
--- ---- a part of a tail, as far as there is one
-
-take-none : (n : ℕ) → take {A = ℕ} n [] ≡ []
-take-none zero = refl
-take-none (suc n) = refl
-
-pub part-none : (s : List ℕ) (a e : ℕ) → length s < a → [] ≡ part a e s
-part-none s a e h = rw (drop-of-length-le s {i = a} (omega arith)) (sym (take-none (e - a)))
-
-pub part-empty : (s : List ℕ) (a e : ℕ) → e < a → [] ≡ part a e s
-part-empty s a e h = let z : e - a ≡ 0 = omega arith in rw z
-
-pub part-rest : (s : List ℕ) (a e : ℕ) → length s < e → take (length s - a) (drop a s) ≡ part a e s
-part-rest s a e h =
-    let n = length-drop a s in
-    take-all (length s - a) (drop a s) (omega arith) ∙ sym (take-all (e - a) (drop a s) (omega arith))
-
 -- ---- whether a column was found that breaks its rule
 
 pub none-breaks : (o : Option ℕ) → o ≡ none → true ≡ given o true (λ v. false)
@@ -45,3 +29,15 @@ none-breaks o e = rw e
 
 pub one-breaks : (o : Option ℕ) (v : ℕ) → o ≡ some v → false ≡ given o true (λ w. false)
 one-breaks o v e = rw e
+
+-- ---- the links of a tail, in the form that `search` finds
+
+pub allowed-is : (f : Family) (start : ℕ) (l : Layout) (r : Bool) → start ≡ firstStart f → r ≡ allowed (firstStart f) l → r ≡ allowed start l
+allowed-is f start l r e h = rw e h
+
+module _ {A : Type 0} (m n k : ℕ) (x a : A) (f : Unit {0} → A) (e : n ≡ k) where
+  pub need-same : m ≡ n → x ≡ f tt → x ≡ need (eqb m k) a f
+  need-same h g = rw (eq-eqb m k (h ∙ e)) g
+
+  pub need-other : (m ≡ n → ⊥) → x ≡ a → x ≡ need (eqb m k) a f
+  need-other h g = rw (ne-eqb m k (λ p. h (p ∙ sym e))) g

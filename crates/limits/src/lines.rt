@@ -1,14 +1,17 @@
 // The values of a line, with the text behind its fields.
 ghost use mathlib.Core.Path.{_≡_};
-ghost use Rattle.trips.specs.Limits.{goodPoint, goodHeadFields, goodHead, goodFixFields};
+ghost use Rattle.trips.specs.Limits.{goodPoint, goodHeadFields, goodHead, goodFixFields, goodFix, goodNote};
 use crate::fields::is_altitude;
 use crate::fields::is_clean;
 use crate::fields::is_date;
 use crate::fields::is_latitude;
 use crate::fields::is_longitude;
 use crate::fields::is_planned;
+use crate::tails::good_tail;
+use rules::Family;
 use rules::Fix;
 use rules::Head;
+use rules::Layout;
 use rules::Point;
 
 // Whether some C point line reads as the point, with this text behind it.
@@ -80,4 +83,24 @@ fn good_fix_fields(f: Fix) -> bool
         return false;
     }
     is_altitude(f.gnss)
+}
+
+// Whether some B line with this layout reads as the fix, with this tail.
+pub fn good_fix(f: Fix, tail: &[u8], l: Layout) -> bool
+    ensures { λ r. ⌜ r ≡ goodFix f (now (tail .entry)) l ⌝ }
+{
+    if !good_fix_fields(f) {
+        return false;
+    }
+    good_tail(Family::B, 36, tail, l)
+}
+
+// Whether some K line with this layout reads as the time, with this tail.
+pub fn good_note(t: u32, tail: &[u8], l: Layout) -> bool
+    ensures { λ r. ⌜ r ≡ goodNote t (now (tail .entry)) l ⌝ }
+{
+    if 86399 < t {
+        return false;
+    }
+    good_tail(Family::K, 8, tail, l)
 }

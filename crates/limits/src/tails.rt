@@ -1,47 +1,40 @@
 // The columns of a B or a K line, which are the line's tail, held against the layout.
 ghost use mathlib.Core.Bool.{true, false};
 ghost use mathlib.Core.Path.{_≡_};
-ghost use Prim.Native.Nat.{_+_, _-_};
+ghost use Prim.Native.Nat.{_+_, _-_, _≤_};
 ghost use Rattle.rules.specs.Choice.{given, part};
+ghost use Rattle.rules.specs.Layouts.{firstStart};
 ghost use Rattle.rules.specs.Listed.{keepsRule};
-ghost use Rattle.trips.specs.Limits.{badTail};
+ghost use Rattle.trips.specs.Limits.{badTail, goodTail};
+use crate::fields::is_clean;
 use rules::Entry;
+use rules::Family;
 use rules::Layout;
 
-// How much a is over b.
-fn over(a: usize, b: usize) -> usize
-    ensures { λ r. ⌜ r ≡ a - b ⌝ }
+// A byte of the line as a byte of its tail, counted from 1; 0 for one before the tail.
+fn in_tail(start: u8, n: u8) -> u8
+    requires { ⌜ 1 ≤ start ⌝ }
+    ensures { λ r. ⌜ r ≡ n + 1 - start ⌝ }
 {
-    if a < b {
+    if n < start {
         return 0;
     }
-    a - b
-}
-
-// The bytes of s from the place a up to the place e, as far as there are any.
-fn between(s: &[u8], a: usize, e: usize) -> &[u8]
-    ensures { λ r. ⌜ now r ≡ part a e (now (s .entry)) ⌝ }
-{
-    if e < a || s.len() < a {
-        return &s[0..0];
-    }
-    if s.len() < e {
-        return &s[a..];
-    }
-    &s[a..e]
+    n - start + 1
 }
 
 // Whether the column of an entry keeps the rule of its code.
-fn keeps(start: usize, tail: &[u8], e: Entry) -> bool
+fn keeps(start: u8, tail: &[u8], e: Entry) -> bool
+    requires { ⌜ 1 ≤ start ⌝ }
     ensures { λ r. ⌜ r ≡ keepsRule (e .code) (part (e .first - start) (e .last + 1 - start) (now (tail .entry))) ⌝ }
 {
-    let a = over(e.first as usize, start);
-    let z = over(e.last as usize + 1, start);
-    layout::keeps_rule(e.code, between(tail, a, z))
+    let first = in_tail(start, e.first);
+    let last = in_tail(start, e.last);
+    layout::keeps_rule(e.code, column::text_of(tail, first, last))
 }
 
 // Whether each column keeps the rule of its code.
-fn keeps_all(start: usize, tail: &[u8], l: Layout) -> bool
+fn keeps_all(start: u8, tail: &[u8], l: Layout) -> bool
+    requires { ⌜ 1 ≤ start ⌝ }
     ensures { λ r. ⌜ r ≡ given (badTail start (now (tail .entry)) l) true (λ _. false) ⌝ }
 {
     let n = l.count;
@@ -57,4 +50,22 @@ fn keeps_all(start: usize, tail: &[u8], l: Layout) -> bool
         i += 1;
     }
     true
+}
+
+// Whether a tail is what a layout of the family gives, whose first column starts at `start`.
+pub(crate) fn good_tail(family: Family, start: u8, tail: &[u8], l: Layout) -> bool
+    requires { ⌜ (start ≡ firstStart family) × (1 ≤ start) ⌝ }
+    ensures { λ r. ⌜ r ≡ goodTail start (now (tail .entry)) l ⌝ }
+{
+    if !layout::allowed(family, l) {
+        return false;
+    }
+    let n = column::line_length(start, l);
+    if (start as usize) - 1 + tail.len() != n as usize {
+        return false;
+    }
+    if !is_clean(tail) {
+        return false;
+    }
+    keeps_all(start, tail, l)
 }
