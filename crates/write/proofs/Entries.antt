@@ -1,8 +1,8 @@
--- The entries of an I or a J line, one behind the other. Assumes nothing.
+-- The entries of an I or a J line, one behind the other; and that a layout which is allowed can be spelt. Assumes nothing.
 use Prim.Native.Nat.{ℕ, zero, suc, _+_, _*_, _/_, _%_, _≤_, _<_}
 use mathlib.Core.Bool.{Bool, true, false, _&&_, _||_}
 use mathlib.Core.List.{List, [], _∷_, _++_, append-assoc, append-nil}
-use mathlib.Core.Path.{_≡_, refl, sym, _∙_, ap}
+use mathlib.Core.Path.{_≡_, refl, sym}
 use native.Mathlib.Numerals.{add-one}
 use native.Mathlib.Omega.{arith}
 use borrow.Author.Tests.{leb-true}
@@ -10,14 +10,14 @@ use lib.Dec.{leb}
 use lib.ListN.{length, getD, take, length-append}
 use lib.Seq.{getD-take, length-take-le, take-all}
 use Rattle.rules.specs.Chars.{isDigit, isCode}
+use Rattle.rules.specs.Numbers.{digitsOf}
 use Rattle.rules.specs.Listed.{isCodeWord}
 use Rattle.rules.specs.Layouts.{unused, emptyLayout, withEntry, entriesOf, placed, isSaid, isSpelt, allPlaced, allowed}
-use Rattle.rules.specs.Writes.{entryText, entryTexts, layoutText, putAt, crlf}
-use Rattle.rules.specs.Numbers.{digitsOf}
 use Rattle.rules.specs.Reads.{layoutLetter}
-use Rattle.rules.specs.declared.Family.{Family}
+use Rattle.rules.specs.Writes.{entryText, entryTexts, layoutText, putAt, crlf}
 use Rattle.rules.specs.declared.Entry.{Entry}
 use Rattle.rules.specs.declared.Layout.{Layout}
+use Rattle.rules.specs.declared.Family.{Family}
 use Rattle.trips.proofs.Laws.{and-inv}
 use Rattle.trips.proofs.Texts.{digit-range}
 use Rattle.put.specs.Puts.{Fills}

@@ -1,26 +1,26 @@
--- Laws of the lines that are written. Assumes nothing.
+-- A line filled part by part into the part of an output that is lent; a writer's ways out; and the lengths of the lines. Assumes nothing.
 use Prim.Native.Nat.{ℕ, zero, suc, _+_, _-_, _≤_, _<_}
 use mathlib.Core.Bool.{Bool, true, false, not}
 use mathlib.Core.List.{List, [], _∷_, _++_, append-assoc, append-nil}
 use mathlib.Core.Path.{_≡_, refl, sym, _∙_, ap}
-use native.Mathlib.Nat.{add-assoc}
 use native.Mathlib.Omega.{arith}
 use borrow.Author.Tests.{le-leb, lt-leb, not-true, not-false}
 use borrow.Rule.Slice.PartMut.{midOf, putMid}
 use lib.ListN.{length, take, drop, set, length-append, length-drop, drop-of-length-le}
 use lib.Seq.{sets, take-all}
 use Rattle.rules.specs.Refusals.{no}
-use Rattle.rules.specs.Writes.{crlf, written, outAfter, wroteTold, putAt, plannedText, pointText, headText}
+use Rattle.rules.specs.Writes.{crlf, written, outAfter, wroteTold, putAt, plannedText, pointText, headText, noteText, fixText}
 use Rattle.rules.specs.Promises.{Written}
 use Rattle.rules.specs.declared.Reason.the-variants.{BadValue, NoRoom}
+use Rattle.rules.specs.declared.Fix.{Fix}
 use Rattle.rules.specs.declared.Head.{Head}
 use Rattle.rules.specs.declared.Planned.{Planned}
-use Rattle.rules.specs.declared.Planned.the-variants as planned
 use Rattle.rules.specs.declared.Point.{Point}
 use Rattle.rules.specs.declared.Wrote.{Wrote}
 use Rattle.rules.specs.declared.Wrote.the-variants.{Next}
+use Rattle.trips.proofs.Plans.{planned-trip}
 use Rattle.put.specs.Puts.{Fills}
-use Rattle.put.proofs.Laws.{put-then, digits-length, date-length, time-length, position-length}
+use Rattle.put.proofs.Laws.{put-then, digits-length, date-length, time-length, position-length, altitude-length}
 
 -- ---- a line that is filled part by part
 
@@ -77,10 +77,16 @@ pub point-length : (p : Point) (rest : List ℕ) → length (pointText p rest) +
 unfolding pointText
 point-length p rest = simp (length-append, position-length) (omega arith)
 
-pub planned-length : (f : Planned) → length (plannedText f) ≡ 6
-unfolding plannedText
-planned-length (planned.On d) = date-length d
-planned-length planned.NotGiven = digits-length 6 0
+pub note-length : (t : ℕ) (tail : List ℕ) → length (noteText t tail) + 2 ≡ 9 + length tail
+unfolding noteText
+note-length t tail = simp (length-append, time-length) (omega arith)
+
+pub fix-length : (f : Fix) (tail : List ℕ) → length (fixText f tail) + 2 ≡ 37 + length tail
+unfolding fixText
+fix-length f tail = simp (length-append, time-length, position-length, altitude-length) (omega arith)
+
+planned-length : (f : Planned) → length (plannedText f) ≡ 6
+planned-length f = planned-trip .long f
 
 pub head-length : (h : Head) (rest : List ℕ) → length (headText h rest) + 2 ≡ 27 + length rest
 unfolding headText

@@ -6,6 +6,8 @@ mod layouts;
 mod notes;
 mod points;
 
+pub use fixes::fix;
 pub use heads::head;
 pub use layouts::layout;
+pub use notes::note;
 pub use points::point;

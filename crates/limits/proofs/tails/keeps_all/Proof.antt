@@ -1,12 +1,11 @@
 -- `limits::tails::keeps_all` meets its contract: the entries from i on decide as all do. Assumes nothing.
 use Prim.Native.Nat.{ℕ, _≤_, _-_, _+_}
-use mathlib.Core.Bool.{Bool, true, false, not}
+use mathlib.Core.Bool.{Bool, not}
 use mathlib.Core.List.{List}
 use mathlib.Core.Path.{_≡_, refl, sym, _∙_, ap}
 use borrow.Author.Needs.{needs}
-use borrow.Author.Tests.{not-true, not-false}
 use lib.ListN.{length, drop}
-use Rattle.rules.specs.Choice.{given, firstOf, part}
+use Rattle.rules.specs.Choice.{firstOf, part}
 use Rattle.rules.specs.Listed.{keepsRule}
 use Rattle.rules.specs.Layouts.{entriesOf}
 use Rattle.rules.specs.declared.Entry.{Entry}
