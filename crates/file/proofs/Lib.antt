@@ -1,0 +1,6 @@
+pub mod Places
+pub mod Others
+pub mod Cuts
+pub mod Counts
+pub mod Turns
+pub mod Judging

@@ -1,0 +1,127 @@
+// The lines of a file checked one after the other, with the table of their offsets.
+ghost use Prim.Native.Nat.{_≤_, _<_};
+ghost use mathlib.Core.Path.{_≡_};
+ghost use lib.ListN.{length};
+ghost use Rattle.rules.specs.Files.{CheckedTold, finish};
+ghost use Rattle.rules.specs.Promises.{FileChecked};
+ghost use Rattle.rules.specs.Refusals.{refusal};
+ghost use Rattle.file.specs.Judges.{Few, inNext};
+ghost use Rattle.file.specs.Turns.{Turned};
+use crate::judge;
+use crate::order;
+use crate::scan;
+use crate::scan::Ended;
+use rules::Checked;
+use rules::Outcome;
+use rules::Reason;
+use rules::Refusal;
+use rules::State;
+
+pub(crate) fn refused(why: Refusal) -> Checked
+    ensures { λ r. ⌜ CheckedTold (refusal why) r ⌝ }
+{
+    Checked {
+        outcome: Outcome::Refused(why),
+        flight: order::no_flight(),
+    }
+}
+
+// A refusal in the line that comes after those of the state.
+fn in_next(reason: Reason, byte: u32, st: State) -> Refusal
+    requires { ⌜ st .flight .lines ≤ 16777216 ⌝ }
+    ensures { λ r. ⌜ r ≡ inNext reason byte st ⌝ }
+{
+    Refusal {
+        reason,
+        line: st.flight.lines + 1,
+        byte,
+    }
+}
+
+// The answer where all lines are good. An open declaration or a missing G line is refused.
+fn finished(st: State) -> Checked
+    requires { ⌜ st .flight .lines ≤ 16777216 ⌝ }
+    ensures { λ r. ⌜ CheckedTold (finish st) r ⌝ }
+{
+    if st.points != 0 {
+        return refused(in_next(Reason::EndsEarly, 0, st));
+    }
+    if st.stage < order::AFTER_G {
+        return refused(in_next(Reason::EndsEarly, 0, st));
+    }
+    let flight = st.flight;
+    Checked {
+        outcome: Outcome::Accepted,
+        flight,
+    }
+}
+
+// What a turn of the check comes to: the place of the next line, or the refusal that stops it.
+pub enum What {
+    Next(usize),
+    Stop(Refusal),
+}
+
+// A turn, and the state after it.
+pub struct Turn {
+    pub what: What,
+    pub state: State,
+}
+
+// One line found, judged and left.
+fn take_turn(file: &[u8], at: usize, st: State) -> Turn
+    requires { ⌜ (at < length (now file)) × (length (now file) ≤ 16777216) × Few st ⌝ }
+    ensures { λ r. ⌜ Turned (now (file .entry)) at st (r .what) (r .state) ⌝ }
+{
+    match scan::line_end(file, at) {
+        Ended::Broken(end) => Turn {
+            what: What::Stop(in_next(Reason::LineEnd, (end - at + 1) as u32, st)),
+            state: st,
+        },
+        Ended::At(end) => {
+            let judged = judge::judge_line(&file[at..end], st);
+            let outcome = judged.outcome;
+            let state = judged.state;
+            match outcome {
+                Outcome::Accepted => Turn {
+                    what: What::Next(end + 2),
+                    state,
+                },
+                Outcome::Refused(why) => {
+                    let reason = why.reason;
+                    Turn {
+                        what: What::Stop(in_next(reason, why.byte, st)),
+                        state: st,
+                    }
+                }
+            }
+        }
+    }
+}
+
+pub(crate) fn check_lines(file: &[u8], table: &mut [u32]) -> Checked
+    requires { ⌜ (1 ≤ length (now file)) × (length (now file) ≤ 16777216) ⌝ }
+    ensures { λ r. ⌜ FileChecked (now (file .entry)) (now (table .entry)) r (now (table .exit)) ⌝ }
+{
+    let mut at: usize = 0;
+    let mut st = order::start_state();
+    while at < file.len() {
+        let turn = take_turn(file, at, st);
+        let what = turn.what;
+        match what {
+            What::Next(next) => {
+                let n = st.flight.lines as usize;
+                if table.len() <= n {
+                    return refused(in_next(Reason::TableFull, 0, st));
+                }
+                table[n] = at as u32;
+                st = turn.state;
+                at = next;
+            }
+            What::Stop(why) => {
+                return refused(why);
+            }
+        }
+    }
+    finished(st)
+}
