@@ -1,7 +1,8 @@
-"""Reference implementation of document 01 (/work/shared/01-scope.md).
+"""A second reading of document 01, in another language, to hold the definitions and the programs against.
 
 Written from document 01 alone. A sentence in quotation marks is document 01's
-own; "Settled:" marks a point document 01 leaves open and the brief settled.
+own; "Settled:" marks a point that document 01 leaves open and docs/DECISIONS.md
+settles.
 
 How values look here
   file, line, column, text, code   bytes (a line has no CR LF)

@@ -1,15 +1,16 @@
 -- One turn of a loop over the entries of a layout: the entry at the place i decides, or those behind it do. Assumes nothing.
 use Prim.Native.Nat.{ℕ, suc, _+_, _-_, _≤_, _<_}
-use mathlib.Core.Bool.{Bool, true, false}
-use mathlib.Core.Option.{Option, none, some}
+use mathlib.Core.Bool.{Bool, true, false, _&&_}
+use mathlib.Core.Option.{none, some}
 use mathlib.Core.List.{List}
-use mathlib.Core.Path.{_≡_, refl, sym, _∙_, ap}
+use mathlib.Core.Path.{_≡_, refl, _∙_, ap}
+use native.Mathlib.Numerals.{add-one}
 use native.Mathlib.Omega.{arith}
-use lib.ListN.{length, getD, drop, length-take}
-use lib.Seq.{getD-take}
+use lib.ListN.{length, getD, drop, drop-of-length-le, length-take}
+use lib.Seq.{drop-cons, getD-take}
 use Rattle.rules.specs.Choice.{firstOf}
 use Rattle.rules.specs.Refusals.{Said, says, refuses, outcomeTold}
-use Rattle.rules.specs.Layouts.{unused, entriesOf, withEntry, entryAt, entriesFrom, LayoutTold}
+use Rattle.rules.specs.Layouts.{unused, entriesOf, withEntry, placed, entryAt, entriesFrom, isSpelt, isSaid, allPlaced, LayoutTold}
 use Rattle.rules.specs.declared.Entry.{Entry}
 use Rattle.rules.specs.declared.Layout.{Layout}
 use Rattle.rules.specs.declared.LayoutRead.{LayoutRead}
@@ -39,6 +40,23 @@ module _ {B : Type 0} (test : Entry → Bool) (found : ℕ → Entry → B) (l :
 
   pub entry-end : length (l .entries) ≡ 13 → 13 ≤ i → firstOf test found (drop i (entriesOf l)) i ≡ none
   entry-end e h = past test found (entriesOf l) unused i i (simp length-take (omega arith))
+
+-- ---- each entry placed behind those before it
+
+module _ (l : Layout) (i start : ℕ) (before : Layout) (e : length (l .entries) ≡ 13) (h : i < 13) (k : i < l .count) where
+  pub place-more : (isSpelt (getD (l .entries) i unused) && isSaid (placed start before (getD (l .entries) i unused) 0)) ≡ true
+      → allPlaced (drop i (entriesOf l)) start before
+      ≡ allPlaced (drop (i + 1) (entriesOf l)) ((getD (l .entries) i unused) .last + 1) (withEntry before (getD (l .entries) i unused))
+  unfolding allPlaced
+  place-more t = rw (add-one i, drop-cons (entriesOf l) i unused (there l i e h k), same l i k, t)
+
+  pub place-stop : (isSpelt (getD (l .entries) i unused) && isSaid (placed start before (getD (l .entries) i unused) 0)) ≡ false → allPlaced (drop i (entriesOf l)) start before ≡ false
+  unfolding allPlaced
+  place-stop t = rw (drop-cons (entriesOf l) i unused (there l i e h k), same l i k, t)
+
+pub place-end : (l : Layout) (i start : ℕ) (before : Layout) → l .count ≤ i → allPlaced (drop i (entriesOf l)) start before ≡ true
+unfolding allPlaced
+place-end l i start before k = rw (drop-of-length-le (entriesOf l) {i = i} (simp length-take (omega arith)))
 
 -- ---- the entries of a line, i of count being read
 

@@ -36,7 +36,7 @@ pub fn empty_layout() -> Layout
 }
 
 // One entry more, behind those that are there.
-pub fn with_entry(l: Layout, e: Entry) -> Layout
+pub(crate) fn with_entry(l: Layout, e: Entry) -> Layout
     requires { ⌜ l .count < 13 ⌝ }
     ensures { λ r. ⌜ r ≡ withEntry l e ⌝ }
 {
@@ -67,7 +67,7 @@ pub fn look(l: Layout, code: u32) -> Spot
 }
 
 // Whether an entry has the code.
-pub fn carries(l: Layout, code: u32) -> bool
+pub(crate) fn carries(l: Layout, code: u32) -> bool
     ensures { λ r. ⌜ r ≡ carries l code ⌝ }
 {
     let Spot::At(_, _) = look(l, code) else {
@@ -77,7 +77,7 @@ pub fn carries(l: Layout, code: u32) -> bool
 }
 
 // No entry: a refusal of the line in hand, at a byte of it.
-pub fn refuse(reason: Reason, byte: u32) -> EntryRead
+pub(crate) fn refuse(reason: Reason, byte: u32) -> EntryRead
     ensures { λ r. ⌜ entryTold r ≡ no reason byte ⌝ }
 {
     EntryRead::Refused(Refusal {
@@ -89,7 +89,7 @@ pub fn refuse(reason: Reason, byte: u32) -> EntryRead
 
 // An entry that has to start at `start`, behind those of a layout, refusals at the byte `first`: 10 where it does not start there or ends before it starts,
 // 11 where its code was there before, 12 where its code is listed and its width is wrong.
-pub fn placed(start: usize, before: Layout, e: Entry, first: u32) -> EntryRead
+pub(crate) fn placed(start: usize, before: Layout, e: Entry, first: u32) -> EntryRead
     ensures { λ r. ⌜ EntryPlaced start before e first r ⌝ }
 {
     if e.first as usize != start {

@@ -3,9 +3,9 @@ ghost use Prim.Native.Nat.{_+_, _*_, _≤_};
 ghost use mathlib.Core.Bool.{false};
 ghost use mathlib.Core.Path.{_≡_};
 ghost use lib.ListN.{length};
-ghost use Rattle.rules.specs.Refusals.{refusal, no};
+ghost use Rattle.rules.specs.Refusals.{refusal};
 ghost use Rattle.rules.specs.Layouts.{LayoutTold, firstStart, emptyLayout, entriesFrom, layoutFields};
-ghost use Rattle.rules.specs.Promises.{ShapeChecked, LayoutChecked};
+ghost use Rattle.rules.specs.Promises.{LayoutChecked};
 ghost use Rattle.layout.specs.Parts.{CodeRead, EntryGiven};
 use crate::entries::EntryRead;
 use crate::entries::empty_layout;
@@ -15,7 +15,6 @@ use crate::entries::with_entry;
 use crate::table::pack;
 use rules::Entry;
 use rules::Family;
-use rules::Found;
 use rules::Layout;
 use rules::LayoutRead;
 use rules::Number;
@@ -30,7 +29,7 @@ pub enum Letters {
 }
 
 // The code at a place of a line. NoCode where not three code characters stand there.
-pub fn code_at(line: &[u8], at: usize) -> Letters
+fn code_at(line: &[u8], at: usize) -> Letters
     requires { ⌜ at ≤ 1000 ⌝ }
     ensures { λ r. ⌜ CodeRead (now (line .entry)) at r ⌝ }
 {
@@ -46,7 +45,7 @@ pub fn code_at(line: &[u8], at: usize) -> Letters
 
 // The entry that stands behind `at` bytes of a line, and has to start at `start` behind those of a layout. 9 at the first byte of SS, FF or CCC, whichever
 // breaks its rule first; then 10, 11 and 12 at the entry's first byte.
-pub fn entry_at(line: &[u8], at: usize, start: usize, before: Layout) -> EntryRead
+fn entry_at(line: &[u8], at: usize, start: usize, before: Layout) -> EntryRead
     requires { ⌜ at ≤ 900 ⌝ }
     ensures { λ r. ⌜ EntryGiven (now (line .entry)) at start before r ⌝ }
 {
@@ -76,7 +75,7 @@ pub fn refused(why: Refusal) -> LayoutRead
 }
 
 // The entries of a line, `count` of them, the first of which has to start at `origin`.
-pub fn entries(line: &[u8], count: usize, origin: usize) -> LayoutRead
+fn entries(line: &[u8], count: usize, origin: usize) -> LayoutRead
     requires { ⌜ count ≤ 13 ⌝ }
     ensures { λ r. ⌜ LayoutTold (entriesFrom count (now (line .entry)) 3 origin emptyLayout) r ⌝ }
 {
@@ -102,7 +101,7 @@ pub fn entries(line: &[u8], count: usize, origin: usize) -> LayoutRead
 }
 
 // NN and the length against it, 9 at byte 2; then the entries from the left.
-pub fn fields(start: usize, line: &[u8]) -> LayoutRead
+fn fields(start: usize, line: &[u8]) -> LayoutRead
     requires { ⌜ length (now line) ≤ 99 ⌝ }
     ensures { λ r. ⌜ LayoutTold (layoutFields start (now (line .entry))) r ⌝ }
 {
@@ -120,31 +119,6 @@ pub fn fields(start: usize, line: &[u8]) -> LayoutRead
     entries(line, nn as usize, start)
 }
 
-// The shape of a line: 7 at byte 0 where its length is outside least to most, then 8 at its first invalid byte. In an H line a comma is valid.
-pub fn shaped(line: &[u8], least: u8, most: u8, in_h: bool) -> Outcome
-    ensures { λ r. ⌜ ShapeChecked least most «in_h» (now (line .entry)) r ⌝ }
-{
-    let wrong = Refusal {
-        reason: Reason::Length,
-        line: 0,
-        byte: 0,
-    };
-    if line.len() < least as usize {
-        return Outcome::Refused(wrong);
-    }
-    if (most as usize) < line.len() {
-        return Outcome::Refused(wrong);
-    }
-    let Found::At(i) = chars::first_invalid(in_h, line) else {
-        return Outcome::Accepted;
-    };
-    Outcome::Refused(Refusal {
-        reason: Reason::Character,
-        line: 0,
-        byte: i as u32 + 1,
-    })
-}
-
 // Where the first column of a family starts: byte 36 of a B line, byte 8 of a K line.
 pub fn first_start(family: Family) -> usize
     ensures { λ r. ⌜ r ≡ firstStart family ⌝ }
@@ -160,7 +134,7 @@ pub fn first_start(family: Family) -> usize
 pub fn layout_line(family: Family, line: &[u8]) -> LayoutRead
     ensures { λ r. ⌜ LayoutChecked family (now (line .entry)) r ⌝ }
 {
-    match shaped(line, 3, 99, false) {
+    match shape::shaped(line, 3, 99, false) {
         Outcome::Accepted => fields(first_start(family), line),
         Outcome::Refused(why) => refused(why),
     }

@@ -58,7 +58,7 @@ pub fn listed_at(n: usize) -> Listed
 }
 
 // A code's number in the table; Nothing where it is not listed.
-pub fn listed_number(code: u32) -> Found
+pub(crate) fn listed_number(code: u32) -> Found
     ensures { λ r. ⌜ ListedFound code r ⌝ }
 {
     let mut i = 0;
@@ -73,7 +73,7 @@ pub fn listed_number(code: u32) -> Found
 }
 
 // Whether a column of this code may have this width.
-pub fn width_fits(code: u32, width: usize) -> bool
+pub(crate) fn width_fits(code: u32, width: usize) -> bool
     ensures { λ r. ⌜ r ≡ widthFits code width ⌝ }
 {
     let Found::At(n) = listed_number(code) else {

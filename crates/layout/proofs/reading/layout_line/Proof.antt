@@ -2,14 +2,14 @@
 use mathlib.Core.Path.{refl}
 use Rattle.rules.specs.Lines.{layoutLine}
 use Rattle.rules.proofs.Links.{outcome-accepted, outcome-refused}
-use Rattle.layout.proofs.Laws.{within}
+use Rattle.shape.proofs.Laws.{accepted-most}
 use Rattle.layout.proofs.Turns.{told-same}
 use borrow.Author.Needs.{needs}
 use Rattle.layout.proofs.reading.layout_line.Statement.{statement}
 use Rattle.layout.proofs.reading.layout_line.Tie as tie
 
 fields-requires : tie.Need-fields-requires
-fields-requires c κs = within _ _ _ _ _ (c .before .before .before .shaped .ensures) (c .before .enum-told .given .1) .1
+fields-requires c κs = accepted-most 3 99 _ _ _ (c .before .before .before .shaped .ensures) (c .before .enum-told .given .1)
 
 returns : tie.Need-returns
 unfolding layoutLine

@@ -1,0 +1,220 @@
+-- A, H, D, E, F, L, G and other lines, and the date line: each passes its checks exactly when it is what the grammar calls a line of that kind. Assumes nothing.
+use Prim.Native.Nat.{ℕ, _+_, _-_, _%_, _≤_, _<_}
+use Prim.Native.Char.{code}
+use mathlib.Core.Bool.{Bool, true, false, not, _&&_, cond}
+use mathlib.Core.List.{List, [], _∷_, _++_, append-nil}
+use mathlib.Core.Option.{none, some}
+use mathlib.Core.Path.{_≡_, refl, sym, _∙_, ap}
+use native.Mathlib.Omega.{arith}
+use borrow.Author.Tests.{eqb-true, eq-eqb}
+use lib.Dec.{eqb, leb}
+use lib.ListN.{length, getD, drop, length-drop}
+use lib.Seq.{drop-length}
+use Rattle.rules.specs.Choice.{on}
+use Rattle.rules.specs.Refusals.{says}
+use Rattle.rules.specs.Chars.{isValid, isCode, codesAt}
+use Rattle.rules.specs.Fields.{timeAt, timeText, dateAt, dateText, isEither}
+use Rattle.rules.specs.Lines.{shaped, aLine, isDateMark, dateLine, hLine, dLine, eLine, badPair, fLine, lLine, gLine, otherLine}
+use Rattle.rules.specs.declared.Date.{Date}
+use Rattle.trips.specs.Limits.{isTime, isDate}
+use Rattle.trips.proofs.Laws.{none-some, refuses-says, given-inv, need-inv, then-inv, and-inv, past, byte-there}
+use Rattle.trips.proofs.Times.{time-trip}
+use Rattle.trips.proofs.Dates.{date-trip}
+use Rattle.demands.specs.Grammar.{Each, Shaped, IsALine, IsDateLine, IsHLine, IsDLine, IsELine, IsFLine, IsLLine, IsGLine, IsOtherLine}
+use Rattle.demands.proofs.Laws.{given-none, each-map, are-valid, shape-there, shape-said}
+
+-- ---- A
+
+pub a-there : (l : List ℕ) (u : Unit {0}) → getD l 0 0 ≡ code "A" → aLine l ≡ says u → IsALine l
+unfolding aLine
+a-there l u k e =
+    let s = then-inv (shaped 7 255 false l) u _ e in
+    let m = need-inv (codesAt l 1 3) _ (says u) _ refuses-says (s .2) in
+    let n = need-inv (codesAt l 4 3) _ (says u) _ refuses-says (m .1) in
+    record { letter = k; shape = shape-there 7 255 false l tt (s .1); maker = m .0; serial = n .0 }
+
+pub a-said : (l : List ℕ) → IsALine l → aLine l ≡ says tt
+unfolding aLine
+a-said l w = simp (shape-said 7 255 false l (w .shape), w .maker, w .serial)
+
+-- ---- line 2
+
+-- what is valid outside H lines is valid in them
+in-h : (b : ℕ) → isValid false b ≡ true → isValid true b ≡ true
+unfolding isValid
+in-h b e =
+    let common = leb 0x20 b && leb b 0x7D && not (eqb b 0x21) && not (eqb b 0x24) && not (eqb b 0x2A) && not (eqb b 0x5C) && not (eqb b 0x5E) in
+    ap (λ t. t && true) (and-inv common (not (eqb b 0x2C)) e .0)
+
+pub date-there : (l : List ℕ) (d : Date) → getD l 0 0 ≡ code "H" → dateLine l ≡ says d → IsDateLine d l
+unfolding dateLine isDateMark
+date-there l d k e =
+    let s = then-inv (shaped 11 11 true l) d _ e in
+    let m = need-inv (isDateMark l) _ (says d) _ refuses-says (s .2) in
+    let a = given-inv (dateAt l 5) _ (says d) _ refuses-says (m .1) in
+    let h = shape-there 11 11 true l tt (s .1) in
+    let n : length l ≡ 11 = omega arith in
+    let i : a .0 ≡ d = cc in
+    let p₃ = and-inv (eqb (getD l 1 0) 70 && eqb (getD l 2 0) 68 && eqb (getD l 3 0) 84) _ (m .0) in
+    let p₂ = and-inv (eqb (getD l 1 0) 70 && eqb (getD l 2 0) 68) _ (p₃ .0) in
+    let p₁ = and-inv (eqb (getD l 1 0) 70) _ (p₂ .0) in
+    let r : drop 5 l ≡ dateText d = date-trip .there l 5 11 d refl (a .1 ∙ ap some i) ∙ ap (λ x. dateText d ++ drop x l) (sym n) ∙ ap (λ x. dateText d ++ x) (drop-length l) ∙ append-nil (dateText d) in
+    record {
+      text = byte-there l 0 1 72 refl (omega arith) k
+          ∙ ap (λ x. 72 ∷ x) (byte-there l 1 2 70 refl (omega arith) (eqb-true _ _ (p₁ .0))
+          ∙ ap (λ x. 70 ∷ x) (byte-there l 2 3 68 refl (omega arith) (eqb-true _ _ (p₁ .1))
+          ∙ ap (λ x. 68 ∷ x) (byte-there l 3 4 84 refl (omega arith) (eqb-true _ _ (p₂ .1))
+          ∙ ap (λ x. 84 ∷ x) (byte-there l 4 5 69 refl (omega arith) (eqb-true _ _ (p₃ .1))
+          ∙ ap (λ x. 69 ∷ x) r))));
+      good = date-trip .limits l 5 d (a .1 ∙ ap some i);
+    }
+
+date-text : Date → List ℕ
+date-text d = code "H" ∷ code "F" ∷ code "D" ∷ code "T" ∷ code "E" ∷ dateText d
+
+date-shape : (d : Date) → isDate d ≡ true → Shaped 11 11 true (date-text d)
+unfolding date-text isValid
+date-shape d g =
+    let n = date-trip .long d in
+    record {
+      long = omega arith;
+      short = omega arith;
+      valid = (refl, (refl, (refl, (refl, (refl, each-map (dateText d) in-h (are-valid (dateText d) (date-trip .clean d g)))))));
+    }
+
+pub date-said : (l : List ℕ) (d : Date) → IsDateLine d l → dateLine l ≡ says d
+unfolding dateLine isDateMark date-text
+date-said l d w =
+    let s = shape-said 11 11 true (date-text d) (date-shape d (w .good)) in
+    let a = date-trip .here (date-text d) 5 d [] (w .good) (sym (append-nil (dateText d))) in
+    rw (w .text) (simp (s, a))
+
+-- ---- H
+
+pub h-there : (l : List ℕ) (u : Unit {0}) → getD l 0 0 ≡ code "H" → hLine l ≡ says u → IsHLine l
+unfolding hLine on
+h-there l u k e =
+    let s = then-inv (shaped 5 255 true l) u _ e in
+    let m = need-inv (isEither (getD l 1 0) (code "F") (code "O")) _ (says u) _ refuses-says (s .2) in
+    let n = need-inv (codesAt l 2 3) _ (says u) _ refuses-says (m .1) in
+    record { letter = k; shape = shape-there 5 255 true l tt (s .1); source = m .0; subject = n .0 }
+
+pub h-said : (l : List ℕ) → IsHLine l → hLine l ≡ says tt
+unfolding hLine on
+h-said l w = simp (shape-said 5 255 true l (w .shape), w .source, w .subject)
+
+-- ---- D
+
+pub d-there : (l : List ℕ) (u : Unit {0}) → getD l 0 0 ≡ code "D" → dLine l ≡ says u → IsDLine l
+unfolding dLine on
+d-there l u k e =
+    let s = then-inv (shaped 6 6 false l) u _ e in
+    let m = need-inv (isEither (getD l 1 0) (code "1") (code "2")) _ (says u) _ refuses-says (s .2) in
+    let n = need-inv (codesAt l 2 4) _ (says u) _ refuses-says (m .1) in
+    record { letter = k; shape = shape-there 6 6 false l tt (s .1); qualifier = m .0; station = n .0 }
+
+pub d-said : (l : List ℕ) → IsDLine l → dLine l ≡ says tt
+unfolding dLine on
+d-said l w = simp (shape-said 6 6 false l (w .shape), w .qualifier, w .station)
+
+-- ---- E
+
+-- a line that begins with a letter and a time
+time-text : (l : List ℕ) (x t : ℕ) → 0 < x → getD l 0 0 ≡ x → timeAt l 1 ≡ some t → l ≡ x ∷ (timeText t ++ drop 7 l)
+time-text l x t p k e = byte-there l 0 1 x refl p k ∙ ap (λ y. x ∷ y) (time-trip .there l 1 7 t refl e)
+
+text-time : (l : List ℕ) (x t : ℕ) (rest : List ℕ) → isTime t ≡ true → l ≡ x ∷ (timeText t ++ rest) → timeAt l 1 ≡ some t
+text-time l x t rest g e = time-trip .here l 1 t rest g (ap (drop 1) e)
+
+pub e-inv : (l : List ℕ) (t : ℕ) → eLine l ≡ says t → Shaped 10 255 false l × (timeAt l 1 ≡ some t) × (codesAt l 7 3 ≡ true)
+unfolding eLine
+e-inv l t e =
+    let s = then-inv (shaped 10 255 false l) t _ e in
+    let a = given-inv (timeAt l 1) _ (says t) _ refuses-says (s .2) in
+    let n = need-inv (codesAt l 7 3) _ (says t) _ refuses-says (a .2) in
+    let i : a .0 ≡ t = cc in
+    (shape-there 10 255 false l tt (s .1), a .1 ∙ ap some i, n .0)
+
+pub e-there : (l : List ℕ) (t : ℕ) → getD l 0 0 ≡ code "E" → eLine l ≡ says t → IsELine t l
+e-there l t k e =
+    let h = e-inv l t e in
+    record { rest = drop 7 l; text = time-text l 69 t (omega arith) k (h .1); good = time-trip .limits l 1 t (h .1); shape = h .0; event = h .2 }
+
+pub e-said : (l : List ℕ) (t : ℕ) → IsELine t l → (getD l 0 0 ≡ code "E") × (eLine l ≡ says t)
+unfolding eLine
+e-said l t w =
+    let h = text-time l 69 t (w .rest) (w .good) (w .text) in
+    (ap (λ x. getD x 0 0) (w .text), simp (shape-said 10 255 false l (w .shape), h, w .event))
+
+-- ---- F
+
+-- pairs of code characters, none odd, are code characters
+pairs-there : (l : List ℕ) (at : ℕ) → length l % 2 ≡ 0 → badPair at l ≡ none → Each (λ b. isCode b ≡ true) l
+unfolding badPair
+pairs-there [] at n e = tt
+pairs-there (a ∷ []) at n e = absurd (omega arith)
+pairs-there (a ∷ b ∷ l) at n e = go (isCode a) (isCode b) refl refl e (pairs-there l (at + 2) (omega arith))
+  where
+    go : (x y : Bool) → isCode a ≡ x → isCode b ≡ y → cond (x && y) (badPair (at + 2) l) (some at) ≡ none
+        → (badPair (at + 2) l ≡ none → Each (λ b. isCode b ≡ true) l) → Each (λ b. isCode b ≡ true) (a ∷ b ∷ l)
+    go true true p q e f = (p, (q, f e))
+    go true false p q e f = absurd (none-some (sym e))
+    go false y p q e f = absurd (none-some (sym e))
+
+pairs-here : (l : List ℕ) (at : ℕ) → Each (λ b. isCode b ≡ true) l → badPair at l ≡ none
+unfolding badPair
+pairs-here [] at h = refl
+pairs-here (a ∷ []) at h = refl
+pairs-here (a ∷ b ∷ l) at h = rw (h .0, h .1 .0) (pairs-here l (at + 2) (h .1 .1))
+
+pub f-inv : (l : List ℕ) (t : ℕ) → fLine l ≡ says t → Shaped 7 255 false l × (timeAt l 1 ≡ some t) × ((length l - 7) % 2 ≡ 0) × (badPair 7 (drop 7 l) ≡ none)
+unfolding fLine
+f-inv l t e =
+    let s = then-inv (shaped 7 255 false l) t _ e in
+    let a = given-inv (timeAt l 1) _ (says t) _ refuses-says (s .2) in
+    let n = need-inv (eqb ((length l - 7) % 2) 0) _ (says t) _ refuses-says (a .2) in
+    let p = given-none (badPair 7 (drop 7 l)) (says (a .0)) (says t) _ (λ v. refuses-says) (n .1) in
+    let i : a .0 ≡ t = cc in
+    (shape-there 7 255 false l tt (s .1), a .1 ∙ ap some i, eqb-true _ _ (n .0), p .0)
+
+pub f-there : (l : List ℕ) (t : ℕ) → getD l 0 0 ≡ code "F" → fLine l ≡ says t → IsFLine t l
+f-there l t k e =
+    let h = f-inv l t e in
+    let even : length (drop 7 l) % 2 ≡ 0 = ap (λ x. x % 2) (length-drop 7 l) ∙ h .2 in
+    record {
+      pairs = drop 7 l;
+      text = time-text l 70 t (omega arith) k (h .1);
+      good = time-trip .limits l 1 t (h .1);
+      shape = h .0;
+      even = even;
+      codes = pairs-there (drop 7 l) 7 even (h .3);
+    }
+
+pub f-said : (l : List ℕ) (t : ℕ) → IsFLine t l → (getD l 0 0 ≡ code "F") × (fLine l ≡ says t)
+unfolding fLine
+f-said l t w =
+    let h = text-time l 70 t (w .pairs) (w .good) (w .text) in
+    let d : drop 7 l ≡ w .pairs = past l 1 6 7 (timeText t) (w .pairs) (time-trip .long t) refl (ap (drop 1) (w .text)) in
+    let n : (length l - 7) % 2 ≡ 0 = ap (λ x. x % 2) (sym (length-drop 7 l) ∙ ap length d) ∙ w .even in
+    let p : badPair 7 (drop 7 l) ≡ none = ap (badPair 7) d ∙ pairs-here (w .pairs) 7 (w .codes) in
+    (ap (λ x. getD x 0 0) (w .text), simp (shape-said 7 255 false l (w .shape), h, eq-eqb _ _ n, p))
+
+-- ---- L, G and other
+
+pub l-there : (l : List ℕ) (u : Unit {0}) → getD l 0 0 ≡ code "L" → lLine l ≡ says u → IsLLine l
+l-there l u k e = record { letter = k; shape = shape-there 1 99 false l u e }
+
+pub l-said : (l : List ℕ) → IsLLine l → lLine l ≡ says tt
+l-said l w = shape-said 1 99 false l (w .shape)
+
+pub g-there : (l : List ℕ) (u : Unit {0}) → getD l 0 0 ≡ code "G" → gLine l ≡ says u → IsGLine l
+g-there l u k e = record { letter = k; shape = shape-there 2 255 false l u e }
+
+pub g-said : (l : List ℕ) → IsGLine l → gLine l ≡ says tt
+g-said l w = shape-said 2 255 false l (w .shape)
+
+pub other-there : (l : List ℕ) (u : Unit {0}) → code "M" ≤ getD l 0 0 → getD l 0 0 ≤ code "Z" → otherLine l ≡ says u → IsOtherLine l
+other-there l u p q e = record { from = p; to = q; shape = shape-there 1 255 false l u e }
+
+pub other-said : (l : List ℕ) → IsOtherLine l → otherLine l ≡ says tt
+other-said l w = shape-said 1 255 false l (w .shape)

@@ -1,0 +1,14 @@
+pub mod Laws
+pub mod Carried
+pub mod Valued
+pub mod Entries
+pub mod LayoutLines
+pub mod Leading
+pub mod Passing
+pub mod Sections
+pub mod Accepted
+pub mod Faulty
+pub mod Refusing
+pub mod Columns
+pub mod Reading
+pub mod Demands

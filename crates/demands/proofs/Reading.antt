@@ -1,0 +1,212 @@
+-- Of an accepted file each B line and each K line is read with no refusal by the layouts of the answer, column by column, and its declaration is a head with its
+-- points. Assumes nothing.
+use Prim.Native.Nat.{ℕ}
+use Prim.Native.Char.{code}
+use mathlib.Core.Bool.{false}
+use mathlib.Core.List.{List, [], _∷_, _++_, append-assoc, append-nil}
+use mathlib.Core.Path.{_≡_, refl, sym, _∙_, ap, subst}
+use native.Mathlib.Omega.{arith}
+use borrow.Author.Tests.{eq-eqb, ne-eqb}
+use lib.Dec.{eqb}
+use lib.ListN.{length, getD}
+use Rattle.rules.specs.Refusals.{says}
+use Rattle.rules.specs.Layouts.{lineLength}
+use Rattle.rules.specs.Lines.{shapedBy}
+use Rattle.rules.specs.Split.{end, linesOf}
+use Rattle.rules.specs.Reads.{lineSaid}
+use Rattle.rules.specs.Files.{verdict}
+use Rattle.rules.specs.declared.Date.{Date}
+use Rattle.rules.specs.declared.Layout.{Layout}
+use Rattle.rules.specs.declared.Family.{Family}
+use Rattle.rules.specs.declared.Family.the-variants as family
+use Rattle.rules.specs.declared.Fix.{Fix}
+use Rattle.rules.specs.declared.Flight.{Flight}
+use Rattle.laws.proofs.Splitting.{textsOf}
+use Rattle.trips.proofs.Fixes.{fix-there}
+use Rattle.trips.proofs.Notes.{note-there}
+use Rattle.demands.specs.Grammar.{Each, IsLayoutLine, IsBLine, IsKLine, AtMostOne, absent, given, Timed, Untimed, differential, remark, other, Items, done, timed, untimed, Body, undeclared, Parts, linesIn, Keeps, Meets, written, flightOf}
+use Rattle.demands.specs.Grammar as grammar
+use Rattle.demands.specs.Readings.{FixRead, NoteRead, LineReads, NoC, Declaration, nowhere, declared, Readable}
+use Rattle.demands.proofs.Laws.{each-map, each-join, shape-there}
+use Rattle.demands.proofs.Carried.{e-said, f-said}
+use Rattle.demands.proofs.Valued.{fix-reads, note-reads, head-reads, point-reads, b-said, k-said, head-said, point-said}
+use Rattle.demands.proofs.LayoutLines.{layout-said, layout-allowed}
+use Rattle.demands.proofs.Passing.{before, lines-written}
+use Rattle.demands.proofs.Accepted.{accepted-as}
+use Rattle.demands.proofs.Columns.{columns-read}
+
+-- ---- the lines of the file are those of the grammar
+
+texts-before : (ls : List (List ℕ)) → textsOf (before ls end) ≡ ls
+texts-before [] = refl
+texts-before (l ∷ ls) = ap (λ x. l ∷ x) (texts-before ls)
+
+pub lines-are : (file : List ℕ) (m : Meets file) → textsOf (linesOf file) ≡ linesIn (m .parts)
+unfolding linesOf
+lines-are file m =
+    let ls = linesIn (m .parts) in
+    ap textsOf (ap linesOf (m .bytes ∙ sym (append-nil (written ls))) ∙ lines-written ls [] (m .texts)) ∙ texts-before ls
+
+-- ---- a layout that an accepted file tells
+
+told : (f : Family) {layout : Layout} {ls : List (List ℕ)} → AtMostOne f layout ls → length (layout .entries) ≡ 13
+told f absent = refl
+told f (given {layout = i} {l = l} w) = layout-allowed f i l w .1
+
+-- ---- B and K lines
+
+module _ (layout : Layout) (slots : length (layout .entries) ≡ 13) (l : List ℕ) where
+  pub reads-fix : (f : Fix) → IsBLine layout f l → FixRead layout l
+  unfolding shapedBy lineSaid
+  reads-fix f w =
+      let e = fix-reads layout f l w in
+      let t = fix-there layout l f e in
+      let s = shape-there (lineLength 36 layout) (lineLength 36 layout) false l tt (t .shape) in
+      record {
+        fix = f;
+        reads = e;
+        columns = columns-read family.B layout l (omega arith) (t .layout-allowed) slots (omega (arith, s .long, s .short)) (rw (eq-eqb _ _ (t .kind), e));
+      }
+
+  pub reads-note : (t : ℕ) → IsKLine layout t l → NoteRead layout l
+  unfolding shapedBy lineSaid
+  reads-note n w =
+      let e = note-reads layout n l w in
+      let t = note-there layout l n e in
+      let s = shape-there (lineLength 8 layout) (lineLength 8 layout) false l tt (t .shape) in
+      let k : eqb (getD l 0 0) (code "B") ≡ false = ne-eqb (getD l 0 0) (code "B") (λ z. omega (arith, t .kind)) in
+      record {
+        time = n;
+        reads = e;
+        columns = columns-read family.K layout l (omega arith) (t .layout-allowed) slots (omega (arith, s .long, s .short)) (rw (k, e));
+      }
+
+-- ---- lines that are none of these
+
+-- no B, no K and no C line
+abbrev Aside : List ℕ → Type 0
+Aside l = (getD l 0 0 ≡ code "B" → ⊥) × (getD l 0 0 ≡ code "K" → ⊥) × (getD l 0 0 ≡ code "C" → ⊥)
+
+aside : (x : ℕ) (l : List ℕ) → getD l 0 0 ≡ x → (x ≡ 66 → ⊥) → (x ≡ 75 → ⊥) → (x ≡ 67 → ⊥) → Aside l
+aside x l e p q r = (λ z. p (sym e ∙ z), λ z. q (sym e ∙ z), λ z. r (sym e ∙ z))
+
+untimed-aside : {l : List ℕ} → Untimed l → Aside l
+untimed-aside {l} (differential w) = aside 68 l (w .letter) (omega arith) (omega arith) (omega arith)
+untimed-aside {l} (remark w) = aside 76 l (w .letter) (omega arith) (omega arith) (omega arith)
+untimed-aside {l} (other w) = (λ z. omega (arith, w .from), λ z. omega (arith, w .from), λ z. omega (arith, w .from))
+
+layout-aside : (f : Family) (layout : Layout) (l : List ℕ) → IsLayoutLine f layout l → Aside l
+layout-aside family.B layout l w = aside 73 l (layout-said family.B layout l w .0) (omega arith) (omega arith) (omega arith)
+layout-aside family.K layout l w = aside 74 l (layout-said family.K layout l w .0) (omega arith) (omega arith) (omega arith)
+
+one-aside : (f : Family) {layout : Layout} {ls : List (List ℕ)} → AtMostOne f layout ls → Each Aside ls
+one-aside f absent = tt
+one-aside f (given {layout = i} {l = l} w) = (layout-aside f i l w, tt)
+
+-- ---- the lines of a body
+
+aside-reads : (fixes notes : Layout) (l : List ℕ) → Aside l → LineReads fixes notes l
+aside-reads fixes notes l h = record { b = λ z. absurd (h .0 z); k = λ z. absurd (h .1 z) }
+
+module _ (fixes notes : Layout) (fix-slots : length (fixes .entries) ≡ 13) (note-slots : length (notes .entries) ≡ 13) where
+  -- each line is read as it may be, and is no C line
+  abbrev Item : List ℕ → Type 0
+  Item l = LineReads fixes notes l × NoC l
+
+  timed-item : {t : ℕ} (l : List ℕ) → Timed fixes notes t l → Item l
+  timed-item l (grammar.fix f i w) =
+      let k = b-said fixes f l w .0 in
+      (record { b = λ z. reads-fix fixes fix-slots l f w; k = λ z. absurd (omega arith) }, λ z. omega arith)
+  timed-item {t} l (grammar.event w) = let h = aside 69 l (e-said l t w .0) (omega arith) (omega arith) (omega arith) in (aside-reads fixes notes l h, h .2)
+  timed-item {t} l (grammar.satellites w) = let h = aside 70 l (f-said l t w .0) (omega arith) (omega arith) (omega arith) in (aside-reads fixes notes l h, h .2)
+  timed-item {t} l (grammar.note w) =
+      let k = k-said notes t l w .0 in
+      (record { b = λ z. absurd (omega arith); k = λ z. reads-note notes note-slots l t w }, λ z. omega arith)
+
+  items-read : {ls : List (List ℕ)} {ts : List ℕ} → Items fixes notes ls ts → Each Item ls
+  items-read done = tt
+  items-read (timed {l = l} w r) = (timed-item l w, items-read r)
+  items-read (untimed {l = l} w r) = let h = untimed-aside w in ((aside-reads fixes notes l h, h .2), items-read r)
+
+  -- C lines are neither
+  c-reads : (l : List ℕ) → getD l 0 0 ≡ code "C" → LineReads fixes notes l
+  c-reads l e = record { b = λ z. absurd (omega arith); k = λ z. absurd (omega arith) }
+
+  lines-of : (ls : List (List ℕ)) → Each Item ls → Each (LineReads fixes notes) ls
+  lines-of ls h = each-map ls (λ l x. x .0) h
+
+  body-reads : {ls : List (List ℕ)} {ts : List ℕ} → Body fixes notes ls ts → Each (LineReads fixes notes) ls
+  body-reads (undeclared {ls = ls} i) = lines-of ls (items-read i)
+  body-reads (grammar.declared pre hd points after h i no-b w ps c j) =
+      each-join (LineReads fixes notes) pre (hd ∷ (points ++ after)) (lines-of pre (items-read i)) (
+        c-reads hd (head-said h hd w .0),
+        each-join (LineReads fixes notes) points after (each-map points (λ l v. c-reads l (point-said l v .0)) ps) (lines-of after (items-read j)),
+      )
+
+  -- the declaration of a body, between lines that are no C lines
+  body-declares : {ls : List (List ℕ)} {ts : List ℕ} (a z : List (List ℕ)) → Each NoC a → Each NoC z → Body fixes notes ls ts → Declaration (a ++ (ls ++ z))
+  body-declares a z p q (undeclared {ls = ls} i) = nowhere (each-join NoC a (ls ++ z) p (each-join NoC ls z (each-map ls (λ l x. x .1) (items-read i)) q))
+  body-declares a z p q (grammar.declared pre hd points after h i no-b w ps c j) =
+      declared (a ++ pre) hd points (after ++ z) h
+      (simp append-assoc)
+      (each-join NoC a pre p (each-map pre (λ l x. x .1) (items-read i)))
+      (head-reads h hd w)
+      (each-map points (λ l v. (v .point, point-reads l v)) ps)
+      c
+      (each-join NoC after z (each-map after (λ l x. x .1) (items-read j)) q)
+
+-- ---- the lines before the body, and those behind it
+
+module _ {p : Parts} {date : Date} {fixes notes : Layout} {times : List ℕ} (w : Keeps p date fixes notes times) where
+  abbrev front : List (List ℕ)
+  front = p .recorder ∷ p .day ∷ (p .headers ++ (p .fixLayout ++ p .noteLayout))
+
+  abbrev back : List (List ℕ)
+  back = p .seal ++ p .remarks
+
+  in-three : linesIn p ≡ front ++ (p .body ++ back)
+  in-three = simp append-assoc
+
+  front-aside : Each Aside front
+  front-aside = (
+    aside 65 (p .recorder) (w .recorder .letter) (omega arith) (omega arith) (omega arith),
+    (
+      aside 72 (p .day) (ap (λ x. getD x 0 0) (w .day .text)) (omega arith) (omega arith) (omega arith),
+      each-join Aside (p .headers) (p .fixLayout ++ p .noteLayout)
+          (each-map (p .headers) (λ l h. aside 72 l (h .letter) (omega arith) (omega arith) (omega arith)) (w .headers))
+          (each-join Aside (p .fixLayout) (p .noteLayout) (one-aside family.B (w .fixLayout)) (one-aside family.K (w .noteLayout))),
+    ),
+  )
+
+  back-aside : Each Aside back
+  back-aside =
+      each-join Aside (p .seal) (p .remarks)
+      (each-map (p .seal) (λ l h. aside 71 l (h .letter) (omega arith) (omega arith) (omega arith)) (w .seal))
+      (each-map (p .remarks) (λ l h. aside 76 l (h .letter) (omega arith) (omega arith) (omega arith)) (w .remarks))
+
+  keeps-reads : Each (LineReads fixes notes) (linesIn p)
+  keeps-reads =
+      subst (Each (LineReads fixes notes)) (sym in-three)
+      (each-join (LineReads fixes notes) front (p .body ++ back) (each-map front (aside-reads fixes notes) front-aside)
+      (each-join (LineReads fixes notes) (p .body) back
+      (body-reads fixes notes (told family.B (w .fixLayout)) (told family.K (w .noteLayout)) (w .body))
+      (each-map back (aside-reads fixes notes) back-aside)))
+
+  keeps-declares : Declaration (linesIn p)
+  keeps-declares =
+      subst Declaration (sym in-three)
+      (body-declares fixes notes (told family.B (w .fixLayout)) (told family.K (w .noteLayout)) front back
+      (each-map front (λ l h. h .2) front-aside)
+      (each-map back (λ l h. h .2) back-aside)
+      (w .body))
+
+-- ---- the theorem
+
+meets-readable : (file : List ℕ) (m : Meets file) → Readable file (flightOf m)
+meets-readable file m =
+    let e = sym (lines-are file m) in
+    record { lines = subst (Each (LineReads (m .fixes) (m .notes))) e (keeps-reads (m .keeps)); declaration = subst Declaration e (keeps-declares (m .keeps)) }
+
+-- what can be read from an accepted file, by the layouts of the answer
+pub readable : (file : List ℕ) (room : ℕ) (f : Flight) → verdict file room ≡ says f → Readable file f
+readable file room f e = let w = accepted-as file room f .0 e in subst (Readable file) (w .2) (meets-readable file (w .0))

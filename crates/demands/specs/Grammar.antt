@@ -1,0 +1,276 @@
+-- Document 01's rules of a whole file as a grammar, apart from any check: what a line of each kind is, which kind may follow which, and the order of times.
+-- A line with a date, a time, a layout or a position is the text of such values within their limits.
+use Prim.Native.Nat.{ℕ, _+_, _-_, _%_, _≤_, _<_}
+use Prim.Native.Char.{code}
+use mathlib.Core.Bool.{Bool, true, false, cond}
+use mathlib.Core.List.{List, [], _∷_, _++_}
+use mathlib.Core.Logic.{_⊎_}
+use mathlib.Core.Path.{_≡_}
+use lib.Dec.{eqb}
+use lib.ListN.{length, getD, replicate}
+use Rattle.rules.specs.Choice.{byte}
+use Rattle.rules.specs.Chars.{isValid, isCode, codesAt}
+use Rattle.rules.specs.Fields.{timeText, dateText, isEither}
+use Rattle.rules.specs.Numbers.{digitsOf}
+use Rattle.rules.specs.Listed.{isCodeWord, widthFits}
+use Rattle.rules.specs.Layouts.{unused, emptyLayout, firstStart}
+use Rattle.rules.specs.Reads.{layoutLetter}
+use Rattle.rules.specs.Writes.{fixText, noteText, entryTexts, headText, pointText}
+use Rattle.rules.specs.declared.Date.{Date}
+use Rattle.rules.specs.declared.Entry.{Entry}
+use Rattle.rules.specs.declared.Layout.{Layout}
+use Rattle.rules.specs.declared.Family.{Family}
+use Rattle.rules.specs.declared.Family.the-variants as family
+use Rattle.rules.specs.declared.Fix.{Fix}
+use Rattle.rules.specs.declared.Head.{Head}
+use Rattle.rules.specs.declared.Point.{Point}
+use Rattle.rules.specs.declared.Flight.{Flight}
+use Rattle.trips.specs.Limits.{isTime, isDate, goodFix, goodNote, goodHead, goodPoint}
+
+-- every element keeps to P
+abbrev pub Each : {A : Type 0} → (A → Type 0) → List A → Type 0
+Each P [] = Unit {0}
+Each P (a ∷ l) = P a × Each P l
+
+-- ---- 'Lines' and 'Fields': a line of each kind, without its CR LF
+
+-- "Lengths below leave CR LF out"; "Valid characters"; in an H line the comma is one
+pub record Shaped (least most : ℕ) (inH : Bool) (l : List ℕ) : Type 0 where
+  pub long : least ≤ length l
+  pub short : length l ≤ most
+  pub valid : Each (λ b. isValid inH b ≡ true) l
+
+-- "A 7 to 255"; "A: 3 code characters for the maker, 3 for the serial, then text."
+pub record IsALine (l : List ℕ) : Type 0 where
+  pub letter : getD l 0 0 ≡ code "A"
+  pub shape : Shaped 7 255 false l
+  pub maker : codesAt l (byte 2) 3 ≡ true
+  pub serial : codesAt l (byte 5) 3 ≡ true
+
+-- "second line exactly 11"; "Line 2: H, FDTE at 2 to 5 as one field, DDMMYY at 6 to 11"
+pub record IsDateLine (d : Date) (l : List ℕ) : Type 0 where
+  pub text : l ≡ code "H" ∷ code "F" ∷ code "D" ∷ code "T" ∷ code "E" ∷ dateText d
+  pub good : isDate d ≡ true
+
+-- "other H 5 to 255"; "Other H: F or O, 3 code characters, text."
+pub record IsHLine (l : List ℕ) : Type 0 where
+  pub letter : getD l 0 0 ≡ code "H"
+  pub shape : Shaped 5 255 true l
+  pub source : isEither (getD l (byte 2) 0) (code "F") (code "O") ≡ true
+  pub subject : codesAt l (byte 3) 3 ≡ true
+
+-- "start SS, finish FF and a code CCC of 3 code characters"; "FF is not below SS"; a listed code has a width of its table
+pub record IsEntry (start : ℕ) (e : Entry) : Type 0 where
+  pub starts : e .first ≡ start
+  pub ends : e .first ≤ e .last
+  pub spelt : e .last ≤ 99
+  pub word : isCodeWord (e .code) ≡ true
+  pub wide : widthFits (e .code) (e .last - e .first + 1) ≡ true
+
+-- "each next starts one past the last finish (h)"; "No code comes twice in one layout."
+abbrev pub Tiles : ℕ → List Entry → Type 0
+Tiles start [] = Unit {0}
+Tiles start (e ∷ es) = IsEntry start e × Each (λ x. x .code ≡ e .code → ⊥) es × Tiles (e .last + 1) es
+
+-- the layout of these entries: they stand in the first of 13 slots, and the others are all zero
+abbrev pub laid : List Entry → Layout
+laid es = record { count = length es; entries = es ++ replicate (13 - length es) unused }
+
+-- "I, J 3 to 99"; "NN, then NN entries"; "The first entry starts at 36 (I) or 8 (J)"
+pub record IsLayoutLine (f : Family) (layout : Layout) (l : List ℕ) : Type 0 where
+  pub entries : List Entry
+  pub tiles : Tiles (firstStart f) entries
+  pub text : l ≡ layoutLetter f ∷ (digitsOf 2 (length entries) ++ entryTexts entries)
+  pub short : length l ≤ 99
+  pub slots : layout ≡ laid entries
+
+-- "C head 25 to 255"; "C head: declared date, time, flight date .., 4-digit task number, 2-digit number of turn points, text."
+pub record IsHeadLine (h : Head) (l : List ℕ) : Type 0 where
+  pub rest : List ℕ
+  pub text : l ≡ headText h rest
+  pub good : goodHead h rest ≡ true
+
+-- "C point 18 to 255"; "C point: latitude, longitude, text."
+pub record IsPointLine (l : List ℕ) : Type 0 where
+  pub point : Point
+  pub rest : List ℕ
+  pub text : l ≡ pointText point rest
+  pub good : goodPoint point rest ≡ true
+
+-- "D 6"; "D: 1 or 2, then 4 code characters."
+pub record IsDLine (l : List ℕ) : Type 0 where
+  pub letter : getD l 0 0 ≡ code "D"
+  pub shape : Shaped 6 6 false l
+  pub qualifier : isEither (getD l (byte 2) 0) (code "1") (code "2") ≡ true
+  pub station : codesAt l (byte 3) 4 ≡ true
+
+-- "E 10 to 255"; "E: time, 3 code characters, text."
+pub record IsELine (t : ℕ) (l : List ℕ) : Type 0 where
+  pub rest : List ℕ
+  pub text : l ≡ code "E" ∷ (timeText t ++ rest)
+  pub good : isTime t ≡ true
+  pub shape : Shaped 10 255 false l
+  pub event : codesAt l (byte 8) 3 ≡ true
+
+-- "F 7 to 255"; "F: time, then pairs of code characters, perhaps none."
+pub record IsFLine (t : ℕ) (l : List ℕ) : Type 0 where
+  pub pairs : List ℕ
+  pub text : l ≡ code "F" ∷ (timeText t ++ pairs)
+  pub good : isTime t ≡ true
+  pub shape : Shaped 7 255 false l
+  pub even : length pairs % 2 ≡ 0
+  pub codes : Each (λ b. isCode b ≡ true) pairs
+
+-- "B .. exactly what [its] layout gives"; "B: time 2 to 7; latitude ..; longitude ..; A or V, 25; pressure altitude ..; GNSS altitude ..; columns from 36."
+pub record IsBLine (fixes : Layout) (f : Fix) (l : List ℕ) : Type 0 where
+  pub tail : List ℕ
+  pub text : l ≡ fixText f tail
+  pub good : goodFix f tail fixes ≡ true
+
+-- "K .. exactly what [its] layout gives"; "K: time 2 to 7, columns from 8."
+pub record IsKLine (notes : Layout) (t : ℕ) (l : List ℕ) : Type 0 where
+  pub tail : List ℕ
+  pub text : l ≡ noteText t tail
+  pub good : goodNote t tail notes ≡ true
+
+-- "L 1 to 99"
+pub record IsLLine (l : List ℕ) : Type 0 where
+  pub letter : getD l 0 0 ≡ code "L"
+  pub shape : Shaped 1 99 false l
+
+-- "G 2 to 255"
+pub record IsGLine (l : List ℕ) : Type 0 where
+  pub letter : getD l 0 0 ≡ code "G"
+  pub shape : Shaped 2 255 false l
+
+-- "other 1 to 255"; "M to Z are 'other' and carried (h)."
+pub record IsOtherLine (l : List ℕ) : Type 0 where
+  pub from : code "M" ≤ getD l 0 0
+  pub to : getD l 0 0 ≤ code "Z"
+  pub shape : Shaped 1 255 false l
+
+-- ---- "B, E, F and K lines run in time order."
+
+-- "A fall of more than 43,200 seconds from the one before counts as the next day; a smaller fall, or one of exactly 43,200, is refused (h). Equal times are fine."
+abbrev pub Follows : ℕ → ℕ → Type 0
+Follows before now = (before ≤ now) ⊎ (43200 < before - now)
+
+-- each time follows the one before it, the first follows `before`
+abbrev pub OrderFrom : ℕ → List ℕ → Type 0
+OrderFrom before [] = Unit {0}
+OrderFrom before (t ∷ ts) = Follows before t × OrderFrom t ts
+
+-- each time follows the one before it
+abbrev pub InOrder : List ℕ → Type 0
+InOrder [] = Unit {0}
+InOrder (t ∷ ts) = OrderFrom t ts
+
+-- ---- 'Which kind may follow which'
+
+-- "at most one I", "at most one J": the layout of its lines; "with NN 00, or no such line", the empty one
+pub data AtMostOne (f : Family) : Layout → List (List ℕ) → Type 0 where
+  absent : AtMostOne f emptyLayout []
+  given : {layout : Layout} {l : List ℕ} → IsLayoutLine f layout l → AtMostOne f layout (l ∷ [])
+
+-- a line of the body with a time t
+pub data Timed (fixes notes : Layout) (t : ℕ) (l : List ℕ) : Type 0 where
+  fix : (f : Fix) → f .time ≡ t → IsBLine fixes f l → Timed fixes notes t l
+  event : IsELine t l → Timed fixes notes t l
+  satellites : IsFLine t l → Timed fixes notes t l
+  note : IsKLine notes t l → Timed fixes notes t l
+
+-- a line of the body with no time
+pub data Untimed (l : List ℕ) : Type 0 where
+  differential : IsDLine l → Untimed l
+  remark : IsLLine l → Untimed l
+  other : IsOtherLine l → Untimed l
+
+-- "D, E, F, B, K, L and other" in any order, and their times in the order of the lines
+pub data Items (fixes notes : Layout) : List (List ℕ) → List ℕ → Type 0 where
+  done : Items fixes notes [] []
+  timed : {l : List ℕ} {ls : List (List ℕ)} {t : ℕ} {ts : List ℕ} → Timed fixes notes t l → Items fixes notes ls ts → Items fixes notes (l ∷ ls) (t ∷ ts)
+  untimed : {l : List ℕ} {ls : List (List ℕ)} {ts : List ℕ} → Untimed l → Items fixes notes ls ts → Items fixes notes (l ∷ ls) ts
+
+-- "At most one declaration (h), begun before the first B: a C head, then at once its point lines, as many as its turn points plus 4"
+pub data Body (fixes notes : Layout) : List (List ℕ) → List ℕ → Type 0 where
+  undeclared : {ls : List (List ℕ)} {ts : List ℕ} → Items fixes notes ls ts → Body fixes notes ls ts
+  declared : {ts us : List ℕ} (before : List (List ℕ)) (head : List ℕ) (points after : List (List ℕ)) (h : Head)
+      → Items fixes notes before ts
+      → Each (λ l. getD l 0 0 ≡ code "B" → ⊥) before
+      → IsHeadLine h head
+      → Each IsPointLine points
+      → length points ≡ h .turns + 4
+      → Items fixes notes after us
+      → Body fixes notes (before ++ (head ∷ (points ++ after))) (ts ++ us)
+
+-- the lines of a file, part by part
+pub record Parts : Type 0 where
+  pub recorder : List ℕ
+  pub day : List ℕ
+  pub headers : List (List ℕ)
+  pub fixLayout : List (List ℕ)
+  pub noteLayout : List (List ℕ)
+  pub body : List (List ℕ)
+  pub seal : List (List ℕ)
+  pub remarks : List (List ℕ)
+
+abbrev pub linesIn : Parts → List (List ℕ)
+linesIn p = p .recorder ∷ p .day ∷ (p .headers ++ (p .fixLayout ++ (p .noteLayout ++ (p .body ++ (p .seal ++ p .remarks)))))
+
+-- "Line 1 is A, line 2 is H, then further H lines, then at most one I, then at most one J. After these come C, D, E, F, B, K, L and other, with no further A, H,
+-- I, J." "Then one or more G lines. After the first G only G or L; after an L that follows a G, only L." "At least one G is needed (h)."
+pub record Keeps (p : Parts) (date : Date) (fixes notes : Layout) (times : List ℕ) : Type 0 where
+  pub recorder : IsALine (p .recorder)
+  pub day : IsDateLine date (p .day)
+  pub headers : Each IsHLine (p .headers)
+  pub fixLayout : AtMostOne family.B fixes (p .fixLayout)
+  pub noteLayout : AtMostOne family.K notes (p .noteLayout)
+  pub body : Body fixes notes (p .body) times
+  pub order : InOrder times
+  pub seal : Each IsGLine (p .seal)
+  pub sealed : 1 ≤ length (p .seal)
+  pub remarks : Each IsLLine (p .remarks)
+
+-- ---- the file
+
+-- neither CR (13) nor LF (10)
+abbrev pub IsText : List ℕ → Type 0
+IsText l = Each (λ b. (b ≡ 13 → ⊥) × (b ≡ 10 → ⊥)) l
+
+-- "Every line, the last one too, ends with CR LF."
+unfoldable pub written : List (List ℕ) → List ℕ
+written [] = []
+written (l ∷ ls) = l ++ (13 ∷ 10 ∷ written ls)
+
+pub record Meets (file : List ℕ) : Type 0 where
+  -- "A file has 1 to 16,777,216 bytes (h)."
+  pub least : 1 ≤ length file
+  pub most : length file ≤ 16777216
+  -- it is its lines, each a text with its CR LF
+  pub parts : Parts
+  pub bytes : file ≡ written (linesIn parts)
+  pub texts : Each IsText (linesIn parts)
+  -- and they keep to the rules, with this date, these layouts and these times
+  pub date : Date
+  pub fixes : Layout
+  pub notes : Layout
+  pub times : List ℕ
+  pub keeps : Keeps parts date fixes notes times
+
+-- ---- what the file says
+
+-- how many lines begin with a letter
+unfoldable pub beginning : ℕ → List (List ℕ) → ℕ
+beginning x [] = 0
+beginning x (l ∷ ls) = cond (eqb (getD l 0 0) x) 1 0 + beginning x ls
+
+-- "the date, the I and J layouts, the count of lines, of B lines and of K lines"
+abbrev pub flightOf : {file : List ℕ} → Meets file → Flight
+flightOf m = record {
+  date = m .date;
+  fixes = m .fixes;
+  notes = m .notes;
+  lines = length (linesIn (m .parts));
+  bs = beginning (code "B") (linesIn (m .parts));
+  ks = beginning (code "K") (linesIn (m .parts));
+}

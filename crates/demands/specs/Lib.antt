@@ -1,0 +1,5 @@
+pub mod Grammar
+pub mod Checks
+pub mod Faults
+pub mod Readings
+pub mod BothWays

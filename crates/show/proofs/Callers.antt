@@ -1,0 +1,54 @@
+-- What a caller asks of a line that was put into its buffer; and that the column lines are those of the rules for every entry that a layout line can spell. Assumes nothing.
+use Prim.Native.Nat.{ℕ, _/_, _%_, _≤_}
+use mathlib.Core.Bool.{Bool, true, false, _&&_, _||_}
+use mathlib.Core.List.{List}
+use mathlib.Core.Path.{_≡_, refl, sym, ap}
+use native.Mathlib.Omega.{arith}
+use borrow.Author.Tests.{le-leb, leb-true}
+use lib.Dec.{leb}
+use lib.ListN.{length, take, drop, length-append}
+use lib.Seq.{take-at}
+use Rattle.rules.specs.Chars.{isDigit, isCode}
+use Rattle.rules.specs.Listed.{isCodeWord}
+use Rattle.rules.specs.Layouts.{isSpelt}
+use Rattle.rules.specs.Listing.{columnShown}
+use Rattle.rules.specs.declared.Entry.{Entry}
+use Rattle.show.specs.Lines.{Shown, columnLine}
+
+-- ---- `&out[..r]` is the line
+
+module _ {text out after : List ℕ} {r : ℕ} (s : Shown text out r after) where
+  pub shown-text : take r after ≡ text
+  shown-text = rw (s .bytes) (take-at text (drop (length text) out) r (sym (s .count)))
+
+  pub shown-counts : r ≡ length (take r after)
+  shown-counts = rw shown-text (s .count)
+
+  pub shown-fits : r ≤ length after
+  shown-fits = omega (arith, s .count, length-append text (drop (length text) out), ap length (s .bytes))
+
+-- ---- the entries of a layout that was read are shown
+
+and-left : (a b : Bool) → (a && b) ≡ true → a ≡ true
+and-left true b e = refl
+and-left false b e = e
+
+and-right : (a b : Bool) → (a && b) ≡ true → b ≡ true
+and-right true b e = e
+and-right false b e = cc
+
+code-high : (b : ℕ) → isCode b ≡ true → b ≤ 90
+unfolding isCode isDigit
+code-high b e = by (leb 48 b && leb b 57) (λ d. omega (arith, leb-true b 57 (and-right (leb 48 b) (leb b 57) d))) e
+  where
+    by : (d : Bool) → (d ≡ true → b ≤ 90) → (d || (leb 65 b && leb b 90)) ≡ true → b ≤ 90
+    by true low h = low refl
+    by false low h = leb-true b 90 (and-right (leb 65 b) (leb b 90) h)
+
+pub column-spelt : (l : List ℕ) (e : Entry) → isSpelt e ≡ true → columnLine l e ≡ columnShown l e
+unfolding columnLine isSpelt isCodeWord
+column-spelt l e h =
+    let x = e .code in
+    let word = and-right (leb (e .last) 99) (isCode (x / 65536) && isCode (x / 256 % 256) && isCode (x % 256)) h in
+    let top = and-left (isCode (x / 65536)) (isCode (x / 256 % 256)) (and-left (isCode (x / 65536) && isCode (x / 256 % 256)) (isCode (x % 256)) word) in
+    rw (le-leb x 0xFFFFFF (omega (arith, code-high (x / 65536) top)))

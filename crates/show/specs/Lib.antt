@@ -1,0 +1,2 @@
+-- The promises of the lines that the listing prints.
+pub mod Lines

@@ -1,0 +1,63 @@
+-- The promises of the lines that the listing prints, each put into a lent buffer; and what the pieces of a line put there, one after the other.
+use Prim.Native.Nat.{ℕ, _+_, _≤_}
+use mathlib.Core.List.{List, [], _++_}
+use mathlib.Core.Path.{_≡_}
+use lib.Dec.{leb}
+use lib.ListN.{length, drop}
+use lib.Seq.{sets}
+use Rattle.rules.specs.Choice.{need, bytes}
+use Rattle.rules.specs.Refusals.{number}
+use Rattle.rules.specs.Layouts.{lineLength}
+use Rattle.rules.specs.Listing.{shown, shownLetter, shownMetres, lf, refusedText, okText, fixShown, columnShown}
+use Rattle.rules.specs.declared.Reason.{Reason}
+use Rattle.rules.specs.declared.Refusal.{Refusal}
+use Rattle.rules.specs.declared.Entry.{Entry}
+use Rattle.rules.specs.declared.Layout.{Layout}
+use Rattle.rules.specs.declared.Position.{Position}
+use Rattle.rules.specs.declared.Fix.{Fix}
+use Rattle.rules.specs.declared.Flight.{Flight}
+
+abbrev pub NumberOf : Reason → ℕ → Type 0
+NumberOf reason r = r ≡ number reason
+
+-- the buffer afterwards begins with the whole text and is behind it as it was; the answer is how many bytes the text has
+pub record Shown (text out : List ℕ) (r : ℕ) (after : List ℕ) : Type 0 where
+  pub bytes : after ≡ text ++ drop (length text) out
+  pub count : r ≡ length text
+
+abbrev pub RefusalShown : Refusal → List ℕ → ℕ → List ℕ → Type 0
+RefusalShown w out r after = Shown (refusedText (number (w .reason)) (w .line) (w .byte)) out r after
+
+abbrev pub FlightShown : Flight → List ℕ → ℕ → List ℕ → Type 0
+FlightShown f out r after = Shown (okText f) out r after
+
+abbrev pub FixShown : ℕ → Fix → List ℕ → ℕ → List ℕ → Type 0
+FixShown n f out r after = Shown (fixShown n f) out r after
+
+-- An entry whose code is no three bytes, which no layout has that was read, shows nothing.
+unfoldable pub columnLine : List ℕ → Entry → List ℕ
+columnLine l e = need (leb (e .code) 0xFFFFFF) [] λ _. columnShown l e
+
+abbrev pub ColumnShown : List ℕ → Entry → List ℕ → ℕ → List ℕ → Type 0
+ColumnShown l e out r after = Shown (columnLine l e) out r after
+
+-- a piece of a line: the text stands in the buffer from a place on, where it has room, and the answer is the place behind it
+pub record Fills (out : List ℕ) (at : ℕ) (text : List ℕ) (r : ℕ) (after : List ℕ) : Type 0 where
+  pub is : at + length text ≤ length out → (after ≡ sets out at text) × (r ≡ at + length text)
+
+-- ---- the parts that the longer lines are put together from
+
+-- an OK line from the lengths on
+unfoldable pub lengthsShown : Layout → Layout → List ℕ
+lengthsShown fixes notes = shown (lineLength 36 fixes) ++ (shown (lineLength 8 notes) ++ lf)
+
+unfoldable pub positionShown : Position → List ℕ
+positionShown p = shown (p .count) ++ shownLetter (p .letter)
+
+-- a FIX line up to its position, and from its validity on
+unfoldable pub fixPlaces : ℕ → Fix → List ℕ
+unfolding bytes
+fixPlaces n f = bytes "FIX" ++ (shown n ++ (shown (f .time) ++ (positionShown (f .lat) ++ positionShown (f .lon))))
+
+unfoldable pub fixHeights : Fix → List ℕ
+fixHeights f = shownLetter (f .validity) ++ (shownMetres (f .pressure .metres) ++ (shownMetres (f .gnss .metres) ++ lf))

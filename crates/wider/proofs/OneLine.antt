@@ -1,0 +1,202 @@
+-- One B line or K line with added columns, over the first start: it says what the line said before, and so do its old columns. Assumes nothing.
+use Prim.Native.Nat.{ℕ, suc, _+_, _-_, _≤_}
+use Prim.Native.Char.{code}
+use mathlib.Core.Bool.{Bool, true, false, not}
+use mathlib.Core.List.{List, [], _++_, append-assoc, append-nil}
+use mathlib.Core.Option.{Option, none, some}
+use mathlib.Core.Path.{_≡_, refl, sym, ap, _∙_}
+use native.Mathlib.Omega.{arith}
+use borrow.Author.Tests.{eq-eqb, eqb-true, not-false}
+use lib.Dec.{eqb}
+use lib.ListN.{length, take, drop, length-append, take-append-drop}
+use lib.Seq.{take-at}
+use Rattle.rules.specs.Choice.{given, need, byte}
+use Rattle.rules.specs.Refusals.{Said, says, no}
+use Rattle.rules.specs.Chars.{characters, firstInvalid}
+use Rattle.rules.specs.Listed.{packedOf, keepsRule}
+use Rattle.rules.specs.Layouts.{Span, entriesOf, spanOf, look, carries, allowed, lineLength, columnText, badColumn, columns}
+use Rattle.rules.specs.Lines.{shapedBy}
+use Rattle.rules.specs.Reads.{fixSaid, noteSaid, lineSaid, columnSaid, numberSaid}
+use Rattle.rules.specs.Writes.{fixText, noteText}
+use Rattle.rules.specs.declared.Reason.the-variants.{Column}
+use Rattle.rules.specs.declared.Entry.{Entry}
+use Rattle.rules.specs.declared.Layout.{Layout}
+use Rattle.rules.specs.declared.Fix.{Fix}
+use Rattle.trips.specs.Limits.{isClean, isTime, goodTail, goodNote, goodFixFields, goodFix}
+use Rattle.trips.proofs.Laws.{none-some, refuses-says, false-true, given-inv, need-inv, and-inv}
+use Rattle.trips.proofs.Texts.{areValid, both-valid, valid-join, clean-valid, nothing-there, shaped-there, shaped-here}
+use Rattle.trips.proofs.Tails.{tail-there}
+use Rattle.trips.proofs.LineTrip.{LineTrip, line-limits}
+use Rattle.trips.proofs.Times.{time-trip}
+use Rattle.trips.proofs.Positions.{latitude-trip, longitude-trip}
+use Rattle.trips.proofs.Altitudes.{altitude-trip}
+use Rattle.trips.proofs.Notes.{note-there, note-trip}
+use Rattle.trips.proofs.Fixes.{fix-there, fix-trip}
+use Rattle.wider.specs.Wider.{Each, textIn, Meets, WiderLine}
+use Rattle.wider.specs.Before.{textSaid, AsBefore}
+use Rattle.wider.proofs.Lists.{each-map, each-both, nothing-found, none-passes, found-one}
+use Rattle.wider.proofs.Placed.{Sound, own, columns-valid}
+
+-- ---- parts of a valid text
+
+valid-take : (n : ℕ) (l : List ℕ) → areValid l ≡ true → areValid (take n l) ≡ true
+valid-take n l h = and-inv (areValid (take n l)) (areValid (drop n l)) (sym (valid-join (take n l) (drop n l)) ∙ rw take-append-drop h) .0
+
+valid-drop : (n : ℕ) (l : List ℕ) → areValid l ≡ true → areValid (drop n l) ≡ true
+valid-drop n l h = and-inv (areValid (take n l)) (areValid (drop n l)) (sym (valid-join (take n l) (drop n l)) ∙ rw take-append-drop h) .1
+
+valid-there : (t : List ℕ) → characters false t ≡ says tt → areValid t ≡ true
+unfolding characters isClean
+valid-there t h = sym (clean-valid t) ∙ nothing-there (firstInvalid false t) _ (λ i. i + 1) tt h
+
+-- ---- a line's checks by its layout
+
+pub record Checked (start : ℕ) (layout : Layout) (l : List ℕ) : Type 0 where
+  pub right : allowed start layout ≡ true
+  pub shape : shapedBy start layout l ≡ says tt
+  pub ruled : columns l layout ≡ says tt
+
+-- a column that passed
+old-meets : (start : ℕ) (layout : Layout) (l : List ℕ) (x : ℕ) (s : Span) → Checked start layout l → look layout x ≡ some s
+    → (areValid (columnText l s) ≡ true) × (keepsRule x (columnText l s) ≡ true)
+unfolding shapedBy columns badColumn look
+old-meets start layout l x s c e =
+    let v = shaped-there (lineLength start layout) (lineLength start layout) l tt (c .shape) .2 in
+    let n = go _ (c .ruled) in
+    let p = none-passes (λ (d : Entry). not (keepsRule (d .code) (columnText l (spanOf d)))) (λ (k : ℕ) (d : Entry). d .first) (entriesOf layout) 0 n in
+    let f = found-one (λ (d : Entry). eqb (d .code) x) (λ (k : ℕ) (d : Entry). spanOf d) _ (entriesOf layout) 0 s p e in
+    let i : f .0 .code ≡ x = eqb-true _ _ (f .3) in
+    let r : keepsRule (f .0 .code) (columnText l (spanOf (f .0))) ≡ true = not-false _ (f .2) in
+    (valid-take (s .last - byte (s .first)) (drop (byte (s .first)) l) (valid-drop (byte (s .first)) l v), rw (i, f .4) at r)
+  where
+    go : (o : Option ℕ) → given o (says tt) (λ first. no Column first) ≡ says (tt {0}) → o ≡ none
+    go none h = refl
+    go (some i) h = absurd (refuses-says h)
+
+-- ---- a line with added columns
+
+module _ (start : ℕ) (old new : Layout) (l l′ : List ℕ) (w : WiderLine start old new l l′) where
+  -- an old column is in the new layout, and has its old text
+  kept-text : (x : ℕ) (s : Span) → look old x ≡ some s → (s′ : Span) × (look new x ≡ some s′) × (columnText l′ s′ ≡ columnText l s)
+  unfolding look textIn
+  kept-text x s e =
+      let f = found-one (λ (d : Entry). eqb (d .code) x) (λ (k : ℕ) (d : Entry). spanOf d) _ (entriesOf old) 0 s (w .kept) e in
+      let i : f .0 .code ≡ x = eqb-true _ _ (f .3) in
+      let t : textIn new l′ x ≡ textIn old l x = rw i at (f .2) in
+      let g = given-inv (look new x) none (some (columnText l s)) _ none-some (t ∙ rw e) in
+      (g .0, g .1, cc)
+
+  module _ (o : 1 ≤ start) (sound : Sound start new) (c : Checked start old l) where
+    -- every column of the new layout meets the rules
+    new-meets : Each (λ (e : Entry). (areValid (columnText l′ (spanOf e)) ≡ true) × (keepsRule (e .code) (columnText l′ (spanOf e)) ≡ true)) (entriesOf new)
+    unfolding carries
+    new-meets = each-both _ _ _ (λ e look-e added-e. go e look-e added-e (look old (e .code)) refl) (entriesOf new) (own start new sound) (w .added)
+      where
+        go : (e : Entry) → look new (e .code) ≡ some (spanOf e) → (carries old (e .code) ≡ false → Meets (e .code) (columnText l′ (spanOf e)))
+            → (f : Option Span) → look old (e .code) ≡ f → (areValid (columnText l′ (spanOf e)) ≡ true) × (keepsRule (e .code) (columnText l′ (spanOf e)) ≡ true)
+        go e a b none h = let m = b (rw h) in (valid-there _ (m .valid), m .rule)
+        go e a b (some s) h =
+            let k = kept-text (e .code) s h in
+            let i : spanOf e ≡ k .0 = cc in
+            rw (i, k .2) (old-meets start old l (e .code) s c h)
+
+    new-checked : Checked start new l′
+    unfolding shapedBy columns badColumn
+    new-checked =
+        let n = lineLength start new in
+        let front : areValid (take (byte start) l′) ≡ true =
+        rw (w .fields) (valid-take (byte start) l (shaped-there (lineLength start old) (lineLength start old) l tt (c .shape) .2)) in
+        let tail = columns-valid start new l′ o sound (w .long) (each-map _ _ (λ e m. m .0) (entriesOf new) new-meets) in
+        let v : areValid l′ ≡ true = rw take-append-drop at (both-valid (take (byte start) l′) (drop (byte start) l′) front tail) in
+        let kept : Each (λ (e : Entry). not (keepsRule (e .code) (columnText l′ (spanOf e))) ≡ false) (entriesOf new) =
+        each-map _ _ (λ e m. ap not (m .1)) (entriesOf new) new-meets in
+        record {
+          right = sound .right;
+          shape = shaped-here n n l′ (omega (arith, w .long)) (omega (arith, w .long)) v;
+          ruled = rw (nothing-found _ (λ (k : ℕ) (e : Entry). e .first) (entriesOf new) 0 kept);
+        }
+
+-- ---- the readings of a line
+
+-- A reading of lines by their layouts: what it says depends on the fields before the columns alone, once the line passes its checks.
+pub record Reading {A : Type 0} (start : ℕ) (said : List ℕ → Layout → Said A) : Type 0 where
+  pub first : 1 ≤ start
+  pub passed : (l : List ℕ) (layout : Layout) (v : A) → said l layout ≡ says v → Checked start layout l
+  pub fields : (l l′ : List ℕ) (old new : Layout) (v : A) → said l old ≡ says v → take (byte start) l′ ≡ take (byte start) l → Checked start new l′ → said l′ new ≡ says v
+  pub any : (l : List ℕ) (layout : Layout) (v : A) → said l layout ≡ says v → lineSaid l layout ≡ says tt
+
+module _ {A : Type 0} (start : ℕ) (said : List ℕ → Layout → Said A) (reading : Reading start said) (old new : Layout) (l l′ : List ℕ) (v : A)
+    (sound : Sound start new) (w : WiderLine start old new l l′) (e : said l old ≡ says v) where
+  pub says-same : said l′ new ≡ says v
+  says-same = reading .fields l l′ old new v e (w .fields) (new-checked start old new l l′ w (reading .first) sound (reading .passed l old v e))
+
+  column-there : (name : List ℕ) → carries old (packedOf name) ≡ true
+      → (s s′ : Span) × (columnSaid l old name ≡ says s) × (columnSaid l′ new name ≡ says s′) × (columnText l′ s′ ≡ columnText l s)
+  unfolding carries columnSaid
+  column-there name h = go (look old (packedOf name)) refl h
+    where
+      go : (o : Option Span) → look old (packedOf name) ≡ o → given o false (λ s. true) ≡ true
+          → (s s′ : Span) × (columnSaid l old name ≡ says s) × (columnSaid l′ new name ≡ says s′) × (columnText l′ s′ ≡ columnText l s)
+      go none p q = absurd (false-true q)
+      go (some s) p q =
+          let k = kept-text start old new l l′ w (packedOf name) s p in
+          (s, k .0, rw (reading .any l old v e, p), rw (reading .any l′ new v says-same, k .1), k .2)
+
+  pub as-before : AsBefore said old new l l′
+  unfolding textSaid numberSaid
+  as-before = record {
+    value = v;
+    before = e;
+    after = says-same;
+    text = λ name h. let k = column-there name h in (columnText l (k .0), rw (k .2), rw (k .3, k .4));
+    number = λ name h. let k = column-there name h in rw (k .2, k .3, k .4);
+  }
+
+-- ---- B lines and K lines
+
+module _ {A : Type 0} (start : ℕ) (said : List ℕ → Layout → Said A) (text : A → List ℕ → List ℕ) (good : A → Bool)
+    (trip : (layout : Layout) → LineTrip (λ l. said l layout) text (byte start) (λ v tail. need (good v) false λ _. goodTail start tail layout))
+    (splits : (v : A) (tail : List ℕ) → text v tail ≡ text v [] ++ tail) (long : (v : A) → suc (length (text v [])) ≡ start) where
+  fields-say : (l l′ : List ℕ) (old new : Layout) (v : A) → said l old ≡ says v → take (byte start) l′ ≡ take (byte start) l → Checked start new l′ → said l′ new ≡ says v
+  fields-say l l′ old new v e f c =
+      let n : length (text v []) ≡ start - 1 = omega (arith, long v) in
+      let front : take (start - 1) l′ ≡ text v [] = f ∙ ap (take (start - 1)) (trip old .there l v e ∙ splits v _) ∙ take-at (text v []) _ (start - 1) n in
+      let whole : take (start - 1) l′ ++ drop (start - 1) l′ ≡ l′ = take-append-drop (start - 1) l′ in
+      let g = need-inv (good v) false true _ false-true (line-limits (trip old) l v e) in
+      let t = tail-there start new (take (start - 1) l′) (drop (start - 1) l′) (ap (λ (x : List ℕ). suc (length x)) front ∙ long v) tt tt (c .right) (rw whole (c .shape)) (rw whole (c .ruled)) in
+      let i : text v (drop (start - 1) l′) ≡ l′ = splits v _ ∙ rw (← front) whole in
+      rw i at (trip new .here v (drop (start - 1) l′) (simp (g .0, t)))
+
+fix-splits : (f : Fix) (tail : List ℕ) → fixText f tail ≡ fixText f [] ++ tail
+unfolding fixText
+fix-splits f tail = simp (append-assoc, append-nil)
+
+fix-long : (f : Fix) → suc (length (fixText f [])) ≡ 36
+unfolding fixText
+fix-long f = simp (length-append, time-trip .long, latitude-trip .long, longitude-trip .long, altitude-trip .long)
+
+pub fix-reading : Reading 36 fixSaid
+unfolding goodFix lineSaid
+fix-reading = record {
+  first = omega arith;
+  passed = λ l layout f e. let w = fix-there layout l f e in record { right = w .layout-allowed; shape = w .shape; ruled = w .ruled };
+  fields = fields-say 36 fixSaid fixText goodFixFields fix-trip fix-splits fix-long;
+  any = λ l layout f e. rw (eq-eqb _ _ (fix-there layout l f e .kind), e);
+}
+
+note-splits : (t : ℕ) (tail : List ℕ) → noteText t tail ≡ noteText t [] ++ tail
+unfolding noteText
+note-splits t tail = simp append-nil
+
+note-long : (t : ℕ) → suc (length (noteText t [])) ≡ 8
+unfolding noteText
+note-long t = simp (length-append, time-trip .long)
+
+pub note-reading : Reading 8 noteSaid
+unfolding goodNote lineSaid
+note-reading = record {
+  first = omega arith;
+  passed = λ l layout t e. let w = note-there layout l t e in record { right = w .layout-allowed; shape = w .shape; ruled = w .ruled };
+  fields = fields-say 8 noteSaid noteText isTime note-trip note-splits note-long;
+  any = λ l layout t e. rw (note-there layout l t e .kind, e);
+}
