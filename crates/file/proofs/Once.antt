@@ -2,7 +2,7 @@
 use Prim.Native.Nat.{ℕ}
 use mathlib.Core.List.{List}
 use mathlib.Core.Option.{Option, none, some}
-use mathlib.Core.Path.{_≡_, refl, sym, ap, _∙_}
+use mathlib.Core.Path.{refl, sym, ap, _∙_}
 use Rattle.rules.specs.Split.{Stepped}
 use Rattle.laws.proofs.Only.{Only, alike}
 use Rattle.laws.proofs.Told.{OneToOne, by-back, answerOf, refusal-back}
