@@ -5,14 +5,17 @@ use mathlib.Core.List.{List}
 use mathlib.Core.Option.{Option, none, some}
 use mathlib.Core.Path.{_≡_}
 use Rattle.rules.specs.Choice.{given}
-use Rattle.rules.specs.Listed.{packedOf, codeAt, listedNumber}
+use Rattle.rules.specs.Listed.{packed, packedOf, codeAt, listedNumber}
 use Rattle.rules.specs.Promises.{foundTold}
 use Rattle.rules.specs.Refusals.{Said, says, no, refusal}
-use Rattle.rules.specs.Layouts.{Span, look, placed, entryAt, isSpelt, isSaid, columnTold}
+use Rattle.rules.specs.Layouts.{Span, look, placed, entryAt, isSpelt, isSaid, columnTold, emptyLayout, LayoutTold, firstStart, lineLength}
+use Rattle.rules.specs.declared.Refusal.{Refusal}
 use Rattle.rules.specs.declared.Reason.the-variants.{Absent}
 use Rattle.rules.specs.declared.Found.{Found}
 use Rattle.rules.specs.declared.Entry.{Entry}
 use Rattle.rules.specs.declared.Layout.{Layout}
+use Rattle.rules.specs.declared.LayoutRead.{LayoutRead}
+use Rattle.rules.specs.declared.Family.{Family}
 use Rattle.rules.specs.declared.ColumnRead.{ColumnRead}
 use Rattle.layout.specs.declared.entries.Spot.{Spot}
 use Rattle.layout.specs.declared.entries.Spot.the-variants as spot
@@ -20,6 +23,10 @@ use Rattle.layout.specs.declared.entries.EntryRead.{EntryRead}
 use Rattle.layout.specs.declared.entries.EntryRead.the-variants as entryRead
 use Rattle.layout.specs.declared.reading.Letters.{Letters}
 use Rattle.layout.specs.declared.reading.Letters.the-variants as letters
+
+-- three characters as one number
+abbrev pub CodePacked : ℕ → ℕ → ℕ → ℕ → Type 0
+CodePacked a b c r = r ≡ packed a b c
 
 -- a listed code's number
 abbrev pub ListedFound : ℕ → Found → Type 0
@@ -59,3 +66,19 @@ Follows start before e r = r ≡ (isSpelt e && isSaid (placed start before e 0))
 -- the column of a code by a layout, allowed or not
 abbrev pub ColumnFound : Layout → List ℕ → ColumnRead → Type 0
 ColumnFound l name r = columnTold r ≡ given (look l (packedOf name)) (no Absent 0) λ s. says s
+
+-- no columns
+abbrev pub NoColumns : Layout → Type 0
+NoColumns r = r ≡ emptyLayout
+
+-- a refusal, and the empty layout beside it
+abbrev pub LayoutRefused : Refusal → LayoutRead → Type 0
+LayoutRefused why r = LayoutTold (refusal why) r
+
+-- where the first column of a family starts
+abbrev pub StartGiven : Family → ℕ → Type 0
+StartGiven f r = r ≡ firstStart f
+
+-- how many bytes a line has by a layout, allowed or not
+abbrev pub LineLength : Family → Layout → ℕ → Type 0
+LineLength f l r = r ≡ lineLength (firstStart f) l

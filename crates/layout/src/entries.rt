@@ -2,8 +2,8 @@
 ghost use Prim.Native.Nat.{_<_};
 ghost use mathlib.Core.Path.{_≡_};
 ghost use Rattle.rules.specs.Refusals.{no};
-ghost use Rattle.rules.specs.Layouts.{emptyLayout, withEntry, carries};
-ghost use Rattle.layout.specs.Parts.{SpotFound, EntryPlaced, entryTold};
+ghost use Rattle.rules.specs.Layouts.{withEntry, carries};
+ghost use Rattle.layout.specs.Parts.{NoColumns, SpotFound, EntryPlaced, entryTold};
 use crate::table::width_fits;
 use rules::Entry;
 use rules::Layout;
@@ -24,7 +24,7 @@ pub enum EntryRead {
 
 // No columns.
 pub fn empty_layout() -> Layout
-    ensures { λ r. ⌜ r ≡ emptyLayout ⌝ }
+    ensures { λ r. ⌜ NoColumns r ⌝ }
 {
     let unused = Entry {
         first: 0,

@@ -1,12 +1,11 @@
 // An I or a J line: its shape, then its number of entries, then its entries from the left.
 ghost use Prim.Native.Nat.{_+_, _*_, _≤_};
 ghost use mathlib.Core.Bool.{false};
-ghost use mathlib.Core.Path.{_≡_};
 ghost use lib.ListN.{length};
 ghost use Rattle.rules.specs.Refusals.{refusal};
-ghost use Rattle.rules.specs.Layouts.{LayoutTold, firstStart, emptyLayout, entriesFrom, layoutFields};
+ghost use Rattle.rules.specs.Layouts.{LayoutTold, emptyLayout, entriesFrom, layoutFields};
 ghost use Rattle.rules.specs.Promises.{LayoutChecked};
-ghost use Rattle.layout.specs.Parts.{CodeRead, EntryGiven};
+ghost use Rattle.layout.specs.Parts.{CodeRead, EntryGiven, LayoutRefused, StartGiven};
 use crate::entries::EntryRead;
 use crate::entries::empty_layout;
 use crate::entries::placed;
@@ -65,7 +64,7 @@ fn entry_at(line: &[u8], at: usize, start: usize, before: Layout) -> EntryRead
 
 // No layout: the refusal, and the empty layout beside it.
 pub fn refused(why: Refusal) -> LayoutRead
-    ensures { λ r. ⌜ LayoutTold (refusal why) r ⌝ }
+    ensures { λ r. ⌜ LayoutRefused why r ⌝ }
 {
     let layout = empty_layout();
     LayoutRead {
@@ -121,7 +120,7 @@ fn fields(start: usize, line: &[u8]) -> LayoutRead
 
 // Where the first column of a family starts: byte 36 of a B line, byte 8 of a K line.
 pub fn first_start(family: Family) -> usize
-    ensures { λ r. ⌜ r ≡ firstStart family ⌝ }
+    ensures { λ r. ⌜ StartGiven family r ⌝ }
 {
     match family {
         Family::B => 36,

@@ -1,8 +1,8 @@
 // The listed codes: their table, and what it says of a column's width and text.
 ghost use mathlib.Core.Path.{_≡_};
-ghost use Rattle.rules.specs.Listed.{packed, widthFits, isDigits, keepsSign};
+ghost use Rattle.rules.specs.Listed.{widthFits, isDigits, keepsSign};
 ghost use Rattle.rules.specs.Promises.{ListedAt, ColumnTest};
-ghost use Rattle.layout.specs.Parts.{ListedFound};
+ghost use Rattle.layout.specs.Parts.{CodePacked, ListedFound};
 use rules::Found;
 use rules::Listed;
 
@@ -29,7 +29,7 @@ const TABLE: [Row; 15] = [
 
 // The three characters of a code as one number.
 pub fn pack(a: u8, b: u8, c: u8) -> u32
-    ensures { λ r. ⌜ r ≡ packed a b c ⌝ }
+    ensures { λ r. ⌜ CodePacked a b c r ⌝ }
 {
     (a as u32) * 65536 + (b as u32) * 256 + (c as u32)
 }

@@ -4,9 +4,9 @@ ghost use mathlib.Core.Path.{_≡_};
 ghost use lib.ListN.{drop, getD};
 ghost use Rattle.rules.specs.Choice.{leads};
 ghost use Rattle.rules.specs.Listed.{isCodeWord, listed, unlisted};
-ghost use Rattle.rules.specs.Layouts.{firstStart, entriesOf, emptyLayout, isSpelt, isUnused, allPlaced, lineLength, bit, wordFrom};
+ghost use Rattle.rules.specs.Layouts.{entriesOf, emptyLayout, isSpelt, isUnused, allPlaced, bit, wordFrom};
 ghost use Rattle.rules.specs.Promises.{AllowedTest, LengthGiven, LookGiven, PresenceGiven};
-ghost use Rattle.layout.specs.Parts.{Follows, ColumnFound};
+ghost use Rattle.layout.specs.Parts.{Follows, ColumnFound, LineLength};
 use crate::entries::EntryRead;
 use crate::entries::Spot;
 use crate::entries::carries;
@@ -132,7 +132,7 @@ pub fn allowed(family: Family, l: Layout) -> bool
 
 // How many bytes a line of the family has by a layout, allowed or not: up to the last column's last byte, or where there is none, 35 for B and 7 for K.
 pub fn line_length(family: Family, l: Layout) -> u8
-    ensures { λ r. ⌜ r ≡ lineLength (firstStart family) l ⌝ }
+    ensures { λ r. ⌜ LineLength family l r ⌝ }
 {
     let n = l.count;
     if n == 0 {
