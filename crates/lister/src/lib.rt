@@ -9,7 +9,7 @@ use rules::Outcome;
 use rules::Reason;
 use rules::Refusal;
 
-fn print_refusal(why: Refusal) {
+pub fn print_refusal(why: Refusal) {
     let mut out = [0u8; 288];
     let n = show::refused(why, &mut out);
     io::write_all(STDOUT_FILENO, &out[..n]);
@@ -21,7 +21,7 @@ fn print_ok(flight: Flight) {
     io::write_all(STDOUT_FILENO, &out[..n]);
 }
 
-fn print_fix(line: u32, f: Fix) {
+pub fn print_fix(line: u32, f: Fix) {
     let mut out = [0u8; 288];
     let n = show::fix(line, f, &mut out);
     io::write_all(STDOUT_FILENO, &out[..n]);
@@ -33,7 +33,7 @@ fn print_column(line: &[u8], e: Entry) {
     io::write_all(STDOUT_FILENO, &out[..n]);
 }
 
-fn print_columns(line: &[u8], layout: Layout) {
+pub fn print_columns(line: &[u8], layout: Layout) {
     let n = layout.count;
     let mut i = 0;
     while i < 13 {
