@@ -1,8 +1,12 @@
 // A file of 16,777,217 bytes is TOO_LONG; one byte fewer is not, and is refused for its missing line end.
 use rules::Outcome;
 
-fn huge() -> [u8; 16777217] {
+fn over() -> [u8; 16777217] {
     [65; 16777217]
+}
+
+fn full() -> [u8; 16777216] {
+    [65; 16777216]
 }
 
 fn print_verdict(file: &[u8]) {
@@ -15,7 +19,8 @@ fn print_verdict(file: &[u8]) {
 }
 
 fn main() {
-    let big = huge();
-    print_verdict(&big);
-    print_verdict(&big[..16777216]);
+    let over_by_one = over();
+    print_verdict(&over_by_one);
+    let filled = full();
+    print_verdict(&filled);
 }
