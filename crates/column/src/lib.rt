@@ -1,8 +1,7 @@
-// The columns of a B or a K line: where its layout ends it, the text of a column, and each listed column by its rule. Every layout value has an answer.
-ghost use Prim.Native.Nat.{_-_};
+// The columns of a B or a K line: the text of a column, and each listed column by its rule. Every layout value has an answer.
 ghost use mathlib.Core.Path.{_≡_};
 ghost use Rattle.rules.specs.Choice.{part, byte};
-ghost use Rattle.rules.specs.Layouts.{spanOf, columnText, lineLength};
+ghost use Rattle.rules.specs.Layouts.{spanOf, columnText};
 ghost use Rattle.rules.specs.Listed.{keepsRule};
 ghost use Rattle.rules.specs.Promises.{ColumnsChecked};
 use rules::Entry;
@@ -67,22 +66,4 @@ pub fn columns(line: &[u8], layout: Layout) -> Outcome
         i += 1;
     }
     Outcome::Accepted
-}
-
-// How many bytes a line has by its layout, where the first column would start at `start`.
-pub fn line_length(start: u8, layout: Layout) -> u8
-    ensures { λ r. ⌜ r ≡ lineLength start layout ⌝ }
-{
-    let n = layout.count;
-    if n == 0 {
-        if start == 0 {
-            return 0;
-        }
-        return start - 1;
-    }
-    if 13 < n {
-        return 0;
-    }
-    let e = layout.entries[n - 1];
-    e.last
 }

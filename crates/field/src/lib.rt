@@ -54,7 +54,7 @@ fn is_leap(y: u16) -> bool
 const MONTHS: [u64; 13] = [0, 31, 28, 31, 30, 31, 30, 31, 31, 30, 31, 30, 31];
 
 // How many days a month of a year has; none where there is no such month.
-fn days_of(y: u16, m: u64) -> u64
+pub fn days_of(y: u16, m: u64) -> u64
     ensures { λ r. ⌜ r ≡ daysOf y m ⌝ }
 {
     if m == 2 {

@@ -4,3 +4,4 @@ pub mod Cuts
 pub mod Counts
 pub mod Turns
 pub mod Judging
+pub mod Once

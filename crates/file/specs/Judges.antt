@@ -12,6 +12,7 @@ use Rattle.rules.specs.declared.State.{State}
 use Rattle.file.specs.declared.order.Leading.{Leading}
 use Rattle.file.specs.declared.order.Leading.the-variants as leading
 
+-- the part of a file that a line leads to, where it may come
 unfoldable pub leadingTold : Leading → Option ℕ
 leadingTold (leading.To stage) = some stage
 leadingTold leading.Nowhere = none

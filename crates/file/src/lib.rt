@@ -1,6 +1,6 @@
-// A file in lent memory: a line by its number, and a place that steps over the lines.
-ghost use Rattle.rules.specs.Promises.{FileChecked, KindGiven, LineGiven, LineRest};
+// A file in lent memory: the check of the whole file with the table of its lines' offsets, a line by its number, and a place that steps over the lines.
 ghost use mathlib.Core.Path.{_≡_};
+ghost use Rattle.rules.specs.Promises.{FileChecked, KindGiven, LineGiven, LineRest};
 ghost use Rattle.file.specs.Steps.{LineStepped, AtFirst, unplaced};
 use rules::Checked;
 use rules::Found;

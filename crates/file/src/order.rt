@@ -1,10 +1,10 @@
 // Which kind of line may follow which, the time order, and the state that the lines so far have left.
-ghost use Prim.Native.Nat.{_+_, _≤_, _<_};
+ghost use Prim.Native.Nat.{_≤_};
 ghost use mathlib.Core.Path.{_≡_};
 ghost use Rattle.rules.specs.Layouts.{emptyLayout};
 ghost use Rattle.rules.specs.Order.{leading, stageAfter, isC, isKind, fitsDeclaration, orderOf, noFlight, start, moved, dated, withFixes, withNotes, counted, begun, pointed, clocked, passing, isBack};
-ghost use Rattle.file.specs.Judges.{leadingTold};
 ghost use Rattle.rules.specs.declared.Kind.the-variants as kind;
+ghost use Rattle.file.specs.Judges.{leadingTold};
 use rules::Date;
 use rules::Entry;
 use rules::Flight;
@@ -131,7 +131,7 @@ pub(crate) fn is_back(before: u32, now: u32) -> bool
     true
 }
 
-pub(crate) fn empty_layout() -> Layout
+fn empty_layout() -> Layout
     ensures { λ r. ⌜ r ≡ emptyLayout ⌝ }
 {
     let unused = Entry {

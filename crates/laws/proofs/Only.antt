@@ -7,7 +7,7 @@ use Rattle.rules.specs.Refusals.{Said}
 use Rattle.rules.specs.Layouts.{LayoutTold, firstStart, allowed}
 use Rattle.rules.specs.Files.{CheckedTold}
 use Rattle.rules.specs.Writes.{fixText, isFix, noteText, isNote, layoutText, headText, isHead, pointText, isPoint}
-use Rattle.rules.specs.Promises.{DigitsRead, WholeRead, DigitsPut, DigitTest, CodeTest, ValidTest, InvalidFound, CodesTest, ByteAt, EitherTest, TimeAt, DateAt, LatitudeAt, LongitudeAt, AltitudeAt, TimePut, DatePut, LatitudePut, LongitudePut, AltitudePut, DegreesGiven, ListedAt, AllowedTest, LengthGiven, LookGiven, PresenceGiven, ColumnTest, KindGiven, ShapeChecked, RecorderChecked, DateLineChecked, HeaderChecked, LayoutChecked, HeadChecked, PointChecked, DifferentialChecked, EventChecked, SatellitesChecked, FixChecked, NoteChecked, FixGiven, NoteGiven, EventGiven, SatellitesGiven, DateGiven, LayoutGiven, HeadGiven, HeadRest, PointGiven, PointRest, ColumnGiven, ColumnRest, NumberGiven, FileChecked, LineGiven, LineRest, Written, FixWritten, NoteWritten, LayoutWritten, HeadWritten, PointWritten}
+use Rattle.rules.specs.Promises.{DigitsRead, WholeRead, DigitsPut, DigitTest, CodeTest, ValidTest, InvalidFound, CodesTest, ByteAt, EitherTest, TimeAt, DateAt, LatitudeAt, LongitudeAt, AltitudeAt, TimePut, DatePut, LatitudePut, LongitudePut, AltitudePut, DegreesGiven, ListedAt, AllowedTest, LengthGiven, LookGiven, PresenceGiven, ColumnTest, KindGiven, ColumnsChecked, ShapeChecked, RecorderChecked, DateLineChecked, HeaderChecked, LayoutChecked, HeadChecked, PointChecked, DifferentialChecked, EventChecked, SatellitesChecked, FixChecked, NoteChecked, FixGiven, NoteGiven, EventGiven, SatellitesGiven, DateGiven, LayoutGiven, HeadGiven, HeadRest, PointGiven, PointRest, ColumnGiven, ColumnRest, NumberGiven, FileChecked, LineGiven, LineRest, Written, FixWritten, NoteWritten, LayoutWritten, HeadWritten, PointWritten}
 use Rattle.rules.specs.declared.Date.{Date}
 use Rattle.rules.specs.declared.Position.{Position}
 use Rattle.rules.specs.declared.Height.{Height}
@@ -148,6 +148,9 @@ only-kind-given b = same
 
 pub only-shape-checked : (least most : ℕ) (inH : Bool) (l : List ℕ) → Only (ShapeChecked least most inH l)
 only-shape-checked least most inH l = alike outcome-one
+
+pub only-columns-checked : (l : List ℕ) (layout : Layout) → Only (ColumnsChecked l layout)
+only-columns-checked l layout = alike outcome-one
 
 pub only-recorder-checked : (l : List ℕ) → Only (RecorderChecked l)
 only-recorder-checked l = alike outcome-one

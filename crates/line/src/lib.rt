@@ -4,7 +4,7 @@ ghost use Prim.Native.Nat.{_-_, _%_};
 ghost use lib.Dec.{eqb};
 ghost use lib.ListN.{length, drop};
 ghost use Rattle.rules.specs.Lines.{isDateMark, plannedAt, headFields, badPair, fixFields, shapedBy};
-ghost use Rattle.rules.specs.Layouts.{columns};
+ghost use Rattle.rules.specs.Layouts.{firstStart, columns};
 ghost use Rattle.rules.specs.Refusals.{outcomeTold, andThen, says};
 ghost use Rattle.rules.specs.Reads.{headTold, fixTold};
 ghost use Rattle.rules.specs.Promises.{RecorderChecked, DateLineChecked, HeaderChecked, HeadChecked, PointChecked, DifferentialChecked, EventChecked, SatellitesChecked, FixChecked, NoteChecked, foundTold};
@@ -12,6 +12,7 @@ ghost use Rattle.line.specs.Parts.{plannedTold};
 use rules::Altitude;
 use rules::DateRead;
 use rules::Day;
+use rules::Family;
 use rules::Fix;
 use rules::FixRead;
 use rules::Found;
@@ -389,10 +390,10 @@ pub fn satellites(line: &[u8]) -> TimeRead
 }
 
 // The length that a layout gives, then the characters.
-fn shaped_by(start: u8, layout: Layout, line: &[u8]) -> Outcome
-    ensures { λ r. ⌜ outcomeTold r ≡ shapedBy start layout (now (line .entry)) ⌝ }
+fn shaped_by(family: Family, layout: Layout, line: &[u8]) -> Outcome
+    ensures { λ r. ⌜ outcomeTold r ≡ shapedBy (firstStart family) layout (now (line .entry)) ⌝ }
 {
-    let n = column::line_length(start, layout);
+    let n = layout::line_length(family, layout);
     shape::shaped(line, n, n, false)
 }
 
@@ -410,7 +411,7 @@ fn with_columns(f: Fix, line: &[u8], layout: Layout) -> FixRead
 pub fn fix_line(line: &[u8], layout: Layout) -> FixRead
     ensures { λ r. ⌜ FixChecked (now (line .entry)) layout r ⌝ }
 {
-    if let Outcome::Refused(r) = shaped_by(36, layout, line) {
+    if let Outcome::Refused(r) = shaped_by(Family::B, layout, line) {
         return FixRead::Refused(r);
     }
     match fix_fields(line) {
@@ -423,7 +424,7 @@ pub fn fix_line(line: &[u8], layout: Layout) -> FixRead
 pub fn note_line(line: &[u8], layout: Layout) -> TimeRead
     ensures { λ r. ⌜ NoteChecked (now (line .entry)) layout r ⌝ }
 {
-    if let Outcome::Refused(r) = shaped_by(8, layout, line) {
+    if let Outcome::Refused(r) = shaped_by(Family::K, layout, line) {
         return TimeRead::Refused(r);
     }
     let Time::Secs(t) = field::time_at(line, 1) else {

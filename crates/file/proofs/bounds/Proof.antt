@@ -30,4 +30,4 @@ bounds-spec =
     (λ c. search needs)
     (λ c κs. search needs)
     (λ c. search (fields, not-false, refuses-unplaced, needs) depth 16)
-    (λ c. search (fields, not-false, refuses-unplaced, needs) depth 16))
+    (λ c. search (fields, not-false, needs) depth 16))

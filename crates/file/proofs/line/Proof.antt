@@ -11,9 +11,9 @@ line-spec =
     (tie.spec
     (λ c κs. search needs)
     (λ c. search needs)
-    (λ c. search (bounds-order, bounds-end, needs))
-    (λ c. search (bounds-order, bounds-end, needs))
-    (λ c. search (bounds-order, bounds-end, needs))
+    (λ c. search (bounds-order, needs))
+    (λ c. search (bounds-order, needs))
+    (λ c. search (bounds-end, needs))
     (λ c. search needs)
     (λ c. search needs)
     (λ c. search needs)

@@ -14,11 +14,11 @@ step-spec =
     (tie.spec
     (λ c κs. search needs)
     (λ c. search (fields, refuses-unplaced, needs) depth 16)
-    (λ c. search (fields, refuses-unplaced, needs) depth 16)
+    (λ c. search (fields, needs) depth 16)
     (λ c κs. search needs)
     (λ c. search needs)
     (λ c. search needs)
     (λ c κs. search needs)
     (λ c. search (fields, refuses-unplaced, needs) depth 16)
     (λ c. search (found-fits, needs))
-    (λ c. search (fields, refuses-unplaced, needs) depth 16))
+    (λ c. search (fields, needs) depth 16))

@@ -1,0 +1,9 @@
+// Whether values given to a writer keep to their limits: the tests of which number 17 is made.
+mod fields;
+mod lines;
+mod tails;
+
+pub use lines::good_fix;
+pub use lines::good_head;
+pub use lines::good_note;
+pub use lines::good_point;

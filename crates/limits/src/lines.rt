@@ -1,0 +1,106 @@
+// The values of a line, with the text behind its fields.
+ghost use mathlib.Core.Path.{_≡_};
+ghost use Rattle.trips.specs.Limits.{goodPoint, goodHeadFields, goodHead, goodFixFields, goodFix, goodNote};
+use crate::fields::is_altitude;
+use crate::fields::is_clean;
+use crate::fields::is_date;
+use crate::fields::is_latitude;
+use crate::fields::is_longitude;
+use crate::fields::is_planned;
+use crate::tails::good_tail;
+use rules::Family;
+use rules::Fix;
+use rules::Head;
+use rules::Layout;
+use rules::Point;
+
+// Whether some C point line reads as the point, with this text behind it.
+pub fn good_point(p: Point, rest: &[u8]) -> bool
+    ensures { λ r. ⌜ r ≡ goodPoint p (now (rest .entry)) ⌝ }
+{
+    if !is_latitude(p.lat) {
+        return false;
+    }
+    if !is_longitude(p.lon) {
+        return false;
+    }
+    if 255 < 18 + rest.len() {
+        return false;
+    }
+    is_clean(rest)
+}
+
+// Whether the fields of a C head are within their limits.
+fn good_head_fields(h: Head) -> bool
+    ensures { λ r. ⌜ r ≡ goodHeadFields h ⌝ }
+{
+    if !is_date(h.declared) {
+        return false;
+    }
+    if 86399 < h.time {
+        return false;
+    }
+    let flight = h.flight;
+    if !is_planned(flight) {
+        return false;
+    }
+    if 9999 < h.task {
+        return false;
+    }
+    h.turns <= 99
+}
+
+// Whether some C head line reads as the head, with this text behind it.
+pub fn good_head(h: Head, rest: &[u8]) -> bool
+    ensures { λ r. ⌜ r ≡ goodHead h (now (rest .entry)) ⌝ }
+{
+    if !good_head_fields(h) {
+        return false;
+    }
+    if 255 < 25 + rest.len() {
+        return false;
+    }
+    is_clean(rest)
+}
+
+// Whether the fields of a B line are within their limits.
+fn good_fix_fields(f: Fix) -> bool
+    ensures { λ r. ⌜ r ≡ goodFixFields f ⌝ }
+{
+    if 86399 < f.time {
+        return false;
+    }
+    if !is_latitude(f.lat) {
+        return false;
+    }
+    if !is_longitude(f.lon) {
+        return false;
+    }
+    if !chars::is_either(f.validity, b'A', b'V') {
+        return false;
+    }
+    if !is_altitude(f.pressure) {
+        return false;
+    }
+    is_altitude(f.gnss)
+}
+
+// Whether some B line with this layout reads as the fix, with this tail.
+pub fn good_fix(f: Fix, tail: &[u8], l: Layout) -> bool
+    ensures { λ r. ⌜ r ≡ goodFix f (now (tail .entry)) l ⌝ }
+{
+    if !good_fix_fields(f) {
+        return false;
+    }
+    good_tail(Family::B, 36, tail, l)
+}
+
+// Whether some K line with this layout reads as the time, with this tail.
+pub fn good_note(t: u32, tail: &[u8], l: Layout) -> bool
+    ensures { λ r. ⌜ r ≡ goodNote t (now (tail .entry)) l ⌝ }
+{
+    if 86399 < t {
+        return false;
+    }
+    good_tail(Family::K, 8, tail, l)
+}

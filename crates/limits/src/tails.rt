@@ -1,0 +1,71 @@
+// The columns of a B or a K line, which are the line's tail, held against the layout.
+ghost use mathlib.Core.Bool.{true, false};
+ghost use mathlib.Core.Path.{_≡_};
+ghost use Prim.Native.Nat.{_+_, _-_, _≤_};
+ghost use Rattle.rules.specs.Choice.{given, part};
+ghost use Rattle.rules.specs.Layouts.{firstStart};
+ghost use Rattle.rules.specs.Listed.{keepsRule};
+ghost use Rattle.trips.specs.Limits.{badTail, goodTail};
+use crate::fields::is_clean;
+use rules::Entry;
+use rules::Family;
+use rules::Layout;
+
+// A byte of the line as a byte of its tail, counted from 1; 0 for one before the tail.
+fn in_tail(start: u8, n: u8) -> u8
+    requires { ⌜ 1 ≤ start ⌝ }
+    ensures { λ r. ⌜ r ≡ n + 1 - start ⌝ }
+{
+    if n < start {
+        return 0;
+    }
+    n - start + 1
+}
+
+// Whether the column of an entry keeps the rule of its code.
+fn keeps(start: u8, tail: &[u8], e: Entry) -> bool
+    requires { ⌜ 1 ≤ start ⌝ }
+    ensures { λ r. ⌜ r ≡ keepsRule (e .code) (part (e .first - start) (e .last + 1 - start) (now (tail .entry))) ⌝ }
+{
+    let first = in_tail(start, e.first);
+    let last = in_tail(start, e.last);
+    layout::keeps_rule(e.code, column::text_of(tail, first, last))
+}
+
+// Whether each column keeps the rule of its code.
+fn keeps_all(start: u8, tail: &[u8], l: Layout) -> bool
+    requires { ⌜ 1 ≤ start ⌝ }
+    ensures { λ r. ⌜ r ≡ given (badTail start (now (tail .entry)) l) true (λ _. false) ⌝ }
+{
+    let n = l.count;
+    let mut i = 0;
+    while i < 13 {
+        if n <= i {
+            return true;
+        }
+        let e = l.entries[i];
+        if !keeps(start, tail, e) {
+            return false;
+        }
+        i += 1;
+    }
+    true
+}
+
+// Whether a tail is what a layout of the family gives, whose first column starts at `start`.
+pub(crate) fn good_tail(family: Family, start: u8, tail: &[u8], l: Layout) -> bool
+    requires { ⌜ (start ≡ firstStart family) × (1 ≤ start) ⌝ }
+    ensures { λ r. ⌜ r ≡ goodTail start (now (tail .entry)) l ⌝ }
+{
+    if !layout::allowed(family, l) {
+        return false;
+    }
+    let n = column::line_length(start, l);
+    if (start as usize) - 1 + tail.len() != n as usize {
+        return false;
+    }
+    if !is_clean(tail) {
+        return false;
+    }
+    keeps_all(start, tail, l)
+}

@@ -1,0 +1,173 @@
+-- What is put into an output: bytes one after the other, where they have room; and the lengths of what is put. Assumes nothing.
+use Prim.Native.Nat.{ℕ, zero, suc, _+_, _-_, _/_, _%_, _≤_, _<_}
+use mathlib.Core.Bool.{Bool, true, false}
+use mathlib.Core.List.{List, [], _∷_, _++_}
+use mathlib.Core.Path.{_≡_, refl, sym, _∙_, ap}
+use native.Mathlib.Nat.{add-zero}
+use native.Mathlib.Numerals.{add-one, sub-one}
+use native.Mathlib.Omega.{arith}
+use borrow.Author.Tests.{le-leb, lt-leb, le-ltb}
+use lib.Dec.{leb·zero}
+use lib.IntN.{ℤ, pos, negsuc, natAbs, _-ℤ_}
+use lib.ListN.{length, getD, drop, set, length-append, drop-of-length-le}
+use lib.Seq.{sets, length-sets, set-comm, drop-cons}
+use lib.Signed.{mag, nonNeg, leZ}
+use Rattle.rules.specs.Numbers.{digitsOf}
+use Rattle.rules.specs.Fields.{timeText, dateText, positionText, metresText, altitudeText}
+use Rattle.rules.specs.Writes.{putAt}
+use Rattle.rules.specs.declared.Date.{Date}
+use Rattle.rules.specs.declared.Position.{Position}
+use Rattle.rules.specs.declared.Height.{Height}
+use Rattle.put.specs.Puts.{Fills}
+
+-- ---- lengths
+
+pub digits-length : (n v : ℕ) → length (digitsOf n v) ≡ n
+unfolding digitsOf
+digits-length zero v = refl
+digits-length (suc n) v = simp (length-append, digits-length n (v / 10)) (add-one n)
+
+pub time-length : (t : ℕ) → length (timeText t) ≡ 6
+unfolding timeText
+time-length t = simp (length-append, digits-length)
+
+pub date-length : (d : Date) → length (dateText d) ≡ 6
+unfolding dateText
+date-length d = simp (length-append, digits-length)
+
+pub position-length : (width : ℕ) (p : Position) → length (positionText width p) ≡ width + 6
+unfolding positionText
+position-length width p = simp (length-append, digits-length)
+
+metres-length : (z : ℤ) → length (metresText z) ≡ 5
+metres-length (pos n) = digits-length 5 n
+metres-length (negsuc n) = ap suc (digits-length 4 (n + 1))
+
+pub altitude-length : (h : Height) → length (altitudeText h) ≡ 5
+unfolding altitudeText
+altitude-length h = metres-length (h .metres)
+
+-- ---- bytes put one after the other
+
+-- what is put in two goes is put in one
+pub sets-append : (l : List ℕ) (at : ℕ) (a b : List ℕ) → sets l at (a ++ b) ≡ sets (sets l at a) (at + length a) b
+sets-append l at [] b = rw add-zero
+sets-append l at (x ∷ a) b =
+    let e : suc at + length a ≡ at + suc (length a) = omega arith in
+    sets-append (set l at x) (suc at) a b ∙ ap (λ (m : ℕ). sets (sets (set l at x) (suc at) a) m b) e
+
+-- a store past what is put may go first
+pub sets-set : (l : List ℕ) (at : ℕ) (a : List ℕ) (i x : ℕ) → at + length a ≤ i → sets (set l i x) at a ≡ set (sets l at a) i x
+sets-set l at [] i x h = refl
+sets-set l at (b ∷ a) i x h =
+    let ne : i ≡ at → ⊥ = λ e. omega arith in
+    ap (λ (m : List ℕ). sets m (suc at) a) (set-comm l i at x b ne) ∙ sets-set (set l at b) (suc at) a i x (omega arith)
+
+-- one digit less to put, with the last of them stored
+pub sets-step : (l : List ℕ) (at n v : ℕ) → 0 < n → sets l at (digitsOf n v) ≡ sets (set l (at + (n - 1)) (48 + v % 10)) at (digitsOf (n - 1) (v / 10))
+unfolding digitsOf
+sets-step l at (suc k) v p =
+    rw (sub-one, sets-append l at (digitsOf k (v / 10)) ((48 + v % 10) ∷ []), digits-length k (v / 10))
+    (sym (sets-set l at (digitsOf k (v / 10)) (at + k) (48 + v % 10) (omega (arith, digits-length k (v / 10)))))
+
+pub sets-none : (l : List ℕ) (at v : ℕ) → sets l at (digitsOf 0 v) ≡ l
+unfolding digitsOf
+sets-none l at v = refl
+
+-- one byte less of a text to put, with the first of them stored
+pub sets-more : (l : List ℕ) (at : ℕ) (t : List ℕ) (i : ℕ) → i < length t → sets l (at + i) (drop i t) ≡ sets (set l (at + i) (getD t i 0)) (at + (i + 1)) (drop (i + 1) t)
+sets-more l at t i h =
+    let e : at + (i + 1) ≡ suc (at + i) = omega arith in
+    rw (e, add-one, drop-cons t i 0 h)
+
+pub sets-over : (l : List ℕ) (at : ℕ) (t : List ℕ) (i : ℕ) → length t ≤ i → sets l at (drop i t) ≡ l
+sets-over l at t i h = rw drop-of-length-le
+
+-- ---- what a function that tests for room leaves: n bytes have none, or they stand there
+
+module _ (x l : List ℕ) (at : ℕ) (t : List ℕ) (n : ℕ) (h : length t ≡ n) where
+  pub put-past : length l < at + n → x ≡ l → x ≡ putAt l at t
+  unfolding putAt
+  put-past g e = rw (h, lt-leb (at + n) (length l) g) e
+
+  pub put-there : at + n ≤ length l → Fills l at t x → x ≡ putAt l at t
+  unfolding putAt
+  put-there g f = rw (h, le-leb (at + n) (length l) g) (f .is (omega arith))
+
+-- ---- several calls one after the other, in the form that `search` finds: l₁ is what the first leaves
+
+pub put-last : (x l : List ℕ) (at : ℕ) (t : List ℕ) → x ≡ putAt l at t → Fills l at t x
+unfolding putAt
+put-last x l at t e = record { is = λ g. rw (le-leb (at + length t) (length l) g) at e }
+
+pub fills-then : (x l l₁ : List ℕ) (at : ℕ) (t b : List ℕ) → Fills l at t l₁ → Fills l₁ (at + length t) b x → Fills l at (t ++ b) x
+fills-then x l l₁ at t b f g = record {
+  is = λ h.
+      let r : at + length t + length b ≤ length l = omega (arith, length-append t b) in
+      let e : l₁ ≡ sets l at t = f .is (omega arith) in
+      cc (sets-append l at t b, g .is (rw (e, length-sets l at t) r), e);
+}
+
+pub put-then : (x l l₁ : List ℕ) (at : ℕ) (t b : List ℕ) (n : ℕ) → length t ≡ n → l₁ ≡ putAt l at t → Fills l₁ (at + n) b x → Fills l at (t ++ b) x
+put-then x l l₁ at t b n h e f = fills-then x l l₁ at t b (put-last l₁ l at t e) (rw h f)
+
+pub byte-then : (x l l₁ : List ℕ) (at v : ℕ) (b : List ℕ) → l₁ ≡ putAt l at (v ∷ []) → Fills l₁ (at + 1) b x → Fills l at (v ∷ b) x
+byte-then x l l₁ at v b = put-then x l l₁ at (v ∷ []) b 1 refl
+
+pub digits-then : (x l l₁ : List ℕ) (at n v : ℕ) (b : List ℕ) → l₁ ≡ putAt l at (digitsOf n v) → Fills l₁ (at + n) b x → Fills l at (digitsOf n v ++ b) x
+digits-then x l l₁ at n v b = put-then x l l₁ at (digitsOf n v) b n (digits-length n v)
+
+pub time-then : (x l l₁ : List ℕ) (at t : ℕ) (b : List ℕ) → l₁ ≡ putAt l at (timeText t) → Fills l₁ (at + 6) b x → Fills l at (timeText t ++ b) x
+time-then x l l₁ at t b = put-then x l l₁ at (timeText t) b 6 (time-length t)
+
+pub date-then : (x l l₁ : List ℕ) (at : ℕ) (d : Date) (b : List ℕ) → l₁ ≡ putAt l at (dateText d) → Fills l₁ (at + 6) b x → Fills l at (dateText d ++ b) x
+date-then x l l₁ at d b = put-then x l l₁ at (dateText d) b 6 (date-length d)
+
+pub position-then : (x l l₁ : List ℕ) (at width : ℕ) (p : Position) (b : List ℕ) → l₁ ≡ putAt l at (positionText width p) → Fills l₁ (at + (width + 6)) b x
+    → Fills l at (positionText width p ++ b) x
+position-then x l l₁ at width p b = put-then x l l₁ at (positionText width p) b (width + 6) (position-length width p)
+
+pub altitude-then : (x l l₁ : List ℕ) (at : ℕ) (h : Height) (b : List ℕ) → l₁ ≡ putAt l at (altitudeText h) → Fills l₁ (at + 5) b x → Fills l at (altitudeText h ++ b) x
+altitude-then x l l₁ at h b = put-then x l l₁ at (altitudeText h) b 5 (altitude-length h)
+
+pub text-then : (x l l₁ : List ℕ) (at : ℕ) (t b : List ℕ) → l₁ ≡ putAt l at t → Fills l₁ (at + length t) b x → Fills l at (t ++ b) x
+text-then x l l₁ at t b = put-then x l l₁ at t b (length t) refl
+
+-- a field of its digits, and a line of its fields
+pub ruleset puts = (put-last, byte-then, digits-then)
+
+pub ruleset fields = (put-last, byte-then, time-then, date-then, position-then, altitude-then)
+
+-- ---- signs
+
+-- of a negative z: -1 - z is its size less one
+pub turned : (z : ℤ) → nonNeg z ≡ false → negsuc 0 -ℤ z ≡ pos (mag z)
+turned (pos n) h = let e : _≡_ {A = ℕ} 0 1 = cc in absurd (omega arith)
+turned (negsuc k) h = rw (le-ltb (suc k) 1 (omega arith)) (ap pos (omega arith))
+
+pub one-more : (z : ℤ) → nonNeg z ≡ false → mag z + 1 ≡ natAbs z
+one-more (pos n) h = let e : _≡_ {A = ℕ} 0 1 = cc in absurd (omega arith)
+one-more (negsuc k) h = omega arith
+
+pub zero-below : (z : ℤ) → leZ (pos 0) z ≡ nonNeg z
+zero-below (pos n) = leb·zero n
+zero-below (negsuc n) = refl
+
+-- an altitude's text by its sign and its size
+plain-metres : (z : ℤ) → nonNeg z ≡ true → metresText z ≡ digitsOf 5 (natAbs z)
+plain-metres (pos n) h = refl
+plain-metres (negsuc n) h = let e : _≡_ {A = ℕ} 0 1 = cc in absurd (omega arith)
+
+minus-metres : (z : ℤ) → nonNeg z ≡ false → metresText z ≡ 45 ∷ digitsOf 4 (natAbs z)
+minus-metres (pos n) h = let e : _≡_ {A = ℕ} 0 1 = cc in absurd (omega arith)
+minus-metres (negsuc n) h = rw add-one
+
+-- r is what the test of the sign said, and m the size
+module _ (x l : List ℕ) (at : ℕ) (h : Height) (r : Bool) (m : ℕ) (e : r ≡ nonNeg (h .metres)) (f : m ≡ natAbs (h .metres)) where
+  pub plain-fills : r ≡ true → Fills l at (digitsOf 5 m) x → Fills l at (altitudeText h) x
+  unfolding altitudeText
+  plain-fills g p = rw (plain-metres (h .metres) (sym e ∙ g), ← f) p
+
+  pub minus-fills : r ≡ false → Fills l at (45 ∷ digitsOf 4 m) x → Fills l at (altitudeText h) x
+  unfolding altitudeText
+  minus-fills g p = rw (minus-metres (h .metres) (sym e ∙ g), ← f) p

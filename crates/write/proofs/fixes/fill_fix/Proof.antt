@@ -1,0 +1,18 @@
+-- `write::fixes::fill_fix` meets its contract. Assumes nothing.
+use borrow.Author.Needs.{needs}
+use Rattle.rules.specs.Writes.{fixText}
+use Rattle.put.proofs.Laws.{fields}
+use Rattle.write.proofs.Laws.{regroup}
+use Rattle.write.proofs.fixes.fill_fix.Statement.{statement}
+use Rattle.write.proofs.fixes.fill_fix.Tie as tie
+
+pub fill-fix-spec : {M : Type 1} → statement M
+unfolding fixText
+fill-fix-spec =
+    tie.close
+    (tie.spec
+    (λ c κs. search needs)
+    (λ c κs. search needs)
+    (λ c κs. search needs)
+    (λ c. search needs)
+    (λ c. search (fields, regroup) depth 16))
