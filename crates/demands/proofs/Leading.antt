@@ -10,11 +10,11 @@ use native.Mathlib.Omega.{arith}
 use borrow.Author.Tests.{le-leb, lt-leb, leb-true, leb-false, eqb-true, eqb-false, eq-eqb, ne-eqb, ltb-true, ltb-false, lt-ltb, le-ltb, not-true}
 use lib.Dec.{leb, eqb, ltb}
 use lib.ListN.{length, getD}
-use Rattle.rules.specs.Choice.{on}
+use Rattle.rules.specs.Choice.{on, leads}
 use Rattle.rules.specs.Refusals.{Said, says, andThen}
-use Rattle.rules.specs.Layouts.{allowed}
+use Rattle.rules.specs.Layouts.{isUnused, allPlaced, allowed}
 use Rattle.rules.specs.Lines.{kindOf, aLine, dateLine, hLine, layoutLine, headLine, pointLine, dLine, eLine, fLine, bLine, kLine, lLine, gLine, otherLine}
-use Rattle.rules.specs.Order.{leading, stageAfter, isC, isKind, fitsDeclaration, orderOf, moved, dated, withFixes, withNotes, counted, begun, pointed, clocked, onward, nextDay, back, passing, isBack, timed, ruled, judge}
+use Rattle.rules.specs.Order.{start, leading, stageAfter, isC, isKind, fitsDeclaration, orderOf, moved, dated, withFixes, withNotes, counted, begun, pointed, clocked, onward, nextDay, back, passing, isBack, timed, ruled, judge}
 use Rattle.rules.specs.declared.Date.{Date}
 use Rattle.rules.specs.declared.Layout.{Layout}
 use Rattle.rules.specs.declared.Family.the-variants as family
@@ -58,6 +58,10 @@ pub data Leads (st : State) (l : List ℕ) : Part → State → Type 0 where
 -- both layouts are ones that a line can tell
 abbrev pub Sound : State → Type 0
 Sound st = (allowed 36 (st .flight .fixes) ≡ true) × (allowed 8 (st .flight .notes) ≡ true)
+
+pub sound-start : Sound start
+unfolding allowed allPlaced leads isUnused
+sound-start = (refl, refl)
 
 -- ---- kinds and letters
 

@@ -7,6 +7,8 @@ pub mod Leading
 pub mod Passing
 pub mod Sections
 pub mod Accepted
+pub mod Standing
+pub mod Ordered
 pub mod Faulty
 pub mod Refusing
 pub mod Columns

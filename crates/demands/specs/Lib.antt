@@ -1,4 +1,5 @@
 pub mod Grammar
+pub mod Coming
 pub mod Checks
 pub mod Faults
 pub mod Readings
