@@ -8,7 +8,7 @@ use mathlib.Core.Logic.{_⊎_, inl, inr}
 use mathlib.Core.Option.{Option, none, some}
 use mathlib.Core.Path.{_≡_, refl, sym, _∙_, ap, subst}
 use native.Mathlib.Omega.{arith}
-use borrow.Author.Tests.{le-leb, eqb-true, eqb-false, eq-eqb, ne-eqb}
+use borrow.Author.Tests.{le-leb, lt-leb, eqb-true, eqb-false, eq-eqb, ne-eqb}
 use lib.Dec.{eqb, leb, ltb}
 use lib.ListN.{length, getD, drop, replicate, length-append}
 use Rattle.rules.specs.Choice.{given, need, on, firstOf}
@@ -33,6 +33,7 @@ use Rattle.demands.specs.Checks.{Check, check, AllPass, FailsFirst, isTh
 use Rattle.demands.proofs.Laws.{each-join, shape-there}
 use Rattle.demands.proofs.Carried.{e-inv, f-inv}
 use Rattle.demands.proofs.Entries.{entries-laid, with-laid}
+use Rattle.demands.proofs.Leading.{Letter, letter}
 use Rattle.demands.proofs.Standing.{there, b-time, k-time, entry-is, open-left, Stands}
 use Rattle.demands.proofs.Ordered.{order-told}
 
@@ -382,6 +383,24 @@ either-way : (t u : Bool) {A : Type 0} (a b : Said A) (cs ds : List Check) → n
 either-way true u a b cs ds e h g = rw (← e) h
 either-way false u a b cs ds e h g = rw (← e) g
 
+-- the kinds are A to Z
+kind-letters : (k : Kind) (b : ℕ) → Letter k b → isKind k ≡ (leb (code "A") b && leb b (code "Z"))
+kind-letters kind.A b h = rw h
+kind-letters kind.B b h = rw h
+kind-letters kind.C b h = rw h
+kind-letters kind.D b h = rw h
+kind-letters kind.E b h = rw h
+kind-letters kind.F b h = rw h
+kind-letters kind.G b h = rw h
+kind-letters kind.H b h = rw h
+kind-letters kind.I b h = rw h
+kind-letters kind.J b h = rw h
+kind-letters kind.K b h = rw h
+kind-letters kind.L b h = rw h
+kind-letters kind.Other b h = rw (le-leb 65 b (omega arith), le-leb b 90 (h .1))
+kind-letters kind.NoKind b (inl h) = rw (lt-leb 65 b h)
+kind-letters kind.NoKind b (inr h) = rw (le-leb 65 b (omega arith), lt-leb b 90 h)
+
 module _ (ls : List (List ℕ)) (l : List ℕ) (st : State) (w : Stands ls st) where
   ruled-agrees : (k : Kind) (stage : ℕ) → isKind k ≡ true → Agrees (ruled k l (moved stage st)) (kindChecks k ls l)
   unfolding ruled
@@ -411,9 +430,10 @@ module _ (ls : List (List ℕ)) (l : List ℕ) (st : State) (w : Stands ls st) w
   judge-agrees =
       let k = kindOf (getD l 0 0) in
       agree-need 4 1 (leb 1 (length l)) _ _ λ e.
-      agree-need 5 1 (isKind k) _ _ λ i.
+      rw (← kind-letters k (getD l 0 0) (letter (getD l 0 0)))
+      (agree-need 5 1 (isKind k) _ _ λ i.
       subst (λ t. Agrees (given (orderOf k st) (refuses 6 0 1) λ stage. ruled k l (moved stage st)) (check 6 1 t ∷ kindChecks k ls l)) (order-told ls st w k)
-      (agree-given 6 1 (orderOf k st) _ (kindChecks k ls l) λ stage e. ruled-agrees k stage i)
+      (agree-given 6 1 (orderOf k st) _ (kindChecks k ls l) λ stage e. ruled-agrees k stage i))
 
 -- ---- the first that fails, told apart
 

@@ -7,6 +7,7 @@ pub mod Leading
 pub mod Passing
 pub mod Sections
 pub mod Accepted
+pub mod FieldsThere
 pub mod Standing
 pub mod Ordered
 pub mod Faulty

@@ -1,5 +1,6 @@
 -- Document 01, 'Refusal numbers': the checks 4 to 14 of one line as a list in their order, each with its number, its byte and whether the line passes it. They are told
--- by the line and the lines before it. A check that needs a value which an earlier check did not find takes 0 for it.
+-- by the line and the lines before it. What it means that a field could be read is said in FieldTexts. A check that needs a value which an earlier check did not find
+-- takes 0 for it.
 use Prim.Native.Nat.{ℕ, zero, suc, _+_, _-_, _*_, _%_}
 use Prim.Native.Char.{code}
 use mathlib.Core.Bool.{Bool, true, false, not, _&&_, _||_, cond}
@@ -15,7 +16,6 @@ use Rattle.rules.specs.Fields.{timeAt, dateAt, latitudeAt, longitudeAt, altitud
 use Rattle.rules.specs.Listed.{codeAt, widthFits, keepsRule}
 use Rattle.rules.specs.Layouts.{firstStart, spanOf, columnText}
 use Rattle.rules.specs.Lines.{kindOf, isDateMark, plannedAt}
-use Rattle.rules.specs.Order.{isKind}
 use Rattle.rules.specs.declared.Entry.{Entry}
 use Rattle.rules.specs.declared.Family.{Family}
 use Rattle.rules.specs.declared.Family.the-variants as family
@@ -193,6 +193,6 @@ kindChecks kind.NoKind ls l = []
 unfoldable pub checksOf : List (List ℕ) → List ℕ → List Check
 checksOf ls l =
     check 4 1 (leb 1 (length l))
-    ∷ check 5 1 (isKind (kindOf (getD l 0 0)))
+    ∷ check 5 1 (leb (code "A") (getD l 0 0) && leb (getD l 0 0) (code "Z"))
     ∷ check 6 1 (mayCome (kindOf (getD l 0 0)) ls)
     ∷ kindChecks (kindOf (getD l 0 0)) ls l
