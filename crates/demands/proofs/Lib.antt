@@ -11,6 +11,7 @@ pub mod FieldsThere
 pub mod Standing
 pub mod Ordered
 pub mod Faulty
+pub mod Meaning
 pub mod Refusing
 pub mod Columns
 pub mod Reading

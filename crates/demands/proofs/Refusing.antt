@@ -2,9 +2,9 @@
 use Prim.Native.Nat.{ℕ, suc, _+_, _≤_}
 use Prim.Native.Char.{code}
 use mathlib.Core.Bool.{Bool, true, false, cond}
-use mathlib.Core.List.{List, [], _∷_, _++_, append-assoc, append-nil}
+use mathlib.Core.List.{List, [], _∷_, _++_}
 use mathlib.Core.Logic.{_⊎_, inl, inr, _↔_}
-use mathlib.Core.Path.{_≡_, refl, sym, _∙_, ap, subst}
+use mathlib.Core.Path.{_≡_, refl, sym, _∙_, ap}
 use native.Mathlib.Omega.{arith}
 use borrow.Author.Tests.{le-leb, lt-leb, leb-true, leb-false, eqb-true, eqb-false, eq-eqb, ne-eqb}
 use lib.Dec.{eqb, leb}
@@ -18,30 +18,11 @@ use Rattle.rules.specs.declared.Flight.{Flight}
 use Rattle.rules.specs.declared.State.{State}
 use Rattle.laws.proofs.Splitting.{cut, none-left, lines-of-line}
 use Rattle.demands.specs.Grammar.{IsText, beginning}
-use Rattle.demands.specs.Coming.{isOpen}
-use Rattle.demands.specs.Faults.{PassAfter, Before, NoEnd, none-comes, lf-alone, cr-alone, Refused, empty, too-long, line-end, in-line, table-full, ends-early}
-use Rattle.demands.proofs.Leading.{judge-leads}
-use Rattle.demands.proofs.Passing.{Passes, done, next, one-line-more, lines-passed, before, text-is, is-text, begins, lines-written, Stops, ended, endless, faulty, full, comes, passes-run, stops-run}
-use Rattle.demands.proofs.Standing.{open-left, Stands, stands-start, stands-next}
+use Rattle.demands.specs.Coming.{Open}
+use Rattle.demands.specs.Faults.{Before, NoEnd, none-comes, lf-alone, cr-alone, Refused, empty, too-long, line-end, in-line, table-full, ends-early}
+use Rattle.demands.proofs.Passing.{Passes, one-line-more, lines-passed, before, text-is, is-text, begins, lines-written, Stops, ended, endless, faulty, full, comes, passes-run, stops-run}
 use Rattle.demands.proofs.Faulty.{judge-fails, fails-judge, judge-passes, passes-judge}
-
--- ---- lines that pass
-
--- the check judges lines good one after the other exactly where each passes its checks, and it stands behind them as they tell
-passes-stand : {st s : State} {ls : List (List ℕ)} (ks : List (List ℕ)) → Stands ks st → Passes st ls s → PassAfter ks ls × Stands (ks ++ ls) s
-passes-stand ks w (done {st = st}) = (tt, subst (λ x. Stands x st) (sym (append-nil ks)) w)
-passes-stand {s = s} ks w (next {st = st} {m = m} {l = l} {ls = ls} e p) =
-    let v = stands-next ks l st w (judge-leads l st m (w .sound) e .1) in
-    let r = passes-stand (ks ++ (l ∷ [])) v p in
-    ((judge-passes ks l st w m e, r .0), subst (λ x. Stands x s) (append-assoc ks (l ∷ []) ls) (r .1))
-
-stand-passes : (ks ls : List (List ℕ)) (st : State) → Stands ks st → PassAfter ks ls → (s : State) × Passes st ls s × Stands (ks ++ ls) s
-stand-passes ks [] st w h = (st, done, subst (λ x. Stands x st) (sym (append-nil ks)) w)
-stand-passes ks (l ∷ ls) st w h =
-    let j = passes-judge ks l st w (h .0) in
-    let v = stands-next ks l st w (judge-leads l st (j .0) (w .sound) (j .1) .1) in
-    let r = stand-passes (ks ++ (l ∷ [])) ls (j .0) v (h .1) in
-    (r .0, next (j .1) (r .1), subst (λ x. Stands x (r .0)) (append-assoc ks (l ∷ []) ls) (r .2))
+use Rattle.demands.proofs.Meaning.{Behind, behind-start, passes-behind, behind-passes, opened}
 
 -- ---- a line with no end
 
@@ -117,7 +98,7 @@ module _ (file : List ℕ) (room : ℕ) where
   Means (says f) = Unit {0}
   Means (refuses n l b) = Refused file room n l b
 
-  early : (lines : List (List ℕ)) (st : State) → Before file room lines [] → Stands lines st → Means (finish st)
+  early : (lines : List (List ℕ)) (st : State) → Before file room lines [] → Behind lines st → Means (finish st)
   unfolding finish number
   early lines st w v = go (eqb (st .points) 0) (leb 6 (st .stage)) refl refl
     where
@@ -126,24 +107,24 @@ module _ (file : List ℕ) (room : ℕ) where
       go true true p q = tt
       go true false p q =
           let i = leb-false 6 (st .stage) q in
-          rw (v .lines) (ends-early lines w (inr (eqb-true (beginning (code "G") lines) 0 (sym (v .staged .unsealed) ∙ le-leb (st .stage) 5 (omega arith)))))
+          rw (v .stands .lines) (ends-early lines w (inr (eqb-true (beginning (code "G") lines) 0 (sym (v .stands .staged .unsealed) ∙ le-leb (st .stage) 5 (omega arith)))))
       go false y p q =
           let i = eqb-false (st .points) 0 p in
-          rw (v .lines) (ends-early lines w (inl (open-left lines ∙ ap (leb 1) (sym (v .points)) ∙ le-leb 1 (st .points) (omega arith))))
+          rw (v .stands .lines) (ends-early lines w (inl (opened lines st v .0 (omega arith))))
 
   -- where the check stops, its answer means what it says
-  stopped : (lines : List (List ℕ)) (st : State) (k : Lines) (x : Said Flight) (rest : List ℕ) → Before file room lines rest → linesOf rest ≡ k → Stands lines st
+  stopped : (lines : List (List ℕ)) (st : State) (k : Lines) (x : Said Flight) (rest : List ℕ) → Before file room lines rest → linesOf rest ≡ k → Behind lines st
       → Stops room st k x → Means x
   unfolding number
   stopped lines st k x rest w e v ended = early lines st (rw (none-left rest e) at w) v
-  stopped lines st k x rest w e v (endless i) = rw (v .lines) (line-end lines rest i w (no-end rest i e))
+  stopped lines st k x rest w e v (endless i) = rw (v .stands .lines) (line-end lines rest i w (no-end rest i e))
   stopped lines st k x rest w e v (faulty {l = l} {ls = ls} i j b h) =
       let c = cut rest l ls e in
-      rw (v .lines) (in-line lines l (c .rest) i b (rw (c .bytes) at w) (text-is l (c .clear)) (judge-fails lines l st v i j b h))
+      rw (v .stands .lines) (in-line lines l (c .rest) i b (rw (c .bytes) at w) (text-is l (c .clear)) (judge-fails lines l st (v .stands) i j b h))
   stopped lines st k x rest w e v (full {l = l} {ls = ls} m h g) =
       let c = cut rest l ls e in
-      let i : m .flight .lines ≡ length lines + 1 = one-line-more l st m h ∙ ap (λ y. y + 1) (v .lines) in
-      rw i (table-full lines l (c .rest) (rw (c .bytes) at w) (text-is l (c .clear)) (judge-passes lines l st v m h) (omega (arith, w .fits)))
+      let i : m .flight .lines ≡ length lines + 1 = one-line-more l st m h ∙ ap (λ y. y + 1) (v .stands .lines) in
+      rw i (table-full lines l (c .rest) (rw (c .bytes) at w) (text-is l (c .clear)) (judge-passes lines l st (v .stands) m h) (omega (arith, w .fits)))
 
   means : Means (verdict file room)
   unfolding verdict number
@@ -156,7 +137,7 @@ module _ (file : List ℕ) (room : ℕ) where
       go true true p q =
           let c = comes room (linesOf file) start (omega arith) in
           let b = begins (c .lines) file (c .left) (c .parted) in
-          let v = passes-stand [] stands-start (c .passes) in
+          let v = passes-behind [] behind-start (c .passes) in
           let w : Before file room (c .lines) (b .rest) = record {
             least = leb-true _ _ p;
             most = leb-true _ _ q;
@@ -170,36 +151,36 @@ module _ (file : List ℕ) (room : ℕ) where
   refused-there : (n l b : ℕ) → verdict file room ≡ refuses n l b → Refused file room n l b
   refused-there n l b e = rw e at means
 
-  -- where the check stands behind the lines before
-  record Behind (lines : List (List ℕ)) : Type 0 where
+  -- where the check stands when it has gone through the lines before
+  record Gone (lines : List (List ℕ)) : Type 0 where
     state : State
     passes : Passes start lines state
-    stands : Stands lines state
+    behind : Behind lines state
 
-  behind : (lines : List (List ℕ)) (rest : List ℕ) → Before file room lines rest → Behind lines
-  behind lines rest w = let r = stand-passes [] lines start stands-start (w .passes) in record { state = r .0; passes = r .1; stands = r .2 }
+  gone : (lines : List (List ℕ)) (rest : List ℕ) → Before file room lines rest → Gone lines
+  gone lines rest w = let r = behind-passes [] lines start behind-start (w .passes) in record { state = r .0; passes = r .1; behind = r .2 }
 
-  -- the check goes through the lines before, and answers for what is left
-  goes : (lines : List (List ℕ)) (rest : List ℕ) (k : Lines) (x : Said Flight) → Before file room lines rest → linesOf rest ≡ k → (h : Behind lines)
+  -- it answers for what is left
+  goes : (lines : List (List ℕ)) (rest : List ℕ) (k : Lines) (x : Said Flight) → Before file room lines rest → linesOf rest ≡ k → (h : Gone lines)
       → Stops room (h .state) k x → verdict file room ≡ x
   unfolding verdict
   goes lines rest k x w e h s =
       let l : linesOf file ≡ before lines k = ap linesOf (w .bytes) ∙ lines-written lines rest (w .texts) ∙ ap (before lines) e in
-      let n : h .state .flight .lines ≤ room = omega (arith, w .fits, h .stands .lines) in
+      let n : h .state .flight .lines ≤ room = omega (arith, w .fits, h .behind .stands .lines) in
       rw (le-leb _ _ (w .least), le-leb _ _ (w .most), l) (passes-run room k (h .passes) n ∙ stops-run room (h .state) s)
 
-  finish-early : (lines : List (List ℕ)) (st : State) → Stands lines st → (isOpen lines ≡ true) ⊎ (beginning (code "G") lines ≡ 0)
+  finish-early : (lines : List (List ℕ)) (st : State) → Behind lines st → Open lines ⊎ (beginning (code "G") lines ≡ 0)
       → finish st ≡ refuses 16 (st .flight .lines + 1) 0
   unfolding finish number
   finish-early lines st v (inl h) =
-      let i = leb-true 1 (st .points) (ap (leb 1) (v .points) ∙ sym (open-left lines) ∙ h) in
+      let i = opened lines st v .1 h in
       rw (ne-eqb (st .points) 0 (λ z. omega arith))
   finish-early lines st v (inr h) = go (eqb (st .points) 0)
     where
       go : (x : Bool) → need x (refuses 16 (st .flight .lines + 1) 0) (λ u. need (leb 6 (st .stage)) (refuses 16 (st .flight .lines + 1) 0) λ v. says (st .flight))
           ≡ refuses 16 (st .flight .lines + 1) 0
       go true =
-          let i = leb-true (st .stage) 5 (v .staged .unsealed ∙ eq-eqb (beginning (code "G") lines) 0 h) in
+          let i = leb-true (st .stage) 5 (v .stands .staged .unsealed ∙ eq-eqb (beginning (code "G") lines) 0 h) in
           rw (lt-leb 6 (st .stage) (omega arith))
       go false = refl
 
@@ -208,21 +189,21 @@ module _ (file : List ℕ) (room : ℕ) where
   refused-here (empty e) = rw (lt-leb 1 (length file) (omega arith))
   refused-here (too-long h) = rw (le-leb 1 (length file) (omega arith), lt-leb (length file) 16777216 h)
   refused-here (line-end lines rest i w e) =
-      let h = behind lines rest w in
-      rw (← h .stands .lines) (goes lines rest (broken i) _ w (end-none e) h (endless i))
+      let h = gone lines rest w in
+      rw (← h .behind .stands .lines) (goes lines rest (broken i) _ w (end-none e) h (endless i))
   refused-here (in-line lines l rest i b w t f) =
-      let h = behind lines (l ++ (13 ∷ 10 ∷ rest)) w in
-      rw (← h .stands .lines)
+      let h = gone lines (l ++ (13 ∷ 10 ∷ rest)) w in
+      rw (← h .behind .stands .lines)
       (goes lines (l ++ (13 ∷ 10 ∷ rest)) (line l (linesOf rest)) _ w (lines-of-line l rest (is-text l t)) h
-      (faulty i 0 b (fails-judge lines l (h .state) (h .stands) i b f)))
+      (faulty i 0 b (fails-judge lines l (h .state) (h .behind .stands) i b f)))
   refused-here (table-full lines l rest w t p r) =
-      let h = behind lines (l ++ (13 ∷ 10 ∷ rest)) w in
-      let m = passes-judge lines l (h .state) (h .stands) p in
-      let i : m .0 .flight .lines ≡ length lines + 1 = one-line-more l (h .state) (m .0) (m .1) ∙ ap (λ y. y + 1) (h .stands .lines) in
+      let h = gone lines (l ++ (13 ∷ 10 ∷ rest)) w in
+      let m = passes-judge lines l (h .state) (h .behind .stands) p in
+      let i : m .0 .flight .lines ≡ length lines + 1 = one-line-more l (h .state) (m .0) (m .1) ∙ ap (λ y. y + 1) (h .behind .stands .lines) in
       rw (← i) (goes lines (l ++ (13 ∷ 10 ∷ rest)) (line l (linesOf rest)) _ w (lines-of-line l rest (is-text l t)) h (full (m .0) (m .1) (omega arith)))
   refused-here (ends-early lines w e) =
-      let h = behind lines [] w in
-      goes lines [] end _ w refl h ended ∙ finish-early lines (h .state) (h .stands) e ∙ ap (λ x. refuses 16 (x + 1) 0) (h .stands .lines)
+      let h = gone lines [] w in
+      goes lines [] end _ w refl h ended ∙ finish-early lines (h .state) (h .behind) e ∙ ap (λ x. refuses 16 (x + 1) 0) (h .behind .stands .lines)
 
 -- what each refusal of a file means
 pub refused-first : (file : List ℕ) (room n l b : ℕ) → (verdict file room ≡ refuses n l b) ↔ Refused file room n l b

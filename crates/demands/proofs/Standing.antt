@@ -63,7 +63,7 @@ k-time layout l t e =
     let i : x .0 ≡ t = cc in
     x .1 ∙ ap some i
 
-head-points : (h : Head) (l : List ℕ) → IsHeadLine h l → pointsOf l ≡ h .turns + 4
+pub head-points : (h : Head) (l : List ℕ) → IsHeadLine h l → pointsOf l ≡ h .turns + 4
 head-points h l w = ap (λ x. x + 4) (there (numberAt l 23 2) (head-there l h (head-reads h l w) .at-turns))
 
 pub entry-is : (l : List ℕ) (at start : ℕ) (before : Layout) (e : Entry) → entryAt l at start before ≡ says e → entryOf l at ≡ e
@@ -283,7 +283,7 @@ and-false : (t : Bool) → false ≡ (t && false)
 and-false true = refl
 and-false false = refl
 
-or-true : (t : Bool) → true ≡ (t || true)
+pub or-true : (t : Bool) → true ≡ (t || true)
 or-true true = refl
 or-true false = refl
 

@@ -151,6 +151,7 @@ fixChecks l =
     ∷ check 9 31 (isThere (altitudeAt l (byte 31)))
     ∷ []
 
+-- 7 to 14 of a line of this kind that comes after the lines ls
 abbrev pub kindChecks : Kind → List (List ℕ) → List ℕ → List Check
 -- "A 7 to 255"; "A: 3 code characters for the maker, 3 for the serial, then text."
 kindChecks kind.A ls l = shapeChecks 7 255 false l ++ (check 9 2 (codesAt l (byte 2) 3) ∷ check 9 5 (codesAt l (byte 5) 3) ∷ [])

@@ -1,13 +1,12 @@
 -- Document 01, 'Refusal numbers': what each refusal of a file means, told by its lines, apart from how the file is checked.
 use Prim.Native.Nat.{ℕ, _+_, _≤_, _<_}
 use Prim.Native.Char.{code}
-use mathlib.Core.Bool.{true}
 use mathlib.Core.List.{List, [], _∷_, _++_}
 use mathlib.Core.Logic.{_⊎_}
 use mathlib.Core.Path.{_≡_}
 use lib.ListN.{length, getD}
 use Rattle.demands.specs.Grammar.{Each, IsText, written, beginning}
-use Rattle.demands.specs.Coming.{isOpen}
+use Rattle.demands.specs.Coming.{Open}
 use Rattle.demands.specs.Checks.{AllPass, FailsFirst, checksOf}
 
 -- each line passes all its checks after those before it: these, and the lines between
@@ -46,5 +45,5 @@ pub data Refused (file : List ℕ) (room : ℕ) : ℕ → ℕ → ℕ → Type 0
   table-full : (lines : List (List ℕ)) (l rest : List ℕ) → Before file room lines (l ++ (13 ∷ 10 ∷ rest)) → IsText l
       → AllPass (checksOf lines l) → length lines ≡ room → Refused file room 15 (length lines + 1) 0
   -- "16 ENDS_EARLY: end inside a declaration or without G; lines + 1, 0"
-  ends-early : (lines : List (List ℕ)) → Before file room lines [] → (isOpen lines ≡ true) ⊎ (beginning (code "G") lines ≡ 0)
+  ends-early : (lines : List (List ℕ)) → Before file room lines [] → Open lines ⊎ (beginning (code "G") lines ≡ 0)
       → Refused file room 16 (length lines + 1) 0
