@@ -24,8 +24,9 @@ use Rattle.rules.specs.declared.State.{State}
 use Rattle.laws.proofs.Chains.{surely}
 use Rattle.laws.proofs.Counted.{isB, isK, OneMore, judge-counts}
 use Rattle.demands.specs.Grammar.{Each, IsText, OrderFrom, InOrder, IsALine, IsDateLine, AtMostOne, Parts, linesIn, Keeps, written, Meets, beginning, flightOf}
+use Rattle.demands.specs.FieldTexts.{Letter}
 use Rattle.demands.proofs.Laws.{said-some}
-use Rattle.demands.proofs.Leading.{Letter, letter, Part, Leads, first, second, further, fixing, noting, flying, sealing, remarking, sound-start, judge-leads, leads-judge}
+use Rattle.demands.proofs.Leading.{letter, Part, Leads, first, second, further, fixing, noting, flying, sealing, remarking, sound-start, judge-leads, leads-judge}
 use Rattle.demands.proofs.Leading as part
 use Rattle.demands.proofs.Passing.{Passes, done, next, passes-join, lines-passed, Accepts, accepted-passes}
 use Rattle.demands.proofs.Sections.{Fresh, passes-above, Section, split, above-end, section-passes, headers-there, headers-here, fixes-there, fixes-here, notes-there, notes-here, body-same, body-stage, body-there, body-here, seal-there, sealed, seal-here, remarks-there, remarked, remarks-here}

@@ -30,10 +30,11 @@ use Rattle.trips.proofs.Laws.{false-true}
 use Rattle.demands.specs.Grammar.{laid}
 use Rattle.demands.specs.Coming.{orZero, isOpen, entryOf, entriesTold, endsAt, lastTime, isInTime}
 use Rattle.demands.specs.Checks.{Check, check, AllPass, FailsFirst, isThere, oneEach, shapeChecks, columnChecks, timeCheck, pairChecks, hasCode, entryChecks, layoutChecks, dateChecks, headerChecks, headChecks, pointChecks, sizeChecks, fixChecks, kindChecks, checksOf}
+use Rattle.demands.specs.FieldTexts.{Letter}
 use Rattle.demands.proofs.Laws.{each-join, shape-there}
 use Rattle.demands.proofs.Carried.{e-inv, f-inv}
 use Rattle.demands.proofs.Entries.{entries-laid, with-laid}
-use Rattle.demands.proofs.Leading.{Letter, letter}
+use Rattle.demands.proofs.Leading.{letter}
 use Rattle.demands.proofs.Standing.{there, b-time, k-time, entry-is, open-left, Stands}
 use Rattle.demands.proofs.Ordered.{order-told}
 

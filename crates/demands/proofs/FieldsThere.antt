@@ -27,6 +27,7 @@ use Rattle.demands.specs.Grammar.{Each}
 use Rattle.demands.specs.Checks.{isThere}
 use Rattle.demands.specs.FieldTexts.{Stood, Field, Codes, FieldsTold}
 use Rattle.demands.proofs.Entries.{code-there, code-here}
+use Rattle.demands.proofs.Leading.{letter}
 
 -- ---- a field that reads both ways
 
@@ -131,6 +132,7 @@ mark-field l = (out, in-again)
 
 pub fields-told : FieldsTold
 fields-told = record {
+  kind = letter;
   time = trip-field _ _ _ 6 time-trip;
   date = trip-field _ _ _ 6 date-trip;
   planned = trip-field _ _ _ 6 planned-trip;
