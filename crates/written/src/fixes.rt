@@ -65,9 +65,11 @@ fn marked(validity: u8) {
 }
 
 fn heights(pressure: i32, gnss: i32) {
+    let by_pressure = Height { metres: pressure };
+    let by_gnss = Height { metres: gnss };
     let mut f = good();
-    f.pressure = Height { metres: pressure };
-    f.gnss = Height { metres: gnss };
+    f.pressure = by_pressure;
+    f.gnss = by_gnss;
     print(f, b"012", one(36, 38), 0);
 }
 
