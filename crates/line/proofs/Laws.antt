@@ -8,9 +8,11 @@ use lib.Seq.{drop-cons}
 use Rattle.rules.specs.Chars.{isCode}
 use Rattle.rules.specs.Lines.{badPair, shaped}
 use Rattle.rules.specs.Promises.{foundTold}
-use Rattle.rules.specs.Refusals.{outcomeTold}
+use Rattle.rules.specs.Refusals.{number, Said, refuses, refusal, outcomeTold}
 use Rattle.rules.specs.declared.Found.{Found}
 use Rattle.rules.specs.declared.Found.the-variants as found
+use Rattle.rules.specs.declared.Reason.the-variants.{Form}
+use Rattle.rules.specs.declared.Refusal.{Refusal}
 use Rattle.rules.specs.declared.Outcome.{Outcome}
 use Rattle.rules.specs.declared.Outcome.the-variants as outcome
 use Rattle.shape.proofs.Laws.{accepted-most}
@@ -23,7 +25,7 @@ use Rattle.chars.proofs.Laws.{and-true, and-false}
 use Rattle.rules.specs.Choice.{given}
 use Rattle.rules.specs.declared.Planned.{Planned}
 use Rattle.rules.proofs.Links.{by-some, by-none, need-true, need-false, cond-eq, cond-ne, on-is, number-value, number-none, time-secs, time-none, day-on, day-none, place-is, place-none, altitude-metres, altitude-none, outcome-accepted, outcome-refused, found-at, found-nothing, fix-is, fix-refused}
-use Rattle.line.specs.Parts.{plannedTold}
+use Rattle.line.specs.Parts.{formAt, plannedTold}
 use Rattle.line.specs.declared.PlannedRead.{PlannedRead}
 use Rattle.line.specs.declared.PlannedRead.the-variants.{Is, NoPlan}
 
@@ -34,6 +36,11 @@ planned-is n r v x a f e g h = by-some plannedTold n r x a f e (Is v) v refl g h
 pub planned-none : {B : Type 0} (n : Option Planned) (r : PlannedRead) (x a : B) (f : Planned → B) → plannedTold r ≡ n → r ≡ NoPlan → x ≡ a → x ≡ given n a f
 unfolding plannedTold
 planned-none n r x a f e g h = by-none plannedTold n r x a f e NoPlan refl g h
+
+-- ---- a field that breaks its rule
+
+pub refuses-form : {A : Type 0} (w : Refusal) (first : ℕ) → w ≡ formAt first → _≡_ {A = Said A} (refusal w) (refuses (number Form) 0 first)
+refuses-form w first e = rw e
 
 -- r is the byte that stands there
 pub byte-is : (m n r : ℕ) → r ≡ m → r ≡ n → true ≡ eqb m n
@@ -93,7 +100,7 @@ pair-within l i least inH r t e g s h =
     let f : badPair 7 (drop 7 l) ≡ some i = rw (← e, g) in
     omega (arith, pair-below 7 i (drop 7 l) f, length-drop 7 l, accepted-most least 255 inH l t s h)
 
-pub ruleset lines = (not-true, not-false, need-true, need-false, on-is, time-secs, time-none, outcome-accepted, outcome-refused)
+pub ruleset lines = (refuses-form, not-true, not-false, need-true, need-false, on-is, time-secs, time-none, outcome-accepted, outcome-refused)
 
 pub ruleset pairs = (lines, found-at, found-nothing)
 
@@ -101,11 +108,11 @@ pub ruleset days = (lines, day-on, day-none)
 
 pub ruleset plans = (cond-eq, cond-ne, number-value, number-none, day-on, day-none)
 
-pub ruleset heads = (number-value, number-none, time-secs, time-none, day-on, day-none, planned-is, planned-none)
+pub ruleset heads = (refuses-form, number-value, number-none, time-secs, time-none, day-on, day-none, planned-is, planned-none)
 
-pub ruleset points = (outcome-accepted, outcome-refused, place-is, place-none)
+pub ruleset points = (refuses-form, outcome-accepted, outcome-refused, place-is, place-none)
 
-pub ruleset fixes = (not-true, not-false, need-true, need-false, on-is, time-secs, time-none, place-is, place-none, altitude-metres, altitude-none)
+pub ruleset fixes = (refuses-form, not-true, not-false, need-true, need-false, on-is, time-secs, time-none, place-is, place-none, altitude-metres, altitude-none)
 
 pub ruleset columned = (outcome-accepted, outcome-refused)
 

@@ -8,7 +8,7 @@ ghost use Rattle.rules.specs.Layouts.{firstStart, columns};
 ghost use Rattle.rules.specs.Refusals.{outcomeTold, andThen, says};
 ghost use Rattle.rules.specs.Reads.{headTold, fixTold};
 ghost use Rattle.rules.specs.Promises.{RecorderChecked, DateLineChecked, HeaderChecked, HeadChecked, PointChecked, DifferentialChecked, EventChecked, SatellitesChecked, FixChecked, NoteChecked, foundTold};
-ghost use Rattle.line.specs.Parts.{plannedTold};
+ghost use Rattle.line.specs.Parts.{formAt, plannedTold};
 use rules::Altitude;
 use rules::DateRead;
 use rules::Day;
@@ -30,6 +30,17 @@ use rules::Refusal;
 use rules::Time;
 use rules::TimeRead;
 
+// FORM at a field's first byte.
+fn form(byte: u32) -> Refusal
+    ensures { λ r. ⌜ r ≡ formAt byte ⌝ }
+{
+    Refusal {
+        reason: Reason::Form,
+        line: 0,
+        byte,
+    }
+}
+
 // An A line: 3 code characters for the maker, 3 for the serial, then text. Refusals: LENGTH, CHARACTER, FORM at 2 or 5.
 pub fn recorder(line: &[u8]) -> Outcome
     ensures { λ r. ⌜ RecorderChecked (now (line .entry)) r ⌝ }
@@ -38,18 +49,10 @@ pub fn recorder(line: &[u8]) -> Outcome
         return Outcome::Refused(r);
     }
     if !chars::codes_at(line, 1, 3) {
-        return Outcome::Refused(Refusal {
-            reason: Reason::Form,
-            line: 0,
-            byte: 2,
-        });
+        return Outcome::Refused(form(2));
     }
     if !chars::codes_at(line, 4, 3) {
-        return Outcome::Refused(Refusal {
-            reason: Reason::Form,
-            line: 0,
-            byte: 5,
-        });
+        return Outcome::Refused(form(5));
     }
     Outcome::Accepted
 }
@@ -62,18 +65,10 @@ pub fn header(line: &[u8]) -> Outcome
         return Outcome::Refused(r);
     }
     if !chars::is_either(chars::byte(line, 1), b'F', b'O') {
-        return Outcome::Refused(Refusal {
-            reason: Reason::Form,
-            line: 0,
-            byte: 2,
-        });
+        return Outcome::Refused(form(2));
     }
     if !chars::codes_at(line, 2, 3) {
-        return Outcome::Refused(Refusal {
-            reason: Reason::Form,
-            line: 0,
-            byte: 3,
-        });
+        return Outcome::Refused(form(3));
     }
     Outcome::Accepted
 }
@@ -86,18 +81,10 @@ pub fn differential(line: &[u8]) -> Outcome
         return Outcome::Refused(r);
     }
     if !chars::is_either(chars::byte(line, 1), b'1', b'2') {
-        return Outcome::Refused(Refusal {
-            reason: Reason::Form,
-            line: 0,
-            byte: 2,
-        });
+        return Outcome::Refused(form(2));
     }
     if !chars::codes_at(line, 2, 4) {
-        return Outcome::Refused(Refusal {
-            reason: Reason::Form,
-            line: 0,
-            byte: 3,
-        });
+        return Outcome::Refused(form(3));
     }
     Outcome::Accepted
 }
@@ -110,18 +97,10 @@ pub fn event(line: &[u8]) -> TimeRead
         return TimeRead::Refused(r);
     }
     let Time::Secs(t) = field::time_at(line, 1) else {
-        return TimeRead::Refused(Refusal {
-            reason: Reason::Form,
-            line: 0,
-            byte: 2,
-        });
+        return TimeRead::Refused(form(2));
     };
     if !chars::codes_at(line, 7, 3) {
-        return TimeRead::Refused(Refusal {
-            reason: Reason::Form,
-            line: 0,
-            byte: 8,
-        });
+        return TimeRead::Refused(form(8));
     }
     TimeRead::Secs(t)
 }
@@ -150,18 +129,10 @@ pub fn date_line(line: &[u8]) -> DateRead
         return DateRead::Refused(r);
     }
     if !is_date_mark(line) {
-        return DateRead::Refused(Refusal {
-            reason: Reason::Form,
-            line: 0,
-            byte: 2,
-        });
+        return DateRead::Refused(form(2));
     }
     let Day::On(d) = field::date_at(line, 5) else {
-        return DateRead::Refused(Refusal {
-            reason: Reason::Form,
-            line: 0,
-            byte: 6,
-        });
+        return DateRead::Refused(form(6));
     };
     DateRead::On(d)
 }
@@ -193,39 +164,19 @@ fn head_fields(line: &[u8]) -> HeadRead
     ensures { λ r. ⌜ headTold r ≡ headFields (now (line .entry)) ⌝ }
 {
     let Day::On(declared) = field::date_at(line, 1) else {
-        return HeadRead::Refused(Refusal {
-            reason: Reason::Form,
-            line: 0,
-            byte: 2,
-        });
+        return HeadRead::Refused(form(2));
     };
     let Time::Secs(time) = field::time_at(line, 7) else {
-        return HeadRead::Refused(Refusal {
-            reason: Reason::Form,
-            line: 0,
-            byte: 8,
-        });
+        return HeadRead::Refused(form(8));
     };
     let PlannedRead::Is(flight) = planned_at(line, 13) else {
-        return HeadRead::Refused(Refusal {
-            reason: Reason::Form,
-            line: 0,
-            byte: 14,
-        });
+        return HeadRead::Refused(form(14));
     };
     let Number::Value(task) = number::digits(line, 19, 4) else {
-        return HeadRead::Refused(Refusal {
-            reason: Reason::Form,
-            line: 0,
-            byte: 20,
-        });
+        return HeadRead::Refused(form(20));
     };
     let Number::Value(turns) = number::digits(line, 23, 2) else {
-        return HeadRead::Refused(Refusal {
-            reason: Reason::Form,
-            line: 0,
-            byte: 24,
-        });
+        return HeadRead::Refused(form(24));
     };
     HeadRead::Is(Head {
         declared,
@@ -254,18 +205,10 @@ pub fn point_line(line: &[u8]) -> PointRead
         return PointRead::Refused(r);
     }
     let Place::Is(lat) = field::latitude_at(line, 1) else {
-        return PointRead::Refused(Refusal {
-            reason: Reason::Form,
-            line: 0,
-            byte: 2,
-        });
+        return PointRead::Refused(form(2));
     };
     let Place::Is(lon) = field::longitude_at(line, 9) else {
-        return PointRead::Refused(Refusal {
-            reason: Reason::Form,
-            line: 0,
-            byte: 10,
-        });
+        return PointRead::Refused(form(10));
     };
     PointRead::Is(Point { lat, lon })
 }
@@ -275,47 +218,23 @@ fn fix_fields(line: &[u8]) -> FixRead
     ensures { λ r. ⌜ fixTold r ≡ fixFields (now (line .entry)) ⌝ }
 {
     let Time::Secs(time) = field::time_at(line, 1) else {
-        return FixRead::Refused(Refusal {
-            reason: Reason::Form,
-            line: 0,
-            byte: 2,
-        });
+        return FixRead::Refused(form(2));
     };
     let Place::Is(lat) = field::latitude_at(line, 7) else {
-        return FixRead::Refused(Refusal {
-            reason: Reason::Form,
-            line: 0,
-            byte: 8,
-        });
+        return FixRead::Refused(form(8));
     };
     let Place::Is(lon) = field::longitude_at(line, 15) else {
-        return FixRead::Refused(Refusal {
-            reason: Reason::Form,
-            line: 0,
-            byte: 16,
-        });
+        return FixRead::Refused(form(16));
     };
     let validity = chars::byte(line, 24);
     if !chars::is_either(validity, b'A', b'V') {
-        return FixRead::Refused(Refusal {
-            reason: Reason::Form,
-            line: 0,
-            byte: 25,
-        });
+        return FixRead::Refused(form(25));
     }
     let Altitude::Metres(pressure) = field::altitude_at(line, 25) else {
-        return FixRead::Refused(Refusal {
-            reason: Reason::Form,
-            line: 0,
-            byte: 26,
-        });
+        return FixRead::Refused(form(26));
     };
     let Altitude::Metres(gnss) = field::altitude_at(line, 30) else {
-        return FixRead::Refused(Refusal {
-            reason: Reason::Form,
-            line: 0,
-            byte: 31,
-        });
+        return FixRead::Refused(form(31));
     };
     FixRead::Is(Fix {
         time,
@@ -366,25 +285,13 @@ pub fn satellites(line: &[u8]) -> TimeRead
         return TimeRead::Refused(r);
     }
     let Time::Secs(t) = field::time_at(line, 1) else {
-        return TimeRead::Refused(Refusal {
-            reason: Reason::Form,
-            line: 0,
-            byte: 2,
-        });
+        return TimeRead::Refused(form(2));
     };
     if !is_paired(line) {
-        return TimeRead::Refused(Refusal {
-            reason: Reason::Form,
-            line: 0,
-            byte: 8,
-        });
+        return TimeRead::Refused(form(8));
     }
     if let Found::At(i) = bad_pair(line) {
-        return TimeRead::Refused(Refusal {
-            reason: Reason::Form,
-            line: 0,
-            byte: (i + 1) as u32,
-        });
+        return TimeRead::Refused(form((i + 1) as u32));
     }
     TimeRead::Secs(t)
 }
@@ -428,11 +335,7 @@ pub fn note_line(line: &[u8], layout: Layout) -> TimeRead
         return TimeRead::Refused(r);
     }
     let Time::Secs(t) = field::time_at(line, 1) else {
-        return TimeRead::Refused(Refusal {
-            reason: Reason::Form,
-            line: 0,
-            byte: 2,
-        });
+        return TimeRead::Refused(form(2));
     };
     if let Outcome::Refused(r) = column::columns(line, layout) {
         return TimeRead::Refused(r);

@@ -18,6 +18,7 @@ note-line-spec =
     (λ c κs. search needs)
     (λ c. search needs)
     (λ c. search needs)
+    (λ c κs. search needs)
     (λ c. search lines depth 12)
     (λ c κs. search needs)
     (λ c. search needs)
