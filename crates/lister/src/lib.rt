@@ -65,6 +65,12 @@ fn print_lines(file: &[u8], table: &[u32], lines: u32, layout: Layout) {
     }
 }
 
+// The lines of a file that is accepted, by the table and the flight of its check: OK, and each fix with its columns.
+pub fn print_accepted(file: &[u8], table: &[u32], flight: Flight) {
+    print_ok(flight);
+    print_lines(file, table, flight.lines, flight.fixes);
+}
+
 // Lists a file of at most 65,536 bytes; a longer one is INPUT_OVER.
 pub fn list(file: &[u8]) {
     if 65536 < file.len() {
@@ -81,9 +87,6 @@ pub fn list(file: &[u8]) {
     let flight = checked.flight;
     match outcome {
         Outcome::Refused(why) => print_refusal(why),
-        Outcome::Accepted => {
-            print_ok(flight);
-            print_lines(file, &table, flight.lines, flight.fixes);
-        }
+        Outcome::Accepted => print_accepted(file, &table, flight),
     }
 }
