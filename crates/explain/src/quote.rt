@@ -37,10 +37,10 @@ fn put_spaces(out: &mut [u8], at: usize, n: usize) -> usize
     ensures { λ r. ⌜ Fills (now (out .entry)) at (replicate n 32) r (now (out .exit)) ⌝ }
 {
     let mut next = at;
-    let mut i = 0;
-    while i < n {
+    let mut left = n;
+    while 0 < left {
         next = put_byte(out, next, b' ');
-        i += 1;
+        left -= 1;
     }
     next
 }

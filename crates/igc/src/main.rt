@@ -17,6 +17,15 @@ fn write(text: &[u8]) {
     io::write_all(STDOUT_FILENO, text);
 }
 
+// An argument that `os` hands out empty has no bytes, or more than a path can have.
+fn write_name(name: &[u8]) {
+    if name.len() == 0 {
+        write(b"(no name, or one over 4,096 bytes)");
+        return;
+    }
+    write(name);
+}
+
 fn explain_refusal(file: &[u8], why: Refusal) {
     let mut out = [0u8; 400];
     let n = explain::refused(file, why, &mut out);
@@ -46,7 +55,7 @@ fn list_open(fd: i32, name: &[u8]) {
     let got = io::read_full(fd, &mut input);
     if got < 16777217 {
         if !is_at_end(fd) {
-            write(name);
+            write_name(name);
             write(b": cannot be read to its end\n");
             return;
         }
@@ -57,7 +66,7 @@ fn list_open(fd: i32, name: &[u8]) {
 fn list_named(name: &[u8]) {
     let fd = os::open_read(name);
     if fd < 0 {
-        write(name);
+        write_name(name);
         write(b": cannot be opened\n");
         return;
     }
@@ -71,7 +80,7 @@ fn list_argument(i: usize, several: bool) {
     let n = os::arg(i, &mut name);
     if several {
         write(b"== ");
-        write(&name[..n]);
+        write_name(&name[..n]);
         write(b"\n");
     }
     list_named(&name[..n]);
