@@ -1,4 +1,5 @@
--- What a person reads of a refusal: a line with its number and name, the line and the byte, and when the number is given; the text of that line; a caret under the byte.
+-- What a person reads of a refusal, by document 01's table of 'Refusal numbers': a line with its number and name, the line and the byte, and when the number is given;
+-- the text of that line; a caret under the byte.
 use Prim.Native.Nat.{ℕ, _+_, _-_}
 use Prim.Native.Char.{code}
 use mathlib.Core.Bool.{_&&_, cond}
@@ -20,7 +21,7 @@ use Rattle.explain.specs.Faulty.{textOf}
 unfoldable pub visible : ℕ → ℕ
 visible b = cond (leb 32 b && leb b 126) b (code "?")
 
--- How many bytes of the line stand before those shown. A byte among the first 80 is shown with these; of a longer line 40 bytes before the byte, the byte, and 39 after it.
+-- How many bytes of the line stand before those shown. A byte among the first 80 is shown with these; one further on with 40 bytes before it and 39 after it.
 unfoldable pub before : ℕ → ℕ
 before b = cond (leb b 80) 0 (b - 41)
 

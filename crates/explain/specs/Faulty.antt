@@ -7,8 +7,8 @@ use lib.Dec.{eqb}
 use lib.ListN.{length, take, drop}
 use Rattle.rules.specs.Split.{Lines, end, broken, line, linesOf}
 
--- "first CR or LF is not CR LF, or none comes; line, one past the text before it": the text of the line behind k lines, of a file and the lines that it is cut into. A line
--- that is broken has the text before its break; where no line is left there is no text.
+-- The text of the line behind k lines, of a file and the lines that it is cut into. A line that is broken, "first CR or LF is not CR LF, or none comes", has the text
+-- before its break; where no line is left, as for "lines + 1" (16), there is no text.
 unfoldable pub textBehind : ℕ → Lines → List ℕ → List ℕ
 textBehind k end file = []
 textBehind zero (broken n) file = take n file
@@ -16,7 +16,7 @@ textBehind (suc k) (broken n) file = []
 textBehind zero (line t ls) file = t
 textBehind (suc k) (line t ls) file = textBehind k ls (drop (length t + 2) file)
 
--- the text of line n of a file, lines counted from 1
+-- the text of line n of a file, lines counted from 1; 0 is none
 unfoldable pub textOf : List ℕ → ℕ → List ℕ
 textOf file n = cond (eqb n 0) [] (textBehind (n - 1) (linesOf file) file)
 
