@@ -58,8 +58,8 @@ pub nothing : (out : List ℕ) (at : ℕ) → Fills out at [] at out
 nothing out at = record { is = λ h. (refl, omega arith) }
 
 -- the pieces are a whole line
-pub whole : {out after text : List ℕ} {r : ℕ} → length out ≡ 288 → length text ≤ 288 → Fills out 0 text r after → Shown text out r after
-whole {out} {after} {text} {r} e h f =
+pub whole : {out after text : List ℕ} {n r : ℕ} → length out ≡ n → length text ≤ n → Fills out 0 text r after → Shown text out r after
+whole {out} {after} {text} {n} {r} e h f =
     let room : 0 + length text ≤ length out = omega arith in
     let g = rw zero-add at (f .is room) in
     record { bytes = g .0 ∙ rw zero-add at (sets-eq text out 0 room); count = g .1 }
@@ -175,7 +175,7 @@ decimal-room (suc k) n = by (ltb n 10) (decimal-room k (n / 10))
     by true h = omega arith
     by false h = simp length-append (omega arith)
 
-number-room : (n : ℕ) → length (decimal n) ≤ 20
+pub number-room : (n : ℕ) → length (decimal n) ≤ 20
 unfolding decimal
 number-room n = decimal-room 20 n
 

@@ -10,7 +10,7 @@ ghost use Rattle.show.specs.Lines.{Fills};
 use rules::Height;
 
 // One byte.
-pub(crate) fn put_byte(out: &mut [u8], at: usize, b: u8) -> usize
+pub fn put_byte(out: &mut [u8], at: usize, b: u8) -> usize
     ensures { λ r. ⌜ Fills (now (out .entry)) at (b ∷ []) r (now (out .exit)) ⌝ }
 {
     if at < out.len() {
@@ -21,7 +21,7 @@ pub(crate) fn put_byte(out: &mut [u8], at: usize, b: u8) -> usize
 }
 
 // A text.
-pub(crate) fn put_text(out: &mut [u8], at: usize, text: &[u8]) -> usize
+pub fn put_text(out: &mut [u8], at: usize, text: &[u8]) -> usize
     ensures { λ r. ⌜ Fills (now (out .entry)) at (now (text .entry)) r (now (out .exit)) ⌝ }
 {
     let mut next = at;
@@ -50,7 +50,7 @@ pub(crate) fn put_decimal(out: &mut [u8], at: usize, n: u64) -> usize
 }
 
 // A space and a number.
-pub(crate) fn put_shown(out: &mut [u8], at: usize, n: u64) -> usize
+pub fn put_shown(out: &mut [u8], at: usize, n: u64) -> usize
     ensures { λ r. ⌜ Fills (now (out .entry)) at (shown n) r (now (out .exit)) ⌝ }
 {
     let next = put_byte(out, at, b' ');

@@ -1,0 +1,40 @@
+-- Document 01, 'Lines': the text of the line that a refusal names.
+use Prim.Native.Nat.{ℕ, zero, suc, _+_, _-_, _≤_}
+use mathlib.Core.Bool.{Bool, _||_, cond}
+use mathlib.Core.List.{List, [], _∷_}
+use mathlib.Core.Path.{_≡_}
+use lib.Dec.{eqb}
+use lib.ListN.{length, take, drop}
+use Rattle.rules.specs.Split.{Lines, end, broken, line, linesOf}
+
+-- The text of the line behind k lines, of a file and the lines that it is cut into. A line that is broken, "first CR or LF is not CR LF, or none comes", has the text
+-- before its break; where no line is left, as for "lines + 1" (16), there is no text.
+unfoldable pub textBehind : ℕ → Lines → List ℕ → List ℕ
+textBehind k end file = []
+textBehind zero (broken n) file = take n file
+textBehind (suc k) (broken n) file = []
+textBehind zero (line t ls) file = t
+textBehind (suc k) (line t ls) file = textBehind k ls (drop (length t + 2) file)
+
+-- the text of line n of a file, lines counted from 1; 0 is none
+unfoldable pub textOf : List ℕ → ℕ → List ℕ
+textOf file n = cond (eqb n 0) [] (textBehind (n - 1) (linesOf file) file)
+
+abbrev pub LineTextGiven : List ℕ → ℕ → List ℕ → Type 0
+LineTextGiven file n r = r ≡ textOf file n
+
+-- ---- what the functions behind it find
+
+-- CR or LF
+unfoldable pub isEnd : ℕ → Bool
+isEnd b = eqb b 13 || eqb b 10
+
+-- how many bytes stand before the first CR or LF
+unfoldable pub textLength : List ℕ → ℕ
+textLength [] = 0
+textLength (b ∷ l) = cond (isEnd b) 0 (suc (textLength l))
+
+-- r is a place in the file from which the line behind k lines is the one that stands behind k more lines from `at` on
+pub record Onward (file : List ℕ) (at more r : ℕ) : Type 0 where
+  pub within : r ≤ length file
+  pub same : (k : ℕ) → textBehind (more + k) (linesOf (drop at file)) (drop at file) ≡ textBehind k (linesOf (drop r file)) (drop r file)
