@@ -4,7 +4,7 @@ use Prim.Native.Nat.{ℕ, zero, suc, _+_, _*_, _/_, _%_, _≤_}
 use Prim.Native.Char.{code}
 use mathlib.Core.Bool.{true, false, _&&_}
 use mathlib.Core.List.{List, [], _∷_, _++_, append-nil}
-use mathlib.Core.Path.{_≡_, refl, sym, _∙_, ap}
+use mathlib.Core.Path.{_≡_, refl, sym, _∙_, ap, subst}
 use mathlib.Core.Logic.{_↔_}
 use native.Mathlib.Omega.{arith}
 use borrow.Author.Tests.{le-leb, eqb-true, eq-eqb, ne-eqb}
@@ -170,22 +170,17 @@ module _ (f : Family) (layout : Layout) where
         slots = a .1;
       }
 
-  -- read, then written: a line that reads as a layout is that layout's text
-  pub layout-read-written : (l : List ℕ) → layoutSaid f l ≡ says layout → l ≡ layoutText f layout
+  reads-text : (l : List ℕ) → layoutSaid f l ≡ says layout → l ≡ layoutText f layout
   unfolding layoutText
-  layout-read-written l e =
+  reads-text l e =
       let w = reads-line l e in
       w .text
       ∙ ap (λ x. layoutLetter f ∷ (digitsOf 2 (length (w .entries)) ++ entryTexts x)) (sym (entries-laid (w .entries)))
       ∙ ap (λ x. layoutLetter f ∷ (digitsOf 2 (x .count) ++ entryTexts (entriesOf x))) (sym (w .slots))
 
-  -- written, then read
-  pub layout-written-read : allowed (firstStart f) layout ≡ true → length (layout .entries) ≡ 13 → layoutSaid f (layoutText f layout) ≡ says layout
-  layout-written-read g n = line-reads (layoutText f layout) (own-line g n)
-
-  -- allowed, of 13 slots, exactly when some line reads as it
-  pub layout-exactly : ((allowed (firstStart f) layout ≡ true) × (length (layout .entries) ≡ 13)) ↔ ((l : List ℕ) × (layoutSaid f l ≡ says layout))
-  layout-exactly = (
-    λ g. (layoutText f layout, layout-written-read (g .0) (g .1)),
-    λ t. layout-allowed f layout (t .0) (reads-line (t .0) (t .1)),
+  -- of 13 slots: a line reads as the layout exactly when it is the layout's text and the layout is allowed
+  pub layout-exactly : (l : List ℕ) → length (layout .entries) ≡ 13 → (layoutSaid f l ≡ says layout) ↔ ((l ≡ layoutText f layout) × (allowed (firstStart f) layout ≡ true))
+  layout-exactly l n = (
+    λ e. (reads-text l e, layout-allowed f layout l (reads-line l e) .0),
+    λ h. line-reads l (subst (IsLayoutLine f layout) (sym (h .0)) (own-line (h .1) n)),
   )

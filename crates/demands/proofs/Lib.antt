@@ -11,4 +11,5 @@ pub mod Faulty
 pub mod Refusing
 pub mod Columns
 pub mod Reading
+pub mod Writers
 pub mod Demands
