@@ -8,8 +8,7 @@ use mathlib.Core.Path.{_≡_, refl, ap}
 use native.Mathlib.Omega.{arith}
 use lib.ListN.{length}
 use Rattle.rules.specs.Refusals.{Said, says, refuses}
-use Rattle.rules.specs.Split.{linesOf}
-use Rattle.rules.specs.Files.{verdict, goodLines}
+use Rattle.rules.specs.Files.{verdict}
 use Rattle.rules.specs.Layouts.{isSaid, firstStart, allowed, emptyLayout}
 use Rattle.rules.specs.Reads.{fixSaid, noteSaid, headSaid, pointSaid, layoutSaid}
 use Rattle.rules.specs.Writes.{fixText, noteText, headText, pointText, layoutText, isFix, isNote, isHead, isPoint}
@@ -17,8 +16,6 @@ use Rattle.rules.specs.declared.Layout.{Layout}
 use Rattle.rules.specs.declared.Family.{Family}
 use Rattle.rules.specs.declared.Flight.{Flight}
 use Rattle.rules.proofs.Damaged.{fiveLines, verdict-of-five}
-use Rattle.laws.proofs.Splitting.{Whole, Steps, steps, total, lengths-total, textsOf}
-use Rattle.laws.proofs.Counted.{Numbered, line-by-number, accepted-whole}
 use Rattle.trips.specs.Limits.{goodFix, goodNote, goodHead, goodPoint}
 use Rattle.trips.proofs.Fixes.{fix-trip, fix-good}
 use Rattle.trips.proofs.Notes.{note-trip, note-good}
@@ -30,10 +27,8 @@ use Rattle.demands.specs.Readings.{Readable}
 use Rattle.demands.specs.BothWays.{Slotted, Reading, BothWays}
 use Rattle.demands.proofs.LayoutLines.{layout-exactly}
 use Rattle.demands.proofs.Writers.{both-ways, trip-ways, nothing-good}
-use Rattle.demands.proofs.Accepted.{one-reading}
 use Rattle.demands.proofs.Accepted as acceptance
 use Rattle.demands.proofs.Refusing as refusing
-use Rattle.demands.proofs.Reading.{lines-are}
 use Rattle.demands.proofs.Reading as reading
 
 -- ---- the verdict
@@ -51,33 +46,19 @@ module _ (file : List ℕ) (room : ℕ) where
   pub refused-first : (n l b : ℕ) → (verdict file room ≡ refuses n l b) ↔ Refused file room n l b
   refused-first n l b = refusing.refused-first file room n l b
 
--- the grammar says one thing of a file, over the lines that it is cut into
-pub said-once : (file : List ℕ) (m n : Meets file) → (flightOf m ≡ flightOf n) × (textsOf (linesOf file) ≡ linesIn (m .parts))
-said-once file m n = (one-reading file m n, lines-are file m)
+-- the grammar says one thing of a file
+pub said-once : (file : List ℕ) (m n : Meets file) → flightOf m ≡ flightOf n
+said-once = acceptance.one-reading
 
 -- document 01's file of five lines meets it
 pub five-meet : Meets fiveLines
 five-meet = accepted-as fiveLines 16 _ .0 verdict-of-five .0
 
--- ---- what can be read from an accepted file
+-- ---- what can be read from an accepted file, with the table that it was checked with: its lines by number and step by step, each B and K line column by column, and the
+-- declaration
 
-module _ (file table : List ℕ) (f : Flight) (accepts : verdict file (length table) ≡ says f) where
-  -- entry n of the table leads to the nth line
-  pub by-number : (n : ℕ) → 1 ≤ n → n ≤ f .lines → Numbered file table n
-  unfolding goodLines
-  by-number n low high = line-by-number file table n low (rw accepts high)
-
-  -- stepping from place 0 gives exactly the lines in their order, and then none
-  pub stepping : Whole (linesOf file) × Steps file 0 (linesOf file)
-  stepping = (accepted-whole file (length table) f accepts, steps file)
-
-  -- line lengths plus 2 each total the file's length
-  pub lengths : total (linesOf file) ≡ length file
-  lengths = lengths-total file (accepted-whole file (length table) f accepts)
-
-  -- each B and K line is read with no refusal, column by column, by the layouts of the answer; the declaration is a head and its points
-  pub readable : Readable file f
-  readable = reading.readable file (length table) f accepts
+pub readable : (file table : List ℕ) (f : Flight) → verdict file (length table) ≡ says f → Readable file table f
+readable = reading.readable
 
 -- ---- lines read and written: of each kind `read-then-write`, `write-then-read` and `bad-value-exactly` (specs/BothWays)
 

@@ -11,11 +11,12 @@ use borrow.Author.Tests.{le-leb, eqb-true, eq-eqb, ne-eqb}
 use lib.Dec.{eqb, leb}
 use lib.ListN.{length, getD, replicate, length-append}
 use lib.Seq.{drop-length}
+use Rattle.rules.specs.Choice.{leads}
 use Rattle.rules.specs.Refusals.{says}
 use Rattle.rules.specs.Chars.{isValid, isCode}
 use Rattle.rules.specs.Numbers.{numberAt, digitsOf}
 use Rattle.rules.specs.Listed.{codeText, isCodeWord}
-use Rattle.rules.specs.Layouts.{firstStart, emptyLayout, entriesOf, layoutFields, isSpelt, allowed}
+use Rattle.rules.specs.Layouts.{firstStart, emptyLayout, entriesOf, layoutFields, isSpelt, isUnused, allPlaced, allowed}
 use Rattle.rules.specs.Lines.{shaped, layoutLine}
 use Rattle.rules.specs.Reads.{layoutLetter, layoutSaid}
 use Rattle.rules.specs.Writes.{entryText, entryTexts, layoutText}
@@ -26,8 +27,9 @@ use Rattle.rules.specs.declared.Family.the-variants as family
 use Rattle.trips.proofs.Laws.{refuses-says, given-inv, need-inv, then-inv, and-inv, past, byte-there}
 use Rattle.trips.proofs.Texts.{areValid, both-valid, shaped-here}
 use Rattle.trips.proofs.Digits.{digits-length, digits-clean, number-there, number-here}
-use Rattle.demands.specs.Grammar.{laid, IsLayoutLine}
+use Rattle.demands.specs.Grammar.{laid, IsLayoutLine, AtMostOne, absent, given}
 use Rattle.demands.proofs.Laws.{shape-there}
+use Rattle.demands.proofs.Valued.{IsTold}
 use Rattle.demands.proofs.Entries.{code-range, entry-length, Tiled, entries-there, entries-here, all-laid, entries-laid, laid-allowed, allowed-there, tiled-tiles, tiles-tiled}
 
 letter-is : (f : Family) → (1 ≤ layoutLetter f) × (isValid false (layoutLetter f) ≡ true)
@@ -140,6 +142,13 @@ layout-allowed f layout l w =
       ap (allowed (firstStart f)) (w .slots) ∙ laid-allowed (firstStart f) (w .entries) n (tiles-tiled (w .entries) (firstStart f) n (w .tiles)),
       ap (λ x. length (x .entries)) (w .slots) ∙ slots-laid (w .entries) n,
     )
+
+-- so is the empty one, where there is no such line
+pub told : (f : Family) {layout : Layout} {ls : List (List ℕ)} → AtMostOne f layout ls → IsTold (firstStart f) layout
+unfolding allowed allPlaced leads isUnused
+told family.B absent = (refl, refl)
+told family.K absent = (refl, refl)
+told f (given {layout = i} {l = l} w) = layout-allowed f i l w
 
 -- ---- the theorems
 
