@@ -1,12 +1,17 @@
--- Demand 2, what is claimed: when a file is accepted, what each refusal means, what can be read from an accepted file, and that lines are read and written both
--- ways. Each claim is one line from the room that proves it; what its words mean is said in specs/. Assumes nothing.
+-- Demand 2, what is claimed. Each claim is a line from the room that proves it; its words stand in specs/ (Grammar, Faults, Readings, BothWays), the definitions that
+-- it is about in the rules. Assumes nothing.
+--
+-- How these definitions are the library's answers: `file::check` answers `verdict file (length table)` and leaves `tableAfter file table` (promise FileChecked); `file::bounds`
+-- answers `boundsOf` (LineGiven), `Cursor::step` answers `stepAt` (LineStepped), the readers in `read` answer `fixSaid`, `columnSaid` and so on (FixGiven ..); the writers in
+-- `write` keep `Written` (FixWritten ..), from which `BothWays` tells what they write. By the laws `only-..` of crate laws, nothing else would keep these promises.
 use Prim.Native.Nat.{ℕ, _≤_}
+use Prim.Native.Char.{code}
 use mathlib.Core.Bool.{Bool, true}
-use mathlib.Core.List.{List, []}
+use mathlib.Core.List.{List, [], _∷_, _++_}
 use mathlib.Core.Logic.{_↔_}
-use mathlib.Core.Path.{_≡_, refl, ap}
+use mathlib.Core.Path.{_≡_, refl, ap, _∙_}
 use native.Mathlib.Omega.{arith}
-use lib.ListN.{length}
+use lib.ListN.{length, getD}
 use Rattle.rules.specs.Refusals.{Said, says, refuses}
 use Rattle.rules.specs.Files.{verdict}
 use Rattle.rules.specs.Layouts.{isSaid, firstStart, allowed, emptyLayout}
@@ -14,45 +19,57 @@ use Rattle.rules.specs.Reads.{fixSaid, noteSaid, headSaid, pointSaid, layoutSai
 use Rattle.rules.specs.Writes.{fixText, noteText, headText, pointText, layoutText, isFix, isNote, isHead, isPoint}
 use Rattle.rules.specs.declared.Layout.{Layout}
 use Rattle.rules.specs.declared.Family.{Family}
+use Rattle.rules.specs.declared.Fix.{Fix}
+use Rattle.rules.specs.declared.Head.{Head}
+use Rattle.rules.specs.declared.Point.{Point}
 use Rattle.rules.specs.declared.Flight.{Flight}
-use Rattle.rules.proofs.Damaged.{fiveLines, verdict-of-five}
+use Rattle.rules.proofs.Damaged.{fiveLines}
 use Rattle.trips.specs.Limits.{goodFix, goodNote, goodHead, goodPoint}
 use Rattle.trips.proofs.Fixes.{fix-trip, fix-good}
 use Rattle.trips.proofs.Notes.{note-trip, note-good}
 use Rattle.trips.proofs.Heads.{head-trip, head-good}
 use Rattle.trips.proofs.Points.{point-trip, point-good}
-use Rattle.demands.specs.Grammar.{linesIn, Meets, flightOf}
+use Rattle.demands.specs.Grammar.{Each, IsLayoutLine, IsBLine, IsKLine, IsHeadLine, IsPointLine, linesIn, Meets, flightOf}
 use Rattle.demands.specs.Faults.{Refused}
 use Rattle.demands.specs.Readings.{Readable}
 use Rattle.demands.specs.BothWays.{Slotted, Reading, BothWays}
-use Rattle.demands.proofs.LayoutLines.{layout-exactly}
-use Rattle.demands.proofs.Writers.{both-ways, trip-ways, nothing-good}
 use Rattle.demands.proofs.Accepted as acceptance
 use Rattle.demands.proofs.Refusing as refusing
 use Rattle.demands.proofs.Reading as reading
+use Rattle.demands.proofs.LayoutLines.{layout-exactly, layout-line-exactly}
+use Rattle.demands.proofs.Valued.{fix-reads, fix-read, note-reads, note-read, head-reads, head-read, point-reads, point-read}
+use Rattle.demands.proofs.Writers.{both-ways, trip-ways, nothing-good}
+use Rattle.demands.proofs.Worked as worked
 
--- ---- the verdict
+-- ---- the verdict on a file, with a table of `room` entries
 
 module _ (file : List ℕ) (room : ℕ) where
   -- a file is accepted exactly when it meets the grammar and its lines fit the table
   pub accepted-exactly : (isSaid (verdict file room) ≡ true) ↔ ((m : Meets file) × (length (linesIn (m .parts)) ≤ room))
   accepted-exactly = acceptance.accepted-exactly file room
 
-  -- and then the date, the layouts and the counts of the answer are the grammar's
+  -- and then the date, the layouts (`fixes` of the B lines, `notes` of the K lines) and the counts of the answer are the grammar's
   pub accepted-as : (f : Flight) → (verdict file room ≡ says f) ↔ ((m : Meets file) × (length (linesIn (m .parts)) ≤ room) × (flightOf m ≡ f))
   accepted-as f = acceptance.accepted-as file room f
 
   -- it is refused with a number, line and byte exactly when that refusal's meaning holds of it
-  pub refused-first : (n l b : ℕ) → (verdict file room ≡ refuses n l b) ↔ Refused file room n l b
-  refused-first n l b = refusing.refused-first file room n l b
+  pub refused-first : (number line byte : ℕ) → (verdict file room ≡ refuses number line byte) ↔ Refused file room number line byte
+  refused-first number line byte = refusing.refused-first file room number line byte
 
--- the grammar says one thing of a file
+-- ---- the grammar by itself
+
+-- it says one thing of a file
 pub said-once : (file : List ℕ) (m n : Meets file) → flightOf m ≡ flightOf n
 said-once = acceptance.one-reading
 
--- document 01's file of five lines meets it
+-- document 01's file of five lines meets it, put together by hand
 pub five-meet : Meets fiveLines
-five-meet = accepted-as fiveLines 16 _ .0 verdict-of-five .0
+five-meet = worked.five-meet
+
+-- "So a B after G is refused": no file that meets it has a B line behind a G line
+pub no-b-after-g : {file : List ℕ} (m : Meets file) (before : List (List ℕ)) (g : List ℕ) (after : List (List ℕ)) → linesIn (m .parts) ≡ before ++ (g ∷ after)
+    → getD g 0 0 ≡ code "G" → Each (λ l. getD l 0 0 ≡ code "B" → ⊥) after
+no-b-after-g = worked.no-b-after-g
 
 -- ---- what can be read from an accepted file, with the table that it was checked with: its lines by number and step by step, each B and K line column by column, and the
 -- declaration
@@ -60,29 +77,48 @@ five-meet = accepted-as fiveLines 16 _ .0 verdict-of-five .0
 pub readable : (file table : List ℕ) (f : Flight) → verdict file (length table) ≡ says f → Readable file table f
 readable = reading.readable
 
--- ---- lines read and written: of each kind `read-then-write`, `write-then-read` and `bad-value-exactly` (specs/BothWays)
+-- ---- a reader says a value of a line exactly when the line is, by the grammar, a line of that value
 
--- B lines, by the layout of an I line
+-- B lines and K lines, by a layout that is allowed
+module _ (i : Slotted) (l : List ℕ) where
+  pub fixes-exactly : allowed 36 (i .layout) ≡ true → (f : Fix) → (fixSaid l (i .layout) ≡ says f) ↔ IsBLine (i .layout) f l
+  fixes-exactly g f = (fix-read (i .layout) (g, i .slots) f l, fix-reads (i .layout) (g, i .slots) f l)
+
+  pub notes-exactly : allowed 8 (i .layout) ≡ true → (t : ℕ) → (noteSaid l (i .layout) ≡ says t) ↔ IsKLine (i .layout) t l
+  notes-exactly g t = (note-read (i .layout) (g, i .slots) t l, note-reads (i .layout) (g, i .slots) t l)
+
+-- I lines and J lines
+pub layouts-exactly : (family : Family) (layout : Layout) (l : List ℕ) → (layoutSaid family l ≡ says layout) ↔ IsLayoutLine family layout l
+layouts-exactly = layout-line-exactly
+
+-- C heads and C points
+pub heads-exactly : (h : Head) (l : List ℕ) → (headSaid l ≡ says h) ↔ IsHeadLine h l
+heads-exactly h l = (head-read h l, head-reads h l)
+
+pub points-exactly : (p : Point) (l : List ℕ) → (pointSaid l ≡ says p) ↔ ((w : IsPointLine l) × (w .point ≡ p))
+points-exactly p l = (point-read p l, λ w. point-reads l (w .0) ∙ ap says (w .1))
+
+-- ---- lines read and written: of each kind `read-then-write`, `write-then-read` and `bad-value-exactly` (specs/BothWays); 35, 7, 25 and 18 bytes stand before the columns or
+-- the text
+
 pub fixes-both-ways : (layout : Layout)
     → BothWays (Reading (λ l. fixSaid l layout) 35) (λ v. fixText (v .0) (v .1)) (λ v. isFix (v .0) (v .1) layout) (λ v. goodFix (v .0) (v .1) layout)
 fixes-both-ways layout = trip-ways (λ f tail. isFix f tail layout) (fix-trip layout) (λ f tail. fix-good f tail layout)
 
--- K lines, by the layout of a J line
 pub notes-both-ways : (layout : Layout)
     → BothWays (Reading (λ l. noteSaid l layout) 7) (λ v. noteText (v .0) (v .1)) (λ v. isNote (v .0) (v .1) layout) (λ v. goodNote (v .0) (v .1) layout)
 notes-both-ways layout = trip-ways (λ t tail. isNote t tail layout) (note-trip layout) (λ t tail. note-good t tail layout)
 
--- C heads, and C points
 pub heads-both-ways : BothWays (Reading headSaid 25) (λ v. headText (v .0) (v .1)) (λ v. isHead (v .0) (v .1)) (λ v. goodHead (v .0) (v .1))
 heads-both-ways = trip-ways isHead head-trip head-good
 
 pub points-both-ways : BothWays (Reading pointSaid 18) (λ v. pointText (v .0) (v .1)) (λ v. isPoint (v .0) (v .1)) (λ v. goodPoint (v .0) (v .1))
 points-both-ways = trip-ways isPoint point-trip point-good
 
--- I and J lines
-pub layouts-both-ways : (f : Family)
-    → BothWays (λ l (v : Slotted). layoutSaid f l ≡ says (v .layout)) (λ v. layoutText f (v .layout)) (λ v. allowed (firstStart f) (v .layout)) (λ v. allowed (firstStart f) (v .layout))
-layouts-both-ways f = both-ways _ _ _ _ (λ l v. layout-exactly f (v .layout) l (v .slots)) (λ v. refl)
+-- I lines and J lines: of a layout nothing stands behind
+pub layouts-both-ways : (family : Family)
+    → BothWays (λ l (v : Slotted). layoutSaid family l ≡ says (v .layout)) (λ v. layoutText family (v .layout)) (λ v. allowed (firstStart family) (v .layout)) (λ v. allowed (firstStart family) (v .layout))
+layouts-both-ways family = both-ways _ _ _ _ (λ l v. layout-exactly family (v .layout) l (v .slots)) (λ v. refl)
 
 -- a reader of K lines that refuses everything is not both ways, whatever its writer tests
 pub not-refusing : (said : List ℕ → Said ℕ) (test : ℕ × List ℕ → Bool) → ((l : List ℕ) (t : ℕ) → said l ≡ says t → ⊥)

@@ -187,6 +187,10 @@ module _ (f : Family) (layout : Layout) where
       ∙ ap (λ x. layoutLetter f ∷ (digitsOf 2 (length (w .entries)) ++ entryTexts x)) (sym (entries-laid (w .entries)))
       ∙ ap (λ x. layoutLetter f ∷ (digitsOf 2 (x .count) ++ entryTexts (entriesOf x))) (sym (w .slots))
 
+  -- a line reads as the layout exactly when it is an I or a J line of it
+  pub layout-line-exactly : (l : List ℕ) → (layoutSaid f l ≡ says layout) ↔ IsLayoutLine f layout l
+  layout-line-exactly l = (reads-line l, line-reads l)
+
   -- of 13 slots: a line reads as the layout exactly when it is the layout's text and the layout is allowed
   pub layout-exactly : (l : List ℕ) → length (layout .entries) ≡ 13 → (layoutSaid f l ≡ says layout) ↔ ((l ≡ layoutText f layout) × (allowed (firstStart f) layout ≡ true))
   layout-exactly l n = (

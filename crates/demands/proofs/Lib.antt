@@ -15,4 +15,5 @@ pub mod Refusing
 pub mod Columns
 pub mod Reading
 pub mod Writers
+pub mod Worked
 pub mod Demands

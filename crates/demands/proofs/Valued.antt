@@ -4,7 +4,7 @@ use Prim.Native.Char.{code}
 use mathlib.Core.Bool.{true, false}
 use mathlib.Core.List.{List}
 use mathlib.Core.Logic.{_↔_}
-use mathlib.Core.Path.{_≡_, sym, _∙_, ap, subst}
+use mathlib.Core.Path.{_≡_, refl, sym, _∙_, ap, subst}
 use native.Mathlib.Omega.{arith}
 use borrow.Author.Tests.{le-leb, leb-true, eqb-true, eq-eqb}
 use lib.Dec.{eqb}
@@ -111,6 +111,9 @@ head-read h l e =
 pub point-reads : (l : List ℕ) (w : IsPointLine l) → pointSaid l ≡ says (w .point)
 point-reads l w = ap pointSaid (w .text) ∙ point-trip .here (w .point) (w .rest) (w .good)
 
+pub point-read : (p : Point) (l : List ℕ) → pointSaid l ≡ says p → (w : IsPointLine l) × (w .point ≡ p)
+point-read p l e = (record { point = p; rest = drop 18 l; text = point-trip .there l p e; good = line-limits point-trip l p e }, refl)
+
 -- ---- a line as the check reads it
 
 pub b-there : (layout : Layout) (f : Fix) (l : List ℕ) → IsTold 36 layout → getD l 0 0 ≡ code "B" → bLine layout l ≡ says f → IsBLine layout f l
@@ -153,9 +156,7 @@ head-said h l w =
 
 pub point-there : (p : Point) (l : List ℕ) → getD l 0 0 ≡ code "C" → pointLine l ≡ says p → IsPointLine l
 unfolding pointSaid
-point-there p l k e =
-    let s : pointSaid l ≡ says p = rw (eq-eqb _ _ k) e in
-    record { point = p; rest = drop 18 l; text = point-trip .there l p s; good = line-limits point-trip l p s }
+point-there p l k e = point-read p l (rw (eq-eqb _ _ k) e) .0
 
 pub point-said : (l : List ℕ) (w : IsPointLine l) → (getD l 0 0 ≡ code "C") × (pointLine l ≡ says (w .point))
 unfolding pointSaid

@@ -37,7 +37,7 @@ Each P (a ∷ l) = P a × Each P l
 
 -- ---- 'Lines' and 'Fields': a line of each kind, without its CR LF
 
--- "Lengths below leave CR LF out"; "Valid characters"; in an H line the comma is one
+-- "Lengths below leave CR LF out"; "Valid characters (000, A6): hex 20 to 7D without 21, 24, 2A, 5C, 5E. Comma (2C) .. is valid in H lines only (h)."
 pub record Shaped (least most : ℕ) (inH : Bool) (l : List ℕ) : Type 0 where
   pub long : least ≤ length l
   pub short : length l ≤ most
@@ -109,11 +109,11 @@ abbrev pub Tiles : ℕ → List Entry → Type 0
 Tiles start [] = Unit {0}
 Tiles start (e ∷ es) = IsEntry start e × Each (λ x. x .code ≡ e .code → ⊥) es × Tiles (e .last + 1) es
 
--- the layout of these entries: they stand in the first of 13 slots, and the others are all zero
+-- the layout of these entries as the library's type has it: they stand in the first of 13 slots, and the others are all zero
 abbrev pub laid : List Entry → Layout
 laid es = record { count = length es; entries = es ++ replicate (13 - length es) unused }
 
--- "I, J 3 to 99"; "NN, then NN entries"; "The first entry starts at 36 (I) or 8 (J)"
+-- "I, J 3 to 99"; "NN, then NN entries of start SS, finish FF and a code CCC .. The length is 3 + 7 × NN. The first entry starts at 36 (I) or 8 (J)"
 pub record IsLayoutLine (f : Family) (layout : Layout) (l : List ℕ) : Type 0 where
   pub entries : List Entry
   pub tiles : Tiles (firstStart f) entries
@@ -209,7 +209,7 @@ pub record IsLLine (l : List ℕ) : Type 0 where
   pub letter : getD l 0 0 ≡ code "L"
   pub shape : Shaped 1 99 false l
 
--- "G 2 to 255"
+-- "G 2 to 255"; "The G code is carried and never judged."
 pub record IsGLine (l : List ℕ) : Type 0 where
   pub letter : getD l 0 0 ≡ code "G"
   pub shape : Shaped 2 255 false l
@@ -285,6 +285,7 @@ pub record Parts : Type 0 where
   pub seal : List (List ℕ)
   pub remarks : List (List ℕ)
 
+-- in their order
 abbrev pub linesIn : Parts → List (List ℕ)
 linesIn p = p .recorder ∷ p .day ∷ (p .headers ++ (p .fixLayout ++ (p .noteLayout ++ (p .body ++ (p .seal ++ p .remarks)))))
 
@@ -308,11 +309,12 @@ pub record Keeps (p : Parts) (date : Date) (fixes notes : Layout) (times : List 
 abbrev pub IsText : List ℕ → Type 0
 IsText l = Each (λ b. (b ≡ 13 → ⊥) × (b ≡ 10 → ⊥)) l
 
--- "Every line, the last one too, ends with CR LF."
+-- "Every line, the last one too, ends with CR LF.": the bytes of the lines
 unfoldable pub written : List (List ℕ) → List ℕ
 written [] = []
 written (l ∷ ls) = l ++ (13 ∷ 10 ∷ written ls)
 
+-- "One IGC file": it has lines, and they keep to all the rules above
 pub record Meets (file : List ℕ) : Type 0 where
   -- "A file has 1 to 16,777,216 bytes (h)."
   pub least : 1 ≤ length file
@@ -335,7 +337,7 @@ unfoldable pub beginning : ℕ → List (List ℕ) → ℕ
 beginning x [] = 0
 beginning x (l ∷ ls) = cond (eqb (getD l 0 0) x) 1 0 + beginning x ls
 
--- "the date, the I and J layouts, the count of lines, of B lines and of K lines"
+-- "the date, the I and J layouts, the count of lines, of B lines and of K lines": `fixes` is the layout of the B lines, `notes` that of the K lines
 abbrev pub flightOf : {file : List ℕ} → Meets file → Flight
 flightOf m = record {
   date = m .date;
