@@ -9,7 +9,7 @@ use Prim.Native.Char.{code}
 use mathlib.Core.Bool.{Bool, true}
 use mathlib.Core.List.{List, [], _∷_, _++_}
 use mathlib.Core.Logic.{_↔_}
-use mathlib.Core.Path.{_≡_, refl, ap, _∙_}
+use mathlib.Core.Path.{_≡_, refl, sym, _∙_, ap}
 use native.Mathlib.Omega.{arith}
 use lib.ListN.{length, getD}
 use Rattle.rules.specs.Refusals.{Said, says, refuses}
@@ -58,9 +58,12 @@ module _ (file : List ℕ) (room : ℕ) where
 
 -- ---- the grammar by itself
 
--- it says one thing of a file
+-- it says one thing of a file, over one cut of it into lines
 pub said-once : (file : List ℕ) (m n : Meets file) → flightOf m ≡ flightOf n
 said-once = acceptance.one-reading
+
+pub cut-once : (file : List ℕ) (m n : Meets file) → linesIn (m .parts) ≡ linesIn (n .parts)
+cut-once file m n = sym (reading.lines-are file m) ∙ reading.lines-are file n
 
 -- document 01's file of five lines meets it, put together by hand
 pub five-meet : Meets fiveLines

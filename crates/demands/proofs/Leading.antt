@@ -25,7 +25,7 @@ use Rattle.rules.specs.declared.State.{State}
 use Rattle.trips.proofs.Laws.{none-some, refuses-says, false-true, given-inv, need-inv, then-inv, and-inv}
 use Rattle.demands.specs.Grammar.{Follows, IsALine, IsDateLine, IsHLine, IsLayoutLine, IsHeadLine, IsPointLine, IsELine, IsFLine, IsBLine, IsKLine, IsLLine, IsGLine, Untimed, differential, remark, other}
 use Rattle.demands.proofs.Carried.{a-there, a-said, date-there, date-said, h-there, h-said, d-there, d-said, e-there, e-said, f-there, f-said, l-there, l-said, g-there, g-said, other-there, other-said}
-use Rattle.demands.proofs.Valued.{IsTold, b-there, b-letter, b-said, k-there, k-letter, k-said, head-there, head-said, point-there, point-said}
+use Rattle.demands.proofs.Valued.{IsTold, b-there, b-said, k-there, k-said, head-there, head-said, point-there, point-said}
 use Rattle.demands.proofs.LayoutLines.{layout-there, layout-said, layout-allowed}
 
 -- ---- what is claimed
@@ -38,8 +38,8 @@ pub data Part : Type 0 where
 pub data InBody (st : State) (l : List ℕ) : State → Type 0 where
   head : (h : Head) → st .points ≡ 0 → st .declared ≡ false → st .flight .bs ≡ 0 → IsHeadLine h l → InBody st l (begun h (moved 5 st))
   point : 1 ≤ st .points → IsPointLine l → InBody st l (pointed (moved 5 st))
-  fix : (f : Fix) → st .points ≡ 0 → Follows (st .clock) (f .time) → IsTold 36 (st .flight .fixes) → IsBLine (st .flight .fixes) f l → InBody st l (clocked (f .time) (counted 1 0 (moved 5 st)))
-  note : (t : ℕ) → st .points ≡ 0 → Follows (st .clock) t → IsTold 8 (st .flight .notes) → IsKLine (st .flight .notes) t l → InBody st l (clocked t (counted 0 1 (moved 5 st)))
+  fix : (f : Fix) → st .points ≡ 0 → Follows (st .clock) (f .time) → IsTold 36 (st .flight .fixes) × IsBLine (st .flight .fixes) f l → InBody st l (clocked (f .time) (counted 1 0 (moved 5 st)))
+  note : (t : ℕ) → st .points ≡ 0 → Follows (st .clock) t → IsTold 8 (st .flight .notes) × IsKLine (st .flight .notes) t l → InBody st l (clocked t (counted 0 1 (moved 5 st)))
   event : (t : ℕ) → st .points ≡ 0 → Follows (st .clock) t → IsELine t l ⊎ IsFLine t l → InBody st l (clocked t (moved 5 st))
   quiet : st .points ≡ 0 → Untimed l → InBody st l (moved 5 st)
 
@@ -274,7 +274,7 @@ module _ (l : List ℕ) (st m : State) where
   by-kind kind.B stage g k f o e = to-body stage (λ x. ruled kind.B l x ≡ says m) o e λ e.
       let r = then-inv (bLine (st .flight .fixes) l) m _ e in
       let t = timed-there (r .0 .time) (counted 1 0 (moved 5 st)) m (r .2) in
-      rw (← t .1) (fix (r .0) (plain-fits st f) (t .0) (g .0) (b-there (st .flight .fixes) (r .0) l (g .0) k (r .1)))
+      rw (← t .1) (fix (r .0) (plain-fits st f) (t .0) (g .0, b-there (st .flight .fixes) (r .0) l (g .0) k (r .1)))
   by-kind kind.C stage g k f o e = to-body stage (λ x. ruled kind.C l x ≡ says m) o e λ e. c-led k (c-fits st f) e
   by-kind kind.D stage g k f o e = to-body stage (λ x. ruled kind.D l x ≡ says m) o e λ e.
       let r = says-inv (dLine l) (λ u. moved 5 st) m e in
@@ -303,7 +303,7 @@ module _ (l : List ℕ) (st m : State) where
   by-kind kind.K stage g k f o e = to-body stage (λ x. ruled kind.K l x ≡ says m) o e λ e.
       let r = then-inv (kLine (st .flight .notes) l) m _ e in
       let t = timed-there (r .0) (counted 0 1 (moved 5 st)) m (r .2) in
-      rw (← t .1) (note (r .0) (plain-fits st f) (t .0) (g .1) (k-there (st .flight .notes) (r .0) l (g .1) k (r .1)))
+      rw (← t .1) (note (r .0) (plain-fits st f) (t .0) (g .1, k-there (st .flight .notes) (r .0) l (g .1) k (r .1)))
   by-kind kind.L stage g k f o e = l-led stage (leb (st .stage) 5) k (plain-fits st f) o e
   by-kind kind.Other stage g k f o e = to-body stage (λ x. ruled kind.Other l x ≡ says m) o e λ e.
       let r = says-inv (otherLine l) (λ u. moved 5 st) m e in
@@ -341,10 +341,12 @@ body-judge l st p q (head h z d b w) =
 body-judge l st p q (point h w) =
     let s = point-said l w in
     letter-said l st _ 67 kind.C 5 (omega arith) refl refl (s .0) (fits-point st h) (lead 2 5 5 (st .stage) p q) (rw (ne-eqb (st .points) 0 (λ z. omega arith), s .1))
-body-judge l st p q (fix f z t i w) =
-    letter-said l st _ 66 kind.B 5 (omega arith) refl refl (b-letter _ f l w) (fits-plain st z) (lead 2 5 5 (st .stage) p q) (rw (b-said _ f l i w) (timed-said (f .time) (counted 1 0 (moved 5 st)) t))
-body-judge l st p q (note n z t i w) =
-    letter-said l st _ 75 kind.K 5 (omega arith) refl refl (k-letter _ n l w) (fits-plain st z) (lead 2 5 5 (st .stage) p q) (rw (k-said _ n l i w) (timed-said n (counted 0 1 (moved 5 st)) t))
+body-judge l st p q (fix f z t w) =
+    let s = b-said (st .flight .fixes) f l w in
+    letter-said l st _ 66 kind.B 5 (omega arith) refl refl (s .0) (fits-plain st z) (lead 2 5 5 (st .stage) p q) (rw (s .1) (timed-said (f .time) (counted 1 0 (moved 5 st)) t))
+body-judge l st p q (note n z t w) =
+    let s = k-said (st .flight .notes) n l w in
+    letter-said l st _ 75 kind.K 5 (omega arith) refl refl (s .0) (fits-plain st z) (lead 2 5 5 (st .stage) p q) (rw (s .1) (timed-said n (counted 0 1 (moved 5 st)) t))
 body-judge l st p q (event n z t (inl w)) =
     let s = e-said l n w in
     letter-said l st _ 69 kind.E 5 (omega arith) refl refl (s .0) (fits-plain st z) (lead 2 5 5 (st .stage) p q) (rw (s .1) (timed-said n (moved 5 st) t))
@@ -383,8 +385,8 @@ leads-judge l st (remarking a b p w) =
 body-sound : (l : List ℕ) (st : State) {m : State} → InBody st l m → Sound st → Sound m
 body-sound l st (head h z d b w) g = g
 body-sound l st (point h w) g = g
-body-sound l st (fix f z t i w) g = g
-body-sound l st (note n z t i w) g = g
+body-sound l st (fix f z t w) g = g
+body-sound l st (note n z t w) g = g
 body-sound l st (event n z t w) g = g
 body-sound l st (quiet z w) g = g
 

@@ -55,8 +55,8 @@ same-part p q e = sym (part-back p) ∙ ap part-of e ∙ part-back q
 body-ranks : {st : State} {l : List ℕ} {m : State} → InBody st l m → m .stage ≡ 5
 body-ranks (head h z d b w) = refl
 body-ranks (point h w) = refl
-body-ranks (fix f z t i w) = refl
-body-ranks (note n z t i w) = refl
+body-ranks (fix f z t w) = refl
+body-ranks (note n z t w) = refl
 body-ranks (event n z t w) = refl
 body-ranks (quiet z w) = refl
 
@@ -203,8 +203,8 @@ notes-here st (given {layout = j} w) e a b p = (withNotes j (moved 4 st), also (
 step-same : {st : State} {l : List ℕ} {m : State} → InBody st l m → Same st m
 step-same (head h z d b w) = (refl, refl, refl)
 step-same (point h w) = (refl, refl, refl)
-step-same (fix f z t i w) = (refl, refl, refl)
-step-same (note n z t i w) = (refl, refl, refl)
+step-same (fix f z t w) = (refl, refl, refl)
+step-same (note n z t w) = (refl, refl, refl)
 step-same (event n z t w) = (refl, refl, refl)
 step-same (quiet z w) = (refl, refl, refl)
 
@@ -259,10 +259,10 @@ module _ (fixes notes : Layout) where
   items-there empty e p c = record { times = []; lines = grammar.done; order = tt }
   items-there (also (flying a b (head h z d n w)) r) e p c = absurd (c d n)
   items-there (also (flying a b (point h w)) r) e p c = absurd (omega arith)
-  items-there (also {st = st} {l = l} {ls = ls} (flying a b (fix f z t i w)) r) e p c =
-      timed-told (st .clock) (f .time) l ls t (λ ts. grammar.timed (fix-line st f l e w)) (items-there r e p (λ d n. omega arith))
-  items-there (also {st = st} {l = l} {ls = ls} (flying a b (note n z t i w)) r) e p c =
-      timed-told (st .clock) n l ls t (λ ts. grammar.timed (note-line st n l e w)) (items-there r e p (λ d i. c d (omega arith)))
+  items-there (also {st = st} {l = l} {ls = ls} (flying a b (fix f z t w)) r) e p c =
+      timed-told (st .clock) (f .time) l ls t (λ ts. grammar.timed (fix-line st f l e (w .1))) (items-there r e p (λ d n. omega arith))
+  items-there (also {st = st} {l = l} {ls = ls} (flying a b (note n z t w)) r) e p c =
+      timed-told (st .clock) n l ls t (λ ts. grammar.timed (note-line st n l e (w .1))) (items-there r e p (λ d i. c d (omega arith)))
   items-there (also {st = st} {l = l} {ls = ls} (flying a b (event n z t w)) r) e p c =
       timed-told (st .clock) n l ls t (λ ts. grammar.timed (event-line n l w)) (items-there r e p c)
   items-there (also {st = st} {l = l} {ls = ls} (flying a b (quiet z w)) r) e p c =
@@ -313,8 +313,8 @@ module _ (fixes notes : Layout) where
         begun = x .begun;
         clock = x .clock;
       }
-  points-there (suc p) (also (flying a b (fix f z t i w)) r) e n = absurd (omega arith)
-  points-there (suc p) (also (flying a b (note i z t j w)) r) e n = absurd (omega arith)
+  points-there (suc p) (also (flying a b (fix f z t w)) r) e n = absurd (omega arith)
+  points-there (suc p) (also (flying a b (note i z t w)) r) e n = absurd (omega arith)
   points-there (suc p) (also (flying a b (event i z t w)) r) e n = absurd (omega arith)
   points-there (suc p) (also (flying a b (quiet z w)) r) e n = absurd (omega arith)
 
@@ -353,10 +353,10 @@ module _ (fixes notes : Layout) where
   body-there (also {st = st} {l = l} (flying a b (head h x y i w)) r) e p d n z =
       declaration h l (begun h (moved 5 st)) w (points-there (h .turns + 4) r refl z) e refl
   body-there (also (flying a b (point h w)) r) e p d n z = absurd (omega arith)
-  body-there (also {st = st} {l = l} {ls = ls} (flying a b (fix f x t j w)) r) e p d n z =
-      items-body (timed-told (st .clock) (f .time) l ls t (λ ts. grammar.timed (fix-line st f l e w)) (items-there r e p (λ q i. omega arith)))
-  body-there (also {st = st} {l = l} {ls = ls} (flying a b (note i x t j w)) r) e p d n z =
-      timed-told (st .clock) i l ls t (body-timed (note-line st i l e w) (λ q. omega (arith, k-letter _ i l w))) (body-there r e p d (omega arith) z)
+  body-there (also {st = st} {l = l} {ls = ls} (flying a b (fix f x t w)) r) e p d n z =
+      items-body (timed-told (st .clock) (f .time) l ls t (λ ts. grammar.timed (fix-line st f l e (w .1))) (items-there r e p (λ q i. omega arith)))
+  body-there (also {st = st} {l = l} {ls = ls} (flying a b (note i x t w)) r) e p d n z =
+      timed-told (st .clock) i l ls t (body-timed (note-line st i l e (w .1)) (λ q. omega (arith, k-letter _ i l (w .1)))) (body-there r e p d (omega arith) z)
   body-there (also {st = st} {l = l} {ls = ls} (flying a b (event i x t w)) r) e p d n z =
       timed-told (st .clock) i l ls t (body-timed (event-line i l w) (event-not-b w)) (body-there r e p d n z)
   body-there (also {st = st} {l = l} {ls = ls} (flying a b (quiet x w)) r) e p d n z =
@@ -385,7 +385,7 @@ module _ (fixes notes : Layout) where
       let r = k (clocked (f .time) (counted 1 0 (moved 5 st))) i e refl p in
       record {
         state = r .state;
-        section = also {st = st} (flying a b (fix f p (rw i t) (rw (e .0) (g .0)) v)) (r .section);
+        section = also {st = st} (flying a b (fix f p (rw i t) (rw (e .0) (g .0), v))) (r .section);
         order = r .order;
         points = r .points;
         begun = r .begun;
@@ -396,7 +396,7 @@ module _ (fixes notes : Layout) where
       let r = k (clocked t (counted 0 1 (moved 5 st))) refl e refl p in
       record {
         state = r .state;
-        section = also {st = st} (flying a b (note t p q (rw (e .1) (g .1)) v)) (r .section);
+        section = also {st = st} (flying a b (note t p q (rw (e .1) (g .1), v))) (r .section);
         order = r .order;
         points = r .points;
         begun = r .begun;

@@ -124,11 +124,11 @@ pub b-letter : (layout : Layout) (f : Fix) (l : List ℕ) → IsBLine layout f l
 unfolding fixText
 b-letter layout f l w = ap (λ x. getD x 0 0) (w .text)
 
-pub b-said : (layout : Layout) (f : Fix) (l : List ℕ) → IsTold 36 layout → IsBLine layout f l → bLine layout l ≡ says f
+pub b-said : (layout : Layout) (f : Fix) (l : List ℕ) → IsTold 36 layout × IsBLine layout f l → (getD l 0 0 ≡ code "B") × (bLine layout l ≡ says f)
 unfolding fixSaid
-b-said layout f l t w =
-    let a = need-inv (eqb (getD l 0 0) (code "B")) _ (says f) _ refuses-says (fix-reads layout t f l w) in
-    need-inv (allowed 36 layout) _ (says f) _ refuses-says (a .1) .1
+b-said layout f l w =
+    let a = need-inv (eqb (getD l 0 0) (code "B")) _ (says f) _ refuses-says (fix-reads layout (w .0) f l (w .1)) in
+    (eqb-true _ _ (a .0), need-inv (allowed 36 layout) _ (says f) _ refuses-says (a .1) .1)
 
 pub k-there : (layout : Layout) (t : ℕ) (l : List ℕ) → IsTold 8 layout → getD l 0 0 ≡ code "K" → kLine layout l ≡ says t → IsKLine layout t l
 unfolding noteSaid
@@ -138,11 +138,11 @@ pub k-letter : (layout : Layout) (t : ℕ) (l : List ℕ) → IsKLine layout t l
 unfolding noteText
 k-letter layout t l w = ap (λ x. getD x 0 0) (w .text)
 
-pub k-said : (layout : Layout) (t : ℕ) (l : List ℕ) → IsTold 8 layout → IsKLine layout t l → kLine layout l ≡ says t
+pub k-said : (layout : Layout) (t : ℕ) (l : List ℕ) → IsTold 8 layout × IsKLine layout t l → (getD l 0 0 ≡ code "K") × (kLine layout l ≡ says t)
 unfolding noteSaid
-k-said layout t l i w =
-    let a = need-inv (eqb (getD l 0 0) (code "K")) _ (says t) _ refuses-says (note-reads layout i t l w) in
-    need-inv (allowed 8 layout) _ (says t) _ refuses-says (a .1) .1
+k-said layout t l w =
+    let a = need-inv (eqb (getD l 0 0) (code "K")) _ (says t) _ refuses-says (note-reads layout (w .0) t l (w .1)) in
+    (eqb-true _ _ (a .0), need-inv (allowed 8 layout) _ (says t) _ refuses-says (a .1) .1)
 
 pub head-there : (h : Head) (l : List ℕ) → getD l 0 0 ≡ code "C" → headLine l ≡ says h → IsHeadLine h l
 unfolding headSaid
