@@ -17,12 +17,14 @@ use Rattle.rules.specs.Files.{verdict}
 use Rattle.rules.specs.Layouts.{isSaid, firstStart, allowed, emptyLayout}
 use Rattle.rules.specs.Reads.{fixSaid, noteSaid, headSaid, pointSaid, layoutSaid}
 use Rattle.rules.specs.Writes.{fixText, noteText, headText, pointText, layoutText, isFix, isNote, isHead, isPoint}
+use Rattle.rules.specs.Promises.{FixWritten, NoteWritten, LayoutWritten, HeadWritten, PointWritten}
 use Rattle.rules.specs.declared.Layout.{Layout}
 use Rattle.rules.specs.declared.Family.{Family}
 use Rattle.rules.specs.declared.Fix.{Fix}
 use Rattle.rules.specs.declared.Head.{Head}
 use Rattle.rules.specs.declared.Point.{Point}
 use Rattle.rules.specs.declared.Flight.{Flight}
+use Rattle.rules.specs.declared.Wrote.{Wrote}
 use Rattle.rules.proofs.Damaged.{fiveLines}
 use Rattle.trips.specs.Limits.{goodFix, goodNote, goodHead, goodPoint}
 use Rattle.trips.proofs.Fixes.{fix-trip, fix-good}
@@ -32,7 +34,7 @@ use Rattle.trips.proofs.Points.{point-trip, point-good}
 use Rattle.demands.specs.Grammar.{Each, IsLayoutLine, IsBLine, IsKLine, IsHeadLine, IsPointLine, linesIn, Meets, flightOf}
 use Rattle.demands.specs.Faults.{Refused}
 use Rattle.demands.specs.Readings.{Readable}
-use Rattle.demands.specs.BothWays.{Slotted, Reading, BothWays}
+use Rattle.demands.specs.BothWays.{Slotted, Reading, Ways, BothWays}
 use Rattle.demands.proofs.Accepted as acceptance
 use Rattle.demands.proofs.Refusing as refusing
 use Rattle.demands.proofs.Reading as reading
@@ -122,6 +124,24 @@ points-both-ways = trip-ways isPoint point-trip point-good
 pub layouts-both-ways : (family : Family)
     → BothWays (λ l (v : Slotted). layoutSaid family l ≡ says (v .layout)) (λ v. layoutText family (v .layout)) (λ v. allowed (firstStart family) (v .layout)) (λ v. allowed (firstStart family) (v .layout))
 layouts-both-ways family = both-ways _ _ _ _ (λ l v. layout-exactly family (v .layout) l (v .slots)) (λ v. refl)
+
+-- so of every answer r and output afterwards that the writers' promises allow
+module _ (place : ℕ) (out : List ℕ) (r : Wrote) (after : List ℕ) where
+  pub fix-writer : (f : Fix) (tail : List ℕ) (layout : Layout) → FixWritten f tail layout place out r after → Ways (Reading (λ l. fixSaid l layout) 35) (f, tail) place out r after
+  fix-writer f tail layout = fixes-both-ways layout .written (f, tail) place out r after
+
+  pub note-writer : (t : ℕ) (tail : List ℕ) (layout : Layout) → NoteWritten t tail layout place out r after → Ways (Reading (λ l. noteSaid l layout) 7) (t, tail) place out r after
+  note-writer t tail layout = notes-both-ways layout .written (t, tail) place out r after
+
+  pub head-writer : (h : Head) (rest : List ℕ) → HeadWritten h rest place out r after → Ways (Reading headSaid 25) (h, rest) place out r after
+  head-writer h rest = heads-both-ways .written (h, rest) place out r after
+
+  pub point-writer : (p : Point) (rest : List ℕ) → PointWritten p rest place out r after → Ways (Reading pointSaid 18) (p, rest) place out r after
+  point-writer p rest = points-both-ways .written (p, rest) place out r after
+
+  pub layout-writer : (family : Family) (i : Slotted) → LayoutWritten family (i .layout) place out r after
+      → Ways (λ l (v : Slotted). layoutSaid family l ≡ says (v .layout)) i place out r after
+  layout-writer family i = layouts-both-ways family .written i place out r after
 
 -- a reader of K lines that refuses everything is not both ways, whatever its writer tests
 pub not-refusing : (said : List ℕ → Said ℕ) (test : ℕ × List ℕ → Bool) → ((l : List ℕ) (t : ℕ) → said l ≡ says t → ⊥)
