@@ -34,7 +34,7 @@ use Rattle.trips.proofs.Points.{point-trip, point-good}
 use Rattle.demands.specs.Grammar.{Each, IsLayoutLine, IsBLine, IsKLine, IsHeadLine, IsPointLine, linesIn, Meets, flightOf}
 use Rattle.demands.specs.Faults.{Refused}
 use Rattle.demands.specs.Readings.{Readable}
-use Rattle.demands.specs.BothWays.{Slotted, Reading, Ways, BothWays}
+use Rattle.demands.specs.BothWays.{Slotted, ReadsAs, Ways, BothWays}
 use Rattle.demands.proofs.Accepted as acceptance
 use Rattle.demands.proofs.Refusing as refusing
 use Rattle.demands.proofs.Reading as reading
@@ -107,17 +107,17 @@ points-exactly p l = (point-read p l, λ w. point-reads l (w .0) ∙ ap says (w 
 -- the text
 
 pub fixes-both-ways : (layout : Layout)
-    → BothWays (Reading (λ l. fixSaid l layout) 35) (λ v. fixText (v .0) (v .1)) (λ v. isFix (v .0) (v .1) layout) (λ v. goodFix (v .0) (v .1) layout)
+    → BothWays (ReadsAs (λ l. fixSaid l layout) 35) (λ v. fixText (v .0) (v .1)) (λ v. isFix (v .0) (v .1) layout) (λ v. goodFix (v .0) (v .1) layout)
 fixes-both-ways layout = trip-ways (λ f tail. isFix f tail layout) (fix-trip layout) (λ f tail. fix-good f tail layout)
 
 pub notes-both-ways : (layout : Layout)
-    → BothWays (Reading (λ l. noteSaid l layout) 7) (λ v. noteText (v .0) (v .1)) (λ v. isNote (v .0) (v .1) layout) (λ v. goodNote (v .0) (v .1) layout)
+    → BothWays (ReadsAs (λ l. noteSaid l layout) 7) (λ v. noteText (v .0) (v .1)) (λ v. isNote (v .0) (v .1) layout) (λ v. goodNote (v .0) (v .1) layout)
 notes-both-ways layout = trip-ways (λ t tail. isNote t tail layout) (note-trip layout) (λ t tail. note-good t tail layout)
 
-pub heads-both-ways : BothWays (Reading headSaid 25) (λ v. headText (v .0) (v .1)) (λ v. isHead (v .0) (v .1)) (λ v. goodHead (v .0) (v .1))
+pub heads-both-ways : BothWays (ReadsAs headSaid 25) (λ v. headText (v .0) (v .1)) (λ v. isHead (v .0) (v .1)) (λ v. goodHead (v .0) (v .1))
 heads-both-ways = trip-ways isHead head-trip head-good
 
-pub points-both-ways : BothWays (Reading pointSaid 18) (λ v. pointText (v .0) (v .1)) (λ v. isPoint (v .0) (v .1)) (λ v. goodPoint (v .0) (v .1))
+pub points-both-ways : BothWays (ReadsAs pointSaid 18) (λ v. pointText (v .0) (v .1)) (λ v. isPoint (v .0) (v .1)) (λ v. goodPoint (v .0) (v .1))
 points-both-ways = trip-ways isPoint point-trip point-good
 
 -- I lines and J lines: of a layout nothing stands behind
@@ -127,28 +127,28 @@ layouts-both-ways family = both-ways _ _ _ _ (λ l v. layout-exactly family (v .
 
 -- so of every answer r and output afterwards that the writers' promises allow
 module _ (place : ℕ) (out : List ℕ) (r : Wrote) (after : List ℕ) where
-  pub fix-writer : (f : Fix) (tail : List ℕ) (layout : Layout) → FixWritten f tail layout place out r after → Ways (Reading (λ l. fixSaid l layout) 35) (f, tail) place out r after
-  fix-writer f tail layout = fixes-both-ways layout .written (f, tail) place out r after
+  pub fix-writer : (f : Fix) (tail : List ℕ) (layout : Layout) → FixWritten f tail layout place out r after → Ways (ReadsAs (λ l. fixSaid l layout) 35) (f, tail) place out r after
+  fix-writer f tail layout = fixes-both-ways layout .writes (f, tail) place out r after
 
-  pub note-writer : (t : ℕ) (tail : List ℕ) (layout : Layout) → NoteWritten t tail layout place out r after → Ways (Reading (λ l. noteSaid l layout) 7) (t, tail) place out r after
-  note-writer t tail layout = notes-both-ways layout .written (t, tail) place out r after
+  pub note-writer : (t : ℕ) (tail : List ℕ) (layout : Layout) → NoteWritten t tail layout place out r after → Ways (ReadsAs (λ l. noteSaid l layout) 7) (t, tail) place out r after
+  note-writer t tail layout = notes-both-ways layout .writes (t, tail) place out r after
 
-  pub head-writer : (h : Head) (rest : List ℕ) → HeadWritten h rest place out r after → Ways (Reading headSaid 25) (h, rest) place out r after
-  head-writer h rest = heads-both-ways .written (h, rest) place out r after
+  pub head-writer : (h : Head) (rest : List ℕ) → HeadWritten h rest place out r after → Ways (ReadsAs headSaid 25) (h, rest) place out r after
+  head-writer h rest = heads-both-ways .writes (h, rest) place out r after
 
-  pub point-writer : (p : Point) (rest : List ℕ) → PointWritten p rest place out r after → Ways (Reading pointSaid 18) (p, rest) place out r after
-  point-writer p rest = points-both-ways .written (p, rest) place out r after
+  pub point-writer : (p : Point) (rest : List ℕ) → PointWritten p rest place out r after → Ways (ReadsAs pointSaid 18) (p, rest) place out r after
+  point-writer p rest = points-both-ways .writes (p, rest) place out r after
 
   pub layout-writer : (family : Family) (i : Slotted) → LayoutWritten family (i .layout) place out r after
       → Ways (λ l (v : Slotted). layoutSaid family l ≡ says (v .layout)) i place out r after
-  layout-writer family i = layouts-both-ways family .written i place out r after
+  layout-writer family i = layouts-both-ways family .writes i place out r after
 
 -- a reader of K lines that refuses everything is not both ways, whatever its writer tests
 pub not-refusing : (said : List ℕ → Said ℕ) (test : ℕ × List ℕ → Bool) → ((l : List ℕ) (t : ℕ) → said l ≡ says t → ⊥)
-    → BothWays (Reading said 7) (λ v. noteText (v .0) (v .1)) test (λ v. goodNote (v .0) (v .1) emptyLayout) → ⊥
+    → BothWays (ReadsAs said 7) (λ v. noteText (v .0) (v .1)) test (λ v. goodNote (v .0) (v .1) emptyLayout) → ⊥
 not-refusing said test never b = never (noteText 0 []) 0 (b .reads-exactly (noteText 0 []) (0, []) .1 (refl, nothing-good) .0)
 
 -- nor is one that always says the same time
-pub not-stock : (t : ℕ) (test limits : ℕ × List ℕ → Bool) → BothWays (Reading (λ l. says t) 7) (λ v. noteText (v .0) (v .1)) test limits → ⊥
+pub not-stock : (t : ℕ) (test limits : ℕ × List ℕ → Bool) → BothWays (ReadsAs (λ l. says t) 7) (λ v. noteText (v .0) (v .1)) test limits → ⊥
 unfolding noteText
 not-stock t test limits b = let n = ap length (b .reads-exactly [] (t, []) .0 (refl, refl) .0) in omega arith

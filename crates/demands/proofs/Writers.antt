@@ -21,7 +21,7 @@ use Rattle.rules.specs.declared.Wrote.{Wrote}
 use Rattle.trips.specs.Limits.{isClean, badTail, goodTail, goodNote}
 use Rattle.trips.proofs.Laws.{false-true, refuses-says}
 use Rattle.trips.proofs.LineTrip.{LineTrip, line-limits}
-use Rattle.demands.specs.BothWays.{Stands, Reading, Ways, BothWays}
+use Rattle.demands.specs.BothWays.{InOutput, ReadsAs, Ways, BothWays}
 
 -- ---- the line in the output
 
@@ -44,7 +44,7 @@ module _ (text : List ℕ) (place : ℕ) (out : List ℕ) (room : place + length
   front : length (take place out) ≡ place
   front = length-take-le place out (omega arith)
 
-  stands : Stands text place out (says to) (sets out place (text ++ crlf))
+  stands : InOutput text place out (says to) (sets out place (text ++ crlf))
   unfolding to
   stands =
       let n = line-length in
@@ -63,7 +63,7 @@ module _ (text : List ℕ) (place : ℕ) (out : List ℕ) (room : place + length
 data Answer (good : Bool) (text : List ℕ) (place : ℕ) (out : List ℕ) (a : Said ℕ) (after : List ℕ) : Type 0 where
   bad : good ≡ false → a ≡ no BadValue 0 → after ≡ out → Answer good text place out a after
   full : good ≡ true → length out < place + length text + 2 → a ≡ no NoRoom 0 → after ≡ out → Answer good text place out a after
-  wrote : good ≡ true → place + length text + 2 ≤ length out → Stands text place out a after → Answer good text place out a after
+  wrote : good ≡ true → place + length text + 2 ≤ length out → InOutput text place out a after → Answer good text place out a after
 
 answer : (good : Bool) (text : List ℕ) (place : ℕ) (out : List ℕ) (r : Wrote) (after : List ℕ) → Written good text place out r after
     → Answer good text place out (wroteTold r) after
@@ -76,8 +76,8 @@ answer true text place out r after w = go (leb (place + length text + 2) (length
     go true q =
         let h = leb-true (place + length text + 2) (length out) q in
         let s = stands text place out h in
-        wrote refl h (subst (λ (x : List ℕ). Stands text place out (wroteTold r) x) (sym (w .bytes ∙ rw q))
-        (subst (λ (a : Said ℕ). Stands text place out a (sets out place (text ++ crlf))) (sym (w .told ∙ rw q)) s))
+        wrote refl h (subst (λ (x : List ℕ). InOutput text place out (wroteTold r) x) (sym (w .bytes ∙ rw q))
+        (subst (λ (a : Said ℕ). InOutput text place out a (sets out place (text ++ crlf))) (sym (w .told ∙ rw q)) s))
 
 not-both : _≡_ {A = Said ℕ} (no BadValue 0) (no NoRoom 0) → ⊥
 unfolding number
@@ -109,7 +109,7 @@ module _ {A : Type 0} (Reads : List ℕ → A → Type 0) (text : A → List ℕ
   ways v place out r after (wrote e h s) =
       let own : Reads (text v) v = exactly (text v) v .1 (refl, sym (tested v) ∙ e) in
       record {
-        read-then-write = λ l x n. subst (λ (y : List ℕ). Stands y place out (wroteTold r) after) (sym (exactly l v .0 x .0)) s;
+        read-then-write = λ l x n. subst (λ (y : List ℕ). InOutput y place out (wroteTold r) after) (sym (exactly l v .0 x .0)) s;
         write-then-read = λ n q. (text v, own, s);
         bad-value-exactly = (λ x. absurd (refuses-says (sym x ∙ s .next)), λ f. absurd (f (text v) own));
         no-room-exactly = (
@@ -120,14 +120,14 @@ module _ {A : Type 0} (Reads : List ℕ → A → Type 0) (text : A → List ℕ
       }
 
   pub both-ways : BothWays Reads text test limits
-  both-ways = record { reads-exactly = exactly; tested = tested; written = λ v place out r after w. ways v place out r after (answer (test v) (text v) place out r after w) }
+  both-ways = record { reads-exactly = exactly; tested = tested; writes = λ v place out r after w. ways v place out r after (answer (test v) (text v) place out r after w) }
 
 -- a line of fields and what stands behind them
 pub trip-ways : {A : Type 0} {said : List ℕ → Said A} {text : A → List ℕ → List ℕ} {fields : ℕ} {limits : A → List ℕ → Bool} (test : A → List ℕ → Bool)
     → LineTrip said text fields limits → ((v : A) (rest : List ℕ) → test v rest ≡ limits v rest)
-    → BothWays (Reading said fields) (λ v. text (v .0) (v .1)) (λ v. test (v .0) (v .1)) (λ v. limits (v .0) (v .1))
+    → BothWays (ReadsAs said fields) (λ v. text (v .0) (v .1)) (λ v. test (v .0) (v .1)) (λ v. limits (v .0) (v .1))
 trip-ways {said = said} {text = text} {fields = fields} {limits = limits} test trip tested =
-    both-ways (Reading said fields) (λ v. text (v .0) (v .1)) (λ v. test (v .0) (v .1)) (λ v. limits (v .0) (v .1))
+    both-ways (ReadsAs said fields) (λ v. text (v .0) (v .1)) (λ v. test (v .0) (v .1)) (λ v. limits (v .0) (v .1))
     (λ l v. (
       λ h. (trip .there l (v .0) (h .0) ∙ ap (text (v .0)) (h .1), ap (limits (v .0)) (sym (h .1)) ∙ line-limits trip l (v .0) (h .0)),
       λ h. (ap said (h .0) ∙ trip .here (v .0) (v .1) (h .1), ap (drop fields) (h .0) ∙ trip .behind (v .0) (v .1)),

@@ -15,15 +15,16 @@ use Rattle.rules.specs.declared.Layout.{Layout}
 use Rattle.rules.specs.declared.Wrote.{Wrote}
 
 -- "Each written line goes into the lent output from a given place on, and bytes outside the line and its CR LF stay."; the answer is the place after them
-pub record Stands (l : List ℕ) (place : ℕ) (out : List ℕ) (answer : Said ℕ) (after : List ℕ) : Type 0 where
+pub record InOutput (l : List ℕ) (place : ℕ) (out : List ℕ) (answer : Said ℕ) (after : List ℕ) : Type 0 where
   pub next : answer ≡ says (place + length l + 2)
   pub line : part place (place + length l + 2) after ≡ l ++ crlf
   pub before : take place after ≡ take place out
   pub behind : drop (place + length l + 2) after ≡ drop (place + length l + 2) out
 
--- "Writers take what the readings give, columns and other text as bytes": the value that a line says, and the bytes behind its fields
-abbrev pub Reading : {A : Type 0} → (List ℕ → Said A) → ℕ → List ℕ → A × List ℕ → Type 0
-Reading said fields l v = (said l ≡ says (v .0)) × (drop fields l ≡ v .1)
+-- "Writers take what the readings give, columns and other text as bytes": the value that a line says, and the bytes behind its fields (of a head and a point what `headRest`
+-- and `pointRest` give)
+abbrev pub ReadsAs : {A : Type 0} → (List ℕ → Said A) → ℕ → List ℕ → A × List ℕ → Type 0
+ReadsAs said fields l v = (said l ≡ says (v .0)) × (drop fields l ≡ v .1)
 
 -- a layout as the library takes it: a count and 13 entries, of which the count's are used
 pub record Slotted : Type 0 where
@@ -33,9 +34,9 @@ pub record Slotted : Type 0 where
 -- what holds of an answer r and an output afterwards, whenever the writer's promise does
 pub record Ways {A : Type 0} (Reads : List ℕ → A → Type 0) (v : A) (place : ℕ) (out : List ℕ) (r : Wrote) (after : List ℕ) : Type 0 where
   -- what is read from a line and written where there is room is that line and its CR LF
-  pub read-then-write : (l : List ℕ) → Reads l v → place + length l + 2 ≤ length out → Stands l place out (wroteTold r) after
+  pub read-then-write : (l : List ℕ) → Reads l v → place + length l + 2 ≤ length out → InOutput l place out (wroteTold r) after
   -- where something is written, it is a line and its CR LF, and that line reads as what was given
-  pub write-then-read : (n : ℕ) → wroteTold r ≡ says n → (l : List ℕ) × Reads l v × Stands l place out (wroteTold r) after
+  pub write-then-read : (n : ℕ) → wroteTold r ≡ says n → (l : List ℕ) × Reads l v × InOutput l place out (wroteTold r) after
   -- "A writer gives 17 exactly when no line that passes 7 to 13 reads as the values given."
   pub bad-value-exactly : (wroteTold r ≡ no BadValue 0) ↔ ((l : List ℕ) → Reads l v → ⊥)
   -- "18 NO_ROOM: output shorter than place + length + 2"; "Writers test 17 before 18"
@@ -49,4 +50,4 @@ pub record BothWays {A : Type 0} (Reads : List ℕ → A → Type 0) (text : A �
   -- which is what the writer tests
   pub tested : (v : A) → test v ≡ limits v
   -- and so, of every answer and output that the writer's promise allows
-  pub written : (v : A) (place : ℕ) (out : List ℕ) (r : Wrote) (after : List ℕ) → Written (test v) (text v) place out r after → Ways Reads v place out r after
+  pub writes : (v : A) (place : ℕ) (out : List ℕ) (r : Wrote) (after : List ℕ) → Written (test v) (text v) place out r after → Ways Reads v place out r after
