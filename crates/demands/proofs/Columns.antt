@@ -1,5 +1,5 @@
--- The columns of a line: a code of the layout leads to its entry's bytes and to the number that they spell, every other code to none, and together the columns are
--- the line's tail. Assumes nothing.
+-- The columns of a line: a code of the layout leads to its entry's bytes, as many as it is wide, and to the number that they spell, every other code to none, and
+-- together the columns are the line's tail. Assumes nothing.
 use Prim.Native.Nat.{ℕ, zero, suc, _+_, _-_, _^_, _/_, _%_, _≤_, _<_}
 use Prim.Native.Char.{code}
 use mathlib.Core.Bool.{Bool, true, false, cond}
@@ -16,7 +16,7 @@ use Rattle.rules.specs.Choice.{given, need, on, firstOf, part}
 use Rattle.rules.specs.Refusals.{says, refuses, number}
 use Rattle.rules.specs.Numbers.{numberAt, digitsOf, wholeOf}
 use Rattle.rules.specs.Listed.{packedOf, codeText}
-use Rattle.rules.specs.Layouts.{unused, emptyLayout, withEntry, entriesOf, Span, spanOf, look, firstStart, allowed, lineLength, columnText}
+use Rattle.rules.specs.Layouts.{emptyLayout, withEntry, entriesOf, Span, spanOf, look, firstStart, allowed, lineLength, columnText}
 use Rattle.rules.specs.Reads.{lineSaid, columnSaid, columnRest, numberSaid}
 use Rattle.rules.specs.declared.Signed.{Signed}
 use Rattle.rules.specs.declared.Entry.{Entry}

@@ -1,5 +1,5 @@
--- Of an accepted file each B line and each K line is read with no refusal by the layouts of the answer, column by column, and its declaration is a head with its
--- points. Assumes nothing.
+-- What can be read from an accepted file: its lines by number and step by step; each B line and each K line, by the layouts of the answer, as the value whose line it
+-- is, column by column; and its declaration, a head with its points. Assumes nothing.
 use Prim.Native.Nat.{ℕ, zero, suc, _+_, _-_, _<_}
 use Prim.Native.Char.{code}
 use mathlib.Core.Bool.{false}

@@ -1,6 +1,6 @@
 -- The tail of a B or a K line: by an allowed layout it is good exactly when it is the layout's columns, one behind the other. Assumes nothing.
 use Prim.Native.Nat.{ℕ, suc, _+_, _-_, _≤_}
-use mathlib.Core.Bool.{true, false, not}
+use mathlib.Core.Bool.{true, false}
 use mathlib.Core.List.{List, [], _∷_, _++_}
 use mathlib.Core.Logic.{_↔_}
 use mathlib.Core.Path.{_≡_, refl, sym, _∙_, ap, subst}
@@ -9,7 +9,7 @@ use borrow.Author.Tests.{eqb-true, eq-eqb, ne-eqb, not-false}
 use lib.Dec.{eqb}
 use lib.ListN.{length, getD, take, drop, replicate, length-append, length-drop, take-append-drop, List·getD-append}
 use lib.Seq.{drop-drop, drop-at, take-at, length-take-le}
-use Rattle.rules.specs.Choice.{given, firstOf, part}
+use Rattle.rules.specs.Choice.{part}
 use Rattle.rules.specs.Chars.{isValid}
 use Rattle.rules.specs.Listed.{keepsRule}
 use Rattle.rules.specs.Layouts.{unused, emptyLayout, withEntry, entriesOf, allowed, lineLength}

@@ -2,10 +2,10 @@
 -- Assumes nothing.
 use Prim.Native.Nat.{ℕ}
 use Prim.Native.Char.{code}
-use mathlib.Core.Bool.{Bool, true, false, not, _&&_}
+use mathlib.Core.Bool.{Bool, true, not, _&&_}
 use mathlib.Core.List.{List, [], _∷_, _++_, append-assoc}
 use mathlib.Core.Logic.{_⊎_, inl, inr}
-use mathlib.Core.Path.{_≡_, refl, sym, _∙_, ap, subst}
+use mathlib.Core.Path.{_≡_, refl, _∙_, ap, subst}
 use native.Mathlib.Omega.{arith}
 use borrow.Author.Tests.{eqb-false, not-true}
 use lib.Dec.{eqb, lit≤}
@@ -13,20 +13,19 @@ use lib.IntN.{pos}
 use lib.ListN.{getD, drop}
 use Rattle.rules.specs.Choice.{bytes}
 use Rattle.rules.specs.Degrees.{isPosition}
-use Rattle.rules.specs.Layouts.{unused, emptyLayout}
+use Rattle.rules.specs.Layouts.{emptyLayout}
 use Rattle.rules.specs.Writes.{headText, pointText}
 use Rattle.rules.specs.declared.Entry.{Entry}
 use Rattle.rules.specs.declared.Layout.{Layout}
 use Rattle.rules.specs.declared.Family.{Family}
 use Rattle.rules.specs.declared.Family.the-variants as family
-use Rattle.rules.specs.declared.Date.{Date}
 use Rattle.rules.specs.declared.Fix.{Fix}
 use Rattle.rules.proofs.Computed.{everything, fileOf}
 use Rattle.rules.proofs.Damaged.{fiveLines, fiveLayout}
 use Rattle.trips.specs.Limits.{isAltitude, goodFixFields}
 use Rattle.trips.proofs.Laws.{and-inv}
 use Rattle.trips.proofs.Texts.{areValid}
-use Rattle.demands.specs.Grammar.{Each, IsText, july, IsGLine, IsLLine, IsLayoutLine, AtMostOne, absent, given, Timed, fix, event, satellites, note, Untimed, differential, remark, other, Items, done, timed, untimed, Body, undeclared, declared, none, column, Parts, linesIn, Keeps, Meets, written}
+use Rattle.demands.specs.Grammar.{Each, IsText, july, AtMostOne, absent, given, Timed, fix, event, satellites, note, Untimed, differential, remark, other, Items, done, timed, untimed, Body, undeclared, declared, none, column, linesIn, Meets, written}
 use Rattle.demands.proofs.Laws.{each-map, each-join, each-cut, are-valid}
 use Rattle.demands.proofs.Rows.{width-exactly, rule-exactly}
 use Rattle.demands.proofs.Valued.{b-letter, k-letter}

@@ -3,17 +3,17 @@
 use Prim.Native.Nat.{ℕ, _+_, _-_, _<_, _≤_}
 use mathlib.Core.Bool.{Bool, true, false}
 use mathlib.Core.List.{List, [], _++_, append-assoc}
-use mathlib.Core.Logic.{_↔_, _⊎_, inl, inr}
+use mathlib.Core.Logic.{_↔_, inl, inr}
 use mathlib.Core.Path.{_≡_, refl, sym, _∙_, ap, subst}
 use native.Mathlib.Omega.{arith}
-use borrow.Author.Tests.{le-leb, leb-true, leb-false, lt-leb}
+use borrow.Author.Tests.{leb-true, leb-false}
 use lib.Dec.{leb}
 use lib.ListN.{length, take, drop, length-append}
 use lib.Seq.{sets, sets-eq, take-at, drop-at, length-take-le}
-use Rattle.rules.specs.Choice.{part, firstOf, leads}
+use Rattle.rules.specs.Choice.{firstOf, leads}
 use Rattle.rules.specs.Chars.{firstInvalid}
 use Rattle.rules.specs.Layouts.{emptyLayout, allowed, allPlaced, isUnused, lineLength}
-use Rattle.rules.specs.Refusals.{Said, says, refuses, no, number}
+use Rattle.rules.specs.Refusals.{Said, says, no, number}
 use Rattle.rules.specs.Writes.{crlf, wroteTold, written, outAfter}
 use Rattle.rules.specs.Promises.{Written}
 use Rattle.rules.specs.declared.Reason.the-variants.{BadValue, NoRoom}

@@ -22,7 +22,6 @@ use Rattle.rules.specs.declared.Family.{Family}
 use Rattle.rules.specs.declared.Family.the-variants as family
 use Rattle.rules.specs.declared.Fix.{Fix}
 use Rattle.rules.specs.declared.Head.{Head}
-use Rattle.rules.specs.declared.Point.{Point}
 use Rattle.rules.specs.declared.Flight.{Flight}
 use Rattle.demands.specs.Grammar.{Each, IsText, widthOf, IsBLine, IsKLine, IsHeadLine, IsPointLine, written, beginning}
 
