@@ -1,17 +1,16 @@
--- What the part of a line between two places is, and what a layout's last entry tells. Assumes nothing.
+-- What the part of a line between two places is, and what the first bad column tells of all. Assumes nothing.
 use Prim.Native.Nat.{ℕ, _-_, _≤_, _<_}
 use mathlib.Core.List.{List, []}
 use mathlib.Core.Option.{none, some}
-use mathlib.Core.Path.{_≡_, refl, sym, _∙_, ap}
+use mathlib.Core.Path.{_≡_, sym, _∙_, ap}
 use native.Mathlib.Omega.{arith}
-use lib.ListN.{length, take, drop, getD, length-drop, drop-of-length-le, List·getD-eq-default}
+use lib.ListN.{length, take, drop, length-drop, drop-of-length-le}
 use lib.Seq.{take-all, take-nil}
 use Rattle.rules.specs.Choice.{part}
-use Rattle.rules.specs.Layouts.{unused, badColumn, columns}
+use Rattle.rules.specs.Layouts.{badColumn, columns}
 use Rattle.rules.specs.Refusals.{says, no}
 use Rattle.rules.specs.declared.Reason.the-variants.{Column}
 use Rattle.rules.specs.declared.Layout.{Layout}
-use Rattle.rules.specs.declared.Entry.{Entry}
 
 -- the end comes before the start
 pub part-none : (a b e : ℕ) (l : List ℕ) → a ≡ b → e ≤ a → [] ≡ part b e l
@@ -28,10 +27,6 @@ part-short a b e l q h =
 
 pub part-whole : (a b e : ℕ) (l : List ℕ) → a ≡ b → take (e - a) (drop a l) ≡ part b e l
 part-whole a b e l q = rw (← q)
-
--- behind thirteen entries none stands
-pub past-last : (es : List Entry) (n : ℕ) → length es ≡ 13 → 13 < n → 0 ≡ (getD es (n - 1) unused) .last
-past-last es n h k = let q : length es ≤ n - 1 = omega arith in rw (List·getD-eq-default es unused q)
 
 -- what the first bad column tells of all
 pub columns-clear : (l : List ℕ) (layout : Layout) → badColumn l layout ≡ none → says tt ≡ columns l layout

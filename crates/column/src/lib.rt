@@ -1,10 +1,10 @@
-// The columns of a B or a K line: where its layout ends it, the text of a column, and each listed column by its rule. Every layout value has an answer.
-ghost use Prim.Native.Nat.{_-_};
+// The columns of a B or a K line: the text of a column, and each listed column by its rule. Every layout value has an answer.
 ghost use mathlib.Core.Path.{_≡_};
-ghost use Rattle.rules.specs.Choice.{part, byte};
-ghost use Rattle.rules.specs.Layouts.{spanOf, columnText, lineLength};
+ghost use Rattle.rules.specs.Choice.{byte};
+ghost use Rattle.rules.specs.Layouts.{spanOf, columnText};
 ghost use Rattle.rules.specs.Listed.{keepsRule};
 ghost use Rattle.rules.specs.Promises.{ColumnsChecked};
+ghost use Rattle.column.specs.Parts.{TextOf};
 use rules::Entry;
 use rules::Layout;
 use rules::Outcome;
@@ -23,7 +23,7 @@ fn before(first: u8) -> usize
 
 // The bytes first to last of a line, counted from 1, as far as the line has them.
 pub fn text_of(line: &[u8], first: u8, last: u8) -> &[u8]
-    ensures { λ r. ⌜ now r ≡ part (byte first) last (now (line .entry)) ⌝ }
+    ensures { λ r. ⌜ TextOf (now (line .entry)) first last (now r) ⌝ }
 {
     let a = before(first);
     let e = last as usize;
@@ -67,22 +67,4 @@ pub fn columns(line: &[u8], layout: Layout) -> Outcome
         i += 1;
     }
     Outcome::Accepted
-}
-
-// How many bytes a line has by its layout, where the first column would start at `start`.
-pub fn line_length(start: u8, layout: Layout) -> u8
-    ensures { λ r. ⌜ r ≡ lineLength start layout ⌝ }
-{
-    let n = layout.count;
-    if n == 0 {
-        if start == 0 {
-            return 0;
-        }
-        return start - 1;
-    }
-    if 13 < n {
-        return 0;
-    }
-    let e = layout.entries[n - 1];
-    e.last
 }

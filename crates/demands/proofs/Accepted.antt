@@ -9,9 +9,8 @@ use native.Mathlib.Omega.{arith}
 use borrow.Author.Tests.{ne-eqb}
 use lib.Dec.{eqb}
 use lib.ListN.{length, getD}
-use Rattle.rules.specs.Choice.{leads}
 use Rattle.rules.specs.Refusals.{says}
-use Rattle.rules.specs.Layouts.{emptyLayout, isSaid, isUnused, allPlaced, allowed}
+use Rattle.rules.specs.Layouts.{emptyLayout, isSaid}
 use Rattle.rules.specs.Lines.{kindOf}
 use Rattle.rules.specs.Order.{start, moved, dated, judge}
 use Rattle.rules.specs.Files.{verdict}
@@ -25,12 +24,12 @@ use Rattle.rules.specs.declared.State.{State}
 use Rattle.laws.proofs.Chains.{surely}
 use Rattle.laws.proofs.Counted.{isB, isK, OneMore, judge-counts}
 use Rattle.demands.specs.Grammar.{Each, IsText, OrderFrom, InOrder, IsALine, IsDateLine, AtMostOne, Parts, linesIn, Keeps, written, Meets, beginning, flightOf}
-use Rattle.demands.specs.Faults.{Passes, done, next}
+use Rattle.demands.specs.FieldTexts.{Letter}
 use Rattle.demands.proofs.Laws.{said-some}
-use Rattle.demands.proofs.Leading.{Letter, letter, Part, Leads, first, second, further, fixing, noting, flying, sealing, remarking, Sound, judge-leads, leads-judge}
+use Rattle.demands.proofs.Leading.{letter, Part, Leads, first, second, further, fixing, noting, flying, sealing, remarking, sound-start, judge-leads, leads-judge}
 use Rattle.demands.proofs.Leading as part
 use Rattle.demands.proofs.LayoutLines.{told}
-use Rattle.demands.proofs.Passing.{passes-join, lines-passed, Accepts, accepted-passes}
+use Rattle.demands.proofs.Passing.{Passes, done, next, passes-join, lines-passed, Accepts, accepted-passes}
 use Rattle.demands.proofs.Sections.{Fresh, passes-above, Section, split, above-end, section-passes, headers-there, headers-here, fixes-there, fixes-here, notes-there, notes-here, body-same, body-stage, body-there, body-here, seal-there, sealed, seal-here, remarks-there, remarked, remarks-here}
 
 -- ---- the counts
@@ -66,10 +65,6 @@ counts-passed (next {st = st} {m = m} {l = l} e p) =
 
 abbrev opened : Date → State
 opened d = dated d (moved 2 (moved 1 start))
-
-sound-start : Sound start
-unfolding allowed allPlaced leads isUnused
-sound-start = ((refl, refl), (refl, refl))
 
 first-line : {l : List ℕ} {p : Part} {m : State} → Leads start l p m → IsALine l × (m ≡ moved 1 start)
 first-line (first z p w) = (w, refl)

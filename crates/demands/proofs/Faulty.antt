@@ -1,39 +1,42 @@
--- The check of a line against the list of its checks: it says a state exactly where all pass, and else refuses with the number and byte of the first that fails.
--- Assumes nothing.
-use Prim.Native.Nat.{ℕ, zero, suc, _+_, _-_, _*_, _%_}
+-- The check of a line, where it stands behind the lines before, against the list of the line's checks: it says a state exactly where all pass, and else refuses with
+-- the number and byte of the first that fails. Assumes nothing.
+use Prim.Native.Nat.{ℕ, zero, suc, _+_, _-_, _*_, _%_, _≤_}
 use Prim.Native.Char.{code}
-use mathlib.Core.Bool.{Bool, true, false, not, _&&_, cond}
+use mathlib.Core.Bool.{Bool, true, false, not, _&&_, _||_, cond}
 use mathlib.Core.List.{List, [], _∷_, _++_, append-assoc}
 use mathlib.Core.Logic.{_⊎_, inl, inr}
 use mathlib.Core.Option.{Option, none, some}
 use mathlib.Core.Path.{_≡_, refl, sym, _∙_, ap, subst}
 use native.Mathlib.Omega.{arith}
-use borrow.Author.Tests.{eqb-true, eqb-false, eq-eqb, ne-eqb}
-use lib.Dec.{eqb, leb}
-use lib.ListN.{length, getD, drop}
+use borrow.Author.Tests.{le-leb, lt-leb, eqb-true, eqb-false, eq-eqb, ne-eqb}
+use lib.Dec.{eqb, leb, ltb}
+use lib.ListN.{length, getD, drop, replicate, length-append}
 use Rattle.rules.specs.Choice.{given, need, on, firstOf}
 use Rattle.rules.specs.Refusals.{number, Said, says, refuses, andThen}
 use Rattle.rules.specs.Chars.{isValid, isCode, codesAt, firstInvalid, characters}
 use Rattle.rules.specs.Numbers.{numberAt}
 use Rattle.rules.specs.Fields.{timeAt, dateAt, latitudeAt, longitudeAt, altitudeAt, isEither}
 use Rattle.rules.specs.Listed.{codeAt, widthFits, keepsRule}
-use Rattle.rules.specs.Layouts.{firstStart, emptyLayout, withEntry, entriesOf, lineLength, spanOf, carries, placed, entryAt, entriesFrom, layoutFields, columnText, badColumn, columns}
+use Rattle.rules.specs.Layouts.{unused, firstStart, withEntry, lineLength, spanOf, look, carries, placed, entryAt, entriesFrom, layoutFields, columnText, badColumn, columns}
 use Rattle.rules.specs.Lines.{kindOf, isSized, shaped, aLine, isDateMark, dateLine, hLine, layoutLine, plannedAt, headFields, headLine, pointLine, dLine, eLine, badPair, fLine, fixFields, shapedBy, bLine, kLine, lLine, gLine, otherLine}
-use Rattle.rules.specs.Order.{isKind, orderOf, moved, dated, withFixes, withNotes, counted, begun, pointed, isBack, passing, timed, ruled, judge}
+use Rattle.rules.specs.Order.{isKind, orderOf, moved, dated, withFixes, withNotes, counted, begun, pointed, onward, nextDay, back, isBack, passing, timed, ruled, judge}
 use Rattle.rules.specs.declared.Entry.{Entry}
-use Rattle.rules.specs.declared.Layout.{Layout}
 use Rattle.rules.specs.declared.Family.{Family}
 use Rattle.rules.specs.declared.Family.the-variants as family
-use Rattle.rules.specs.declared.Fix.{Fix}
 use Rattle.rules.specs.declared.Kind.{Kind}
 use Rattle.rules.specs.declared.Kind.the-variants as kind
 use Rattle.rules.specs.declared.State.{State}
-use Rattle.trips.proofs.Laws.{false-true, refuses-says, given-inv, then-inv}
-use Rattle.trips.proofs.Fixes.{fields-there}
-use Rattle.demands.specs.Checks.{Check, check, AllPass, FailsFirst, isThere, oneEach, orZero, shapeChecks, columnChecks, timeCheck, pairChecks, entryOf, entryChecks, layoutChecks, dateChecks, headerChecks, headChecks, pointChecks, kindChecks, checksOf}
-use Rattle.demands.proofs.Laws.{each-join}
+use Rattle.trips.proofs.Laws.{false-true}
+use Rattle.demands.specs.Grammar.{laid}
+use Rattle.demands.specs.Coming.{orZero, isOpen, entryOf, entriesTold, endsAt, lastTime, isInTime}
+use Rattle.demands.specs.Checks.{Check, check, AllPass, FailsFirst, isThere, oneEach, shapeChecks, columnChecks, timeCheck, pairChecks, hasCode, entryChecks, layoutChecks, dateChecks, headerChecks, headChecks, pointChecks, sizeChecks, fixChecks, kindChecks, checksOf}
+use Rattle.demands.specs.FieldTexts.{Letter}
+use Rattle.demands.proofs.Laws.{each-join, shape-there}
 use Rattle.demands.proofs.Carried.{e-inv, f-inv}
-use Rattle.demands.proofs.Entries.{placed-there}
+use Rattle.demands.proofs.Entries.{entries-laid, with-laid}
+use Rattle.demands.proofs.Leading.{letter}
+use Rattle.demands.proofs.Standing.{there, b-time, k-time, entry-is, open-left, Stands}
+use Rattle.demands.proofs.Ordered.{order-told}
 
 -- ---- the first that fails
 
@@ -104,33 +107,49 @@ shape-agrees least most inH l =
     agree-need 7 0 (leb least (length l) && leb (length l) most) _ _ λ e.
     each-agrees 8 (λ i b. i + 1) (isValid inH) (λ i b. i) (λ i. i + 1) (λ i b. refl) tt l 0
 
-columns-agree : (l : List ℕ) (layout : Layout) → Agrees (columns l layout) (columnChecks l layout)
+columns-agree : (l : List ℕ) (es : List Entry) → Agrees (columns l (laid es)) (columnChecks l es)
 unfolding columns badColumn columnChecks number
-columns-agree l layout =
-    each-agrees 13 (λ (i : ℕ) (e : Entry). e .first) (λ e. keepsRule (e .code) (columnText l (spanOf e))) (λ (k : ℕ) (e : Entry). e .first) (λ i. i) (λ i e. refl) tt (entriesOf layout) 0
+columns-agree l es =
+    rw (entries-laid es)
+    (each-agrees 13 (λ (i : ℕ) (e : Entry). e .first) (λ e. keepsRule (e .code) (columnText l (spanOf e))) (λ (k : ℕ) (e : Entry). e .first) (λ i. i) (λ i e. refl) tt es 0)
+
+-- ---- times
+
+-- no time falls from where none was
+in-time : (before : Option ℕ) (now : ℕ) → not (isBack (passing (orZero before) now)) ≡ isInTime before now
+unfolding passing isInTime
+in-time none now = rw (le-leb 0 now (omega arith))
+in-time (some t) now = go (leb t now) (ltb 43200 (t - now))
+  where
+    go : (a b : Bool) → not (isBack (cond a onward (cond b nextDay back))) ≡ (a || b)
+    go true b = refl
+    go false true = refl
+    go false false = refl
 
 timed-agrees : (t : ℕ) (st : State) → Agrees (timed t st) (check 14 2 (not (isBack (passing (st .clock) t))) ∷ [])
 unfolding timed number
 timed-agrees t st = agree-need 14 2 (not (isBack (passing (st .clock) t))) _ [] λ e. tt
 
+on-time : (ls : List (List ℕ)) (l : List ℕ) (t : ℕ) (st : State) → st .clock ≡ orZero (lastTime ls) → timeAt l 1 ≡ some t → Agrees (timed t st) (timeCheck ls l ∷ [])
+on-time ls l t st c e =
+    let i : not (isBack (passing (st .clock) t)) ≡ isInTime (lastTime ls) (orZero (timeAt l 1)) =
+    ap (λ x. not (isBack (passing x t))) c ∙ in-time (lastTime ls) t ∙ ap (isInTime (lastTime ls)) (sym (there (timeAt l 1) e)) in
+    subst (λ x. Agrees (timed t st) (check 14 2 x ∷ [])) i (timed-agrees t st)
+
 -- ---- kind by kind
 
--- what was read of a field is its value
-there : {v : ℕ} (o : Option ℕ) → o ≡ some v → orZero o ≡ v
-there o e = rw e
-
-a-agrees : (l : List ℕ) (st : State) → Agrees (ruled kind.A l st) (kindChecks kind.A st l)
+a-agrees : (ls : List (List ℕ)) (l : List ℕ) (st : State) → Agrees (ruled kind.A l st) (kindChecks kind.A ls l)
 unfolding ruled aLine number
-a-agrees l st =
-    agree-last (aLine l) (λ u. st) (kindChecks kind.A st l)
+a-agrees ls l st =
+    agree-last (aLine l) (λ u. st) (kindChecks kind.A ls l)
     (agree-then (shaped 7 255 false l) _ (shapeChecks 7 255 false l) _ (shape-agrees 7 255 false l) λ u e.
     agree-need 9 2 (codesAt l 1 3) _ _ λ e.
     agree-need 9 5 (codesAt l 4 3) _ [] λ e. tt)
 
-d-agrees : (l : List ℕ) (st : State) → Agrees (ruled kind.D l st) (kindChecks kind.D st l)
+d-agrees : (ls : List (List ℕ)) (l : List ℕ) (st : State) → Agrees (ruled kind.D l st) (kindChecks kind.D ls l)
 unfolding ruled dLine on number
-d-agrees l st =
-    agree-last (dLine l) (λ u. st) (kindChecks kind.D st l)
+d-agrees ls l st =
+    agree-last (dLine l) (λ u. st) (kindChecks kind.D ls l)
     (agree-then (shaped 6 6 false l) _ (shapeChecks 6 6 false l) _ (shape-agrees 6 6 false l) λ u e.
     agree-need 9 2 (isEither (getD l 1 0) (code "1") (code "2")) _ _ λ e.
     agree-need 9 3 (codesAt l 2 4) _ [] λ e. tt)
@@ -172,18 +191,16 @@ point-agrees l =
 time-last : (s : Said State) (a b : List Check) (c : Check) → Agrees s ((a ++ b) ++ (c ∷ [])) → Agrees s (a ++ (b ++ (c ∷ [])))
 time-last s a b c h = rw append-assoc at h
 
-on-time : (l : List ℕ) (t : ℕ) (st : State) → timeAt l 1 ≡ some t → Agrees (timed t st) (timeCheck st l ∷ [])
-on-time l t st e = rw (there (timeAt l 1) e) (timed-agrees t st)
-
-e-agrees : (l : List ℕ) (st : State) → Agrees (ruled kind.E l st) (kindChecks kind.E st l)
+e-agrees : (ls : List (List ℕ)) (l : List ℕ) (st : State) → st .clock ≡ orZero (lastTime ls) → Agrees (ruled kind.E l st) (kindChecks kind.E ls l)
 unfolding ruled eLine number
-e-agrees l st =
+e-agrees ls l st c =
     let cs = check 9 2 (isThere (timeAt l 1)) ∷ check 9 8 (codesAt l 7 3) ∷ [] in
     let h : Agrees (eLine l) (shapeChecks 10 255 false l ++ cs) =
     agree-then (shaped 10 255 false l) _ (shapeChecks 10 255 false l) _ (shape-agrees 10 255 false l) λ u e.
     agree-given 9 2 (timeAt l 1) _ _ λ t e.
     agree-need 9 8 (codesAt l 7 3) _ [] λ e. tt in
-    time-last (ruled kind.E l st) (shapeChecks 10 255 false l) cs (timeCheck st l) (agree-then (eLine l) (λ t. timed t st) _ (timeCheck st l ∷ []) h λ t e. on-time l t st (e-inv l t e .1))
+    time-last (ruled kind.E l st) (shapeChecks 10 255 false l) cs (timeCheck ls l)
+    (agree-then (eLine l) (λ t. timed t st) _ (timeCheck ls l ∷ []) h λ t e. on-time ls l t st c (e-inv l t e .1))
 
 pairs-agree : {A : Type 0} (v : A) (l : List ℕ) (at : ℕ) → Agrees (given (badPair at l) (says v) λ i. refuses 9 0 (i + 1)) (pairChecks at l)
 unfolding badPair pairChecks
@@ -196,29 +213,35 @@ pairs-agree v (a ∷ b ∷ l) at = go (isCode a && isCode b) (pairs-agree v l (a
     go true h = one-more (given (badPair (at + 2) l) (says v) λ i. refuses 9 0 (i + 1)) (check 9 (at + 1) true) (pairChecks (at + 2) l) refl h
     go false h = (refl, inl (refl, refl, refl))
 
-f-agrees : (l : List ℕ) (st : State) → Agrees (ruled kind.F l st) (kindChecks kind.F st l)
+f-agrees : (ls : List (List ℕ)) (l : List ℕ) (st : State) → st .clock ≡ orZero (lastTime ls) → Agrees (ruled kind.F l st) (kindChecks kind.F ls l)
 unfolding ruled fLine number
-f-agrees l st =
+f-agrees ls l st c =
     let cs = check 9 2 (isThere (timeAt l 1)) ∷ check 9 8 (eqb ((length l - 7) % 2) 0) ∷ pairChecks 7 (drop 7 l) in
     let h : Agrees (fLine l) (shapeChecks 7 255 false l ++ cs) =
     agree-then (shaped 7 255 false l) _ (shapeChecks 7 255 false l) _ (shape-agrees 7 255 false l) λ u e.
     agree-given 9 2 (timeAt l 1) _ _ λ t e.
     agree-need 9 8 (eqb ((length l - 7) % 2) 0) _ _ λ e.
     pairs-agree t (drop 7 l) 7 in
-    time-last (ruled kind.F l st) (shapeChecks 7 255 false l) cs (timeCheck st l) (agree-then (fLine l) (λ t. timed t st) _ (timeCheck st l ∷ []) h λ t e. on-time l t st (f-inv l t e .1))
+    time-last (ruled kind.F l st) (shapeChecks 7 255 false l) cs (timeCheck ls l)
+    (agree-then (fLine l) (λ t. timed t st) _ (timeCheck ls l ∷ []) h λ t e. on-time ls l t st c (f-inv l t e .1))
 
-fix-checks : List ℕ → List Check
-fix-checks l =
-    check 9 2 (isThere (timeAt l 1))
-    ∷ check 9 8 (isThere (latitudeAt l 7))
-    ∷ check 9 16 (isThere (longitudeAt l 15))
-    ∷ check 9 25 (isEither (getD l 24 0) (code "A") (code "V"))
-    ∷ check 9 26 (isThere (altitudeAt l 25))
-    ∷ check 9 31 (isThere (altitudeAt l 30))
-    ∷ []
+-- ---- B and K lines
 
-fields-agree : (l : List ℕ) → Agrees (fixFields l) (fix-checks l)
-unfolding fixFields fix-checks on number
+last-ends : (e : Entry) (es r : List Entry) → getD ((e ∷ es) ++ r) (length es) unused .last ≡ endsAt (e .last) es
+unfolding endsAt
+last-ends e [] r = refl
+last-ends e (x ∷ es) r = last-ends x es r
+
+-- the length that a layout gives is where its last column ends
+length-laid : (first : ℕ) (es : List Entry) → lineLength first (laid es) ≡ endsAt (first - 1) es
+unfolding lineLength endsAt
+length-laid first [] = refl
+length-laid first (e ∷ es) =
+    let n : suc (length es) - 1 ≡ length es = omega arith in
+    rw (ne-eqb (suc (length es)) 0 (λ z. omega arith), n) (last-ends e es (replicate (13 - suc (length es)) unused))
+
+fields-agree : (l : List ℕ) → Agrees (fixFields l) (fixChecks l)
+unfolding fixFields on number
 fields-agree l =
     agree-given 9 2 (timeAt l 1) _ _ λ t e.
     agree-given 9 8 (latitudeAt l 7) _ _ λ a e.
@@ -227,85 +250,83 @@ fields-agree l =
     agree-given 9 26 (altitudeAt l 25) _ _ λ p e.
     agree-given 9 31 (altitudeAt l 30) _ [] λ g e. tt
 
-b-time : (layout : Layout) (l : List ℕ) (f : Fix) → bLine layout l ≡ says f → timeAt l 1 ≡ some (f .time)
-unfolding bLine
-b-time layout l f e =
-    let s = then-inv (shapedBy 36 layout l) f _ e in
-    let x = then-inv (fixFields l) f _ (s .2) in
-    let c = then-inv (columns l layout) f _ (x .2) in
-    let i : x .0 ≡ f = cc in
-    fields-there l f (x .1 ∙ ap says i) .at-time
-
-b-line-agrees : (layout : Layout) (l : List ℕ) → Agrees (bLine layout l) (shapeChecks (lineLength 36 layout) (lineLength 36 layout) false l ++ (fix-checks l ++ columnChecks l layout))
+b-line-agrees : (es : List Entry) (l : List ℕ) → Agrees (bLine (laid es) l) (sizeChecks family.B es l ++ (fixChecks l ++ columnChecks l es))
 unfolding bLine shapedBy
-b-line-agrees layout l =
-    let n = lineLength 36 layout in
-    agree-then (shaped n n false l) _ (shapeChecks n n false l) _ (shape-agrees n n false l) λ u e.
-    agree-then (fixFields l) _ (fix-checks l) (columnChecks l layout) (fields-agree l) λ f e.
-    agree-last (columns l layout) (λ v. f) (columnChecks l layout) (columns-agree l layout)
+b-line-agrees es l =
+    rw (length-laid 36 es)
+    (agree-then (shaped (endsAt 35 es) (endsAt 35 es) false l) _ (sizeChecks family.B es l) _ (shape-agrees (endsAt 35 es) (endsAt 35 es) false l) λ u e.
+    agree-then (fixFields l) _ (fixChecks l) (columnChecks l es) (fields-agree l) λ f e.
+    agree-last (columns l (laid es)) (λ v. f) (columnChecks l es) (columns-agree l es))
 
-b-agrees : (l : List ℕ) (st : State) → Agrees (ruled kind.B l st) (kindChecks kind.B st l)
-unfolding ruled fix-checks
-b-agrees l st =
-    let layout = st .flight .fixes in
-    let n = lineLength 36 layout in
-    time-last (ruled kind.B l st) (shapeChecks n n false l) (fix-checks l ++ columnChecks l layout) (timeCheck st l)
-    (agree-then (bLine layout l) (λ f. timed (f .time) (counted 1 0 st)) _ (timeCheck st l ∷ []) (b-line-agrees layout l) λ f e.
-    on-time l (f .time) (counted 1 0 st) (b-time layout l f e))
-
-k-time : (layout : Layout) (l : List ℕ) (t : ℕ) → kLine layout l ≡ says t → timeAt l 1 ≡ some t
-unfolding kLine
-k-time layout l t e =
-    let s = then-inv (shapedBy 8 layout l) t _ e in
-    let x = given-inv (timeAt l 1) _ (says t) _ refuses-says (s .2) in
-    let c = then-inv (columns l layout) t _ (x .2) in
-    let i : x .0 ≡ t = cc in
-    x .1 ∙ ap some i
-
-k-line-agrees : (layout : Layout) (l : List ℕ) → Agrees (kLine layout l) (shapeChecks (lineLength 8 layout) (lineLength 8 layout) false l ++ (check 9 2 (isThere (timeAt l 1)) ∷ columnChecks l layout))
-unfolding kLine shapedBy number
-k-line-agrees layout l =
-    let n = lineLength 8 layout in
-    agree-then (shaped n n false l) _ (shapeChecks n n false l) _ (shape-agrees n n false l) λ u e.
-    agree-given 9 2 (timeAt l 1) _ _ λ t e.
-    agree-last (columns l layout) (λ v. t) (columnChecks l layout) (columns-agree l layout)
-
-k-agrees : (l : List ℕ) (st : State) → Agrees (ruled kind.K l st) (kindChecks kind.K st l)
+b-agrees : (ls : List (List ℕ)) (l : List ℕ) (st : State) → st .clock ≡ orZero (lastTime ls) → st .flight .fixes ≡ laid (entriesTold family.B ls)
+    → Agrees (ruled kind.B l st) (kindChecks kind.B ls l)
 unfolding ruled
-k-agrees l st =
-    let layout = st .flight .notes in
-    let n = lineLength 8 layout in
-    time-last (ruled kind.K l st) (shapeChecks n n false l) (check 9 2 (isThere (timeAt l 1)) ∷ columnChecks l layout) (timeCheck st l)
-    (agree-then (kLine layout l) (λ t. timed t (counted 0 1 st)) _ (timeCheck st l ∷ []) (k-line-agrees layout l) λ t e.
-    on-time l t (counted 0 1 st) (k-time layout l t e))
+b-agrees ls l st c i =
+    let es = entriesTold family.B ls in
+    time-last (ruled kind.B l st) (sizeChecks family.B es l) (fixChecks l ++ columnChecks l es) (timeCheck ls l)
+    (agree-then (bLine (st .flight .fixes) l) (λ f. timed (f .time) (counted 1 0 st)) _ (timeCheck ls l ∷ [])
+    (subst (λ x. Agrees (bLine x l) (sizeChecks family.B es l ++ (fixChecks l ++ columnChecks l es))) (sym i) (b-line-agrees es l)) λ f e.
+    on-time ls l (f .time) (counted 1 0 st) c (b-time (st .flight .fixes) l f e))
+
+k-line-agrees : (es : List Entry) (l : List ℕ) → Agrees (kLine (laid es) l) (sizeChecks family.K es l ++ (check 9 2 (isThere (timeAt l 1)) ∷ columnChecks l es))
+unfolding kLine shapedBy number
+k-line-agrees es l =
+    rw (length-laid 8 es)
+    (agree-then (shaped (endsAt 7 es) (endsAt 7 es) false l) _ (sizeChecks family.K es l) _ (shape-agrees (endsAt 7 es) (endsAt 7 es) false l) λ u e.
+    agree-given 9 2 (timeAt l 1) _ _ λ t e.
+    agree-last (columns l (laid es)) (λ v. t) (columnChecks l es) (columns-agree l es))
+
+k-agrees : (ls : List (List ℕ)) (l : List ℕ) (st : State) → st .clock ≡ orZero (lastTime ls) → st .flight .notes ≡ laid (entriesTold family.K ls)
+    → Agrees (ruled kind.K l st) (kindChecks kind.K ls l)
+unfolding ruled
+k-agrees ls l st c i =
+    let es = entriesTold family.K ls in
+    time-last (ruled kind.K l st) (sizeChecks family.K es l) (check 9 2 (isThere (timeAt l 1)) ∷ columnChecks l es) (timeCheck ls l)
+    (agree-then (kLine (st .flight .notes) l) (λ t. timed t (counted 0 1 st)) _ (timeCheck ls l ∷ [])
+    (subst (λ x. Agrees (kLine x l) (sizeChecks family.K es l ++ (check 9 2 (isThere (timeAt l 1)) ∷ columnChecks l es))) (sym i) (k-line-agrees es l)) λ t e.
+    on-time ls l t (counted 0 1 st) c (k-time (st .flight .notes) l t e))
 
 -- ---- I and J lines
 
-placed-agrees : (start : ℕ) (before : Layout) (e : Entry) (n : ℕ) → Agrees (placed start before e n)
+carries-has : (es : List Entry) (x : ℕ) → carries (laid es) x ≡ hasCode es x
+unfolding carries look hasCode firstOf
+carries-has es x = ap (λ l. given (firstOf (λ (e : Entry). eqb (e .code) x) (λ (k : ℕ) (e : Entry). spanOf e) l 0) false (λ s. true)) (entries-laid es) ∙ found es 0
+  where
+    found : (es : List Entry) (n : ℕ) → given (firstOf (λ (e : Entry). eqb (e .code) x) (λ (k : ℕ) (e : Entry). spanOf e) es n) false (λ s. true) ≡ hasCode es x
+    found [] n = refl
+    found (e ∷ es) n = go (eqb (e .code) x) (found es (suc n))
+      where
+        go : (b : Bool) → given (firstOf (λ (e : Entry). eqb (e .code) x) (λ (k : ℕ) (e : Entry). spanOf e) es (suc n)) false (λ s. true) ≡ hasCode es x
+            → given (cond b (some (spanOf e)) (firstOf (λ (e : Entry). eqb (e .code) x) (λ (k : ℕ) (e : Entry). spanOf e) es (suc n))) false (λ s. true) ≡ (b || hasCode es x)
+        go true r = refl
+        go false r = r
+
+placed-agrees : (start : ℕ) (before : List Entry) (e : Entry) (n : ℕ) → Agrees (placed start (laid before) e n)
     (check 10 n (eqb (e .first) start)
     ∷ check 10 n (leb (e .first) (e .last))
-    ∷ check 11 n (not (carries before (e .code)))
+    ∷ check 11 n (not (hasCode before (e .code)))
     ∷ check 12 n (widthFits (e .code) (e .last - e .first + 1))
     ∷ [])
 unfolding placed number
 placed-agrees start before e n =
-    agree-need 10 n (eqb (e .first) start) _ _ λ p.
+    rw (carries-has before (e .code))
+    (agree-need 10 n (eqb (e .first) start) _ _ λ p.
     agree-need 10 n (leb (e .first) (e .last)) _ _ λ p.
-    agree-need 11 n (not (carries before (e .code))) _ _ λ p.
-    agree-need 12 n (widthFits (e .code) (e .last - e .first + 1)) _ [] λ p. tt
+    agree-need 11 n (not (hasCode before (e .code))) _ _ λ p.
+    agree-need 12 n (widthFits (e .code) (e .last - e .first + 1)) _ [] λ p. tt)
 
-entry-checks : List ℕ → ℕ → ℕ → Layout → List Check
+entry-checks : List ℕ → ℕ → ℕ → List Entry → List Check
 entry-checks l at start before =
     check 9 (at + 1) (isThere (numberAt l at 2))
     ∷ check 9 (at + 3) (isThere (numberAt l (at + 2) 2))
     ∷ check 9 (at + 5) (isThere (codeAt l (at + 4)))
     ∷ check 10 (at + 1) (eqb (entryOf l at .first) start)
     ∷ check 10 (at + 1) (leb (entryOf l at .first) (entryOf l at .last))
-    ∷ check 11 (at + 1) (not (carries before (entryOf l at .code)))
+    ∷ check 11 (at + 1) (not (hasCode before (entryOf l at .code)))
     ∷ check 12 (at + 1) (widthFits (entryOf l at .code) (entryOf l at .last - entryOf l at .first + 1))
     ∷ []
 
-entry-agrees : (l : List ℕ) (at start : ℕ) (before : Layout) → Agrees (entryAt l at start before) (entry-checks l at start before)
+entry-agrees : (l : List ℕ) (at start : ℕ) (before : List Entry) → Agrees (entryAt l at start (laid before)) (entry-checks l at start before)
 unfolding entryAt entry-checks number
 entry-agrees l at start before =
     agree-given 9 (at + 1) (numberAt l at 2) _ _ λ ss p.
@@ -314,32 +335,28 @@ entry-agrees l at start before =
     rw (there (numberAt l at 2) p, there (numberAt l (at + 2) 2) q, there (codeAt l (at + 4)) r)
     (placed-agrees start before (record { first = ss; last = ff; code = ccc }) (at + 1))
 
-entry-is : (l : List ℕ) (at start : ℕ) (before : Layout) (e : Entry) → entryAt l at start before ≡ says e → entryOf l at ≡ e
-unfolding entryAt
-entry-is l at start before e h =
-    let a = given-inv (numberAt l at 2) _ (says e) _ refuses-says h in
-    let b = given-inv (numberAt l (at + 2) 2) _ (says e) _ refuses-says (a .2) in
-    let c = given-inv (codeAt l (at + 4)) _ (says e) _ refuses-says (b .2) in
-    rw (there (numberAt l at 2) (a .1), there (numberAt l (at + 2) 2) (b .1), there (codeAt l (at + 4)) (c .1))
-    (placed-there start before (record { first = a .0; last = b .0; code = c .0 }) e (at + 1) (c .2) .1)
-
-entries-agree : (left : ℕ) (l : List ℕ) (at start : ℕ) (before : Layout) → Agrees (entriesFrom left l at start before) (entryChecks left l at start before)
+entries-agree : (left : ℕ) (l : List ℕ) (at start : ℕ) (before : List Entry) → length before + left ≤ 13
+    → Agrees (entriesFrom left l at start (laid before)) (entryChecks left l at start before)
 unfolding entriesFrom entryChecks entry-checks
-entries-agree zero l at start before = tt
-entries-agree (suc left) l at start before =
-    agree-then (entryAt l at start before) _ (entry-checks l at start before) (entryChecks left l (at + 7) (entryOf l at .last + 1) (withEntry before (entryOf l at)))
+entries-agree zero l at start before n = tt
+entries-agree (suc left) l at start before n =
+    agree-then (entryAt l at start (laid before)) _ (entry-checks l at start before) (entryChecks left l (at + 7) (entryOf l at .last + 1) (before ++ (entryOf l at ∷ [])))
     (entry-agrees l at start before) λ e h.
-    subst (λ x. Agrees (entriesFrom left l (at + 7) (e .last + 1) (withEntry before e)) (entryChecks left l (at + 7) (x .last + 1) (withEntry before x)))
-    (sym (entry-is l at start before e h))
-    (entries-agree left l (at + 7) (e .last + 1) (withEntry before e))
+    subst (λ x. Agrees (entriesFrom left l (at + 7) (e .last + 1) (withEntry (laid before) e)) (entryChecks left l (at + 7) (x .last + 1) (before ++ (x ∷ []))))
+    (sym (entry-is l at start (laid before) e h))
+    (subst (λ x. Agrees (entriesFrom left l (at + 7) (e .last + 1) x) (entryChecks left l (at + 7) (e .last + 1) (before ++ (e ∷ []))))
+    (sym (with-laid before e (omega arith)))
+    (entries-agree left l (at + 7) (e .last + 1) (before ++ (e ∷ [])) (omega (arith, length-append before (e ∷ [])))))
 
 layout-agrees : (f : Family) (l : List ℕ) → Agrees (layoutLine (firstStart f) l) (layoutChecks f l)
 unfolding layoutLine layoutFields number
 layout-agrees f l =
-    agree-then (shaped 3 99 false l) _ (shapeChecks 3 99 false l) _ (shape-agrees 3 99 false l) λ u e.
+    agree-then (shaped 3 99 false l) _ (shapeChecks 3 99 false l) _ (shape-agrees 3 99 false l) λ u s.
     agree-given 9 2 (numberAt l 1 2) _ _ λ nn e.
     rw (there (numberAt l 1 2) e)
-    (agree-need 9 2 (eqb (length l) (3 + 7 * nn)) _ _ λ p. entries-agree nn l 3 (firstStart f) emptyLayout)
+    (agree-need 9 2 (eqb (length l) (3 + 7 * nn)) _ _ λ p.
+    let i = eqb-true (length l) (3 + 7 * nn) p in
+    entries-agree nn l 3 (firstStart f) [] (omega (arith, shape-there 3 99 false l u s .short)))
 
 -- ---- the line
 
@@ -355,36 +372,69 @@ second-line n = go (eqb n 1) refl
     go true e = let i = eqb-true n 1 e in eq-eqb (n + 1) 2 (omega arith)
     go false e = let i = eqb-false n 1 e in ne-eqb (n + 1) 2 (λ z. i (omega arith))
 
-ruled-agrees : (k : Kind) (stage : ℕ) (l : List ℕ) (st : State) → isKind k ≡ true → Agrees (ruled k l (moved stage st)) (kindChecks k st l)
-unfolding ruled
-ruled-agrees kind.A stage l st i = a-agrees l (moved stage st)
-ruled-agrees kind.B stage l st i = b-agrees l (moved stage st)
-ruled-agrees kind.C stage l st i =
-    agree-cond (eqb (st .points) 0) (eqb (st .points) 0) _ _ (headChecks l) (pointChecks l) refl
-    (agree-last (headLine l) (λ h. begun h (moved stage st)) (headChecks l) (head-agrees l))
-    (agree-last (pointLine l) (λ p. pointed (moved stage st)) (pointChecks l) (point-agrees l))
-ruled-agrees kind.D stage l st i = d-agrees l (moved stage st)
-ruled-agrees kind.E stage l st i = e-agrees l (moved stage st)
-ruled-agrees kind.F stage l st i = f-agrees l (moved stage st)
-ruled-agrees kind.G stage l st i = agree-last (gLine l) (λ u. moved stage st) (shapeChecks 2 255 false l) (shape-agrees 2 255 false l)
-ruled-agrees kind.H stage l st i =
-    agree-cond (eqb (st .flight .lines + 1) 2) (eqb (st .flight .lines) 1) _ _ (dateChecks l) (headerChecks l) (second-line (st .flight .lines))
-    (agree-last (dateLine l) (λ d. dated d (moved stage st)) (dateChecks l) (date-agrees l))
-    (agree-last (hLine l) (λ u. moved stage st) (headerChecks l) (header-agrees l))
-ruled-agrees kind.I stage l st i = agree-last (layoutLine 36 l) (λ x. withFixes x (moved stage st)) (layoutChecks family.B l) (layout-agrees family.B l)
-ruled-agrees kind.J stage l st i = agree-last (layoutLine 8 l) (λ x. withNotes x (moved stage st)) (layoutChecks family.K l) (layout-agrees family.K l)
-ruled-agrees kind.K stage l st i = k-agrees l (moved stage st)
-ruled-agrees kind.L stage l st i = agree-last (lLine l) (λ u. moved stage st) (shapeChecks 1 99 false l) (shape-agrees 1 99 false l)
-ruled-agrees kind.Other stage l st i = agree-last (otherLine l) (λ u. moved stage st) (shapeChecks 1 255 false l) (shape-agrees 1 255 false l)
-ruled-agrees kind.NoKind stage l st i = absurd (false-true i)
+-- a C line is a point where the declaration is open
+open-points : (ls : List (List ℕ)) (st : State) → Stands ls st → not (eqb (st .points) 0) ≡ isOpen ls
+open-points ls st w = go (eqb (st .points) 0) refl ∙ ap (leb 1) (w .points) ∙ sym (open-left ls)
+  where
+    go : (b : Bool) → eqb (st .points) 0 ≡ b → not b ≡ leb 1 (st .points)
+    go true e = let i = eqb-true (st .points) 0 e in rw i
+    go false e = let i = eqb-false (st .points) 0 e in sym (le-leb 1 (st .points) (omega arith))
 
-judge-agrees : (l : List ℕ) (st : State) → Agrees (judge l st) (checksOf st l)
-unfolding judge checksOf on number
-judge-agrees l st =
-    let k = kindOf (getD l 0 0) in
-    agree-need 4 1 (leb 1 (length l)) _ _ λ e.
-    agree-need 5 1 (isKind k) _ _ λ i.
-    agree-given 6 1 (orderOf k st) _ (kindChecks k st l) λ stage e. ruled-agrees k stage l st i
+either-way : (t u : Bool) {A : Type 0} (a b : Said A) (cs ds : List Check) → not t ≡ u → Agrees a cs → Agrees b ds → Agrees (cond t a b) (cond u ds cs)
+either-way true u a b cs ds e h g = rw (← e) h
+either-way false u a b cs ds e h g = rw (← e) g
+
+-- the kinds are A to Z
+kind-letters : (k : Kind) (b : ℕ) → Letter k b → isKind k ≡ (leb (code "A") b && leb b (code "Z"))
+kind-letters kind.A b h = rw h
+kind-letters kind.B b h = rw h
+kind-letters kind.C b h = rw h
+kind-letters kind.D b h = rw h
+kind-letters kind.E b h = rw h
+kind-letters kind.F b h = rw h
+kind-letters kind.G b h = rw h
+kind-letters kind.H b h = rw h
+kind-letters kind.I b h = rw h
+kind-letters kind.J b h = rw h
+kind-letters kind.K b h = rw h
+kind-letters kind.L b h = rw h
+kind-letters kind.Other b h = rw (le-leb 65 b (omega arith), le-leb b 90 (h .1))
+kind-letters kind.NoKind b (inl h) = rw (lt-leb 65 b h)
+kind-letters kind.NoKind b (inr h) = rw (le-leb 65 b (omega arith), lt-leb b 90 h)
+
+module _ (ls : List (List ℕ)) (l : List ℕ) (st : State) (w : Stands ls st) where
+  ruled-agrees : (k : Kind) (stage : ℕ) → isKind k ≡ true → Agrees (ruled k l (moved stage st)) (kindChecks k ls l)
+  unfolding ruled
+  ruled-agrees kind.A stage i = a-agrees ls l (moved stage st)
+  ruled-agrees kind.B stage i = b-agrees ls l (moved stage st) (w .clock) (w .fixes)
+  ruled-agrees kind.C stage i =
+      either-way (eqb (st .points) 0) (isOpen ls) _ _ (headChecks l) (pointChecks l) (open-points ls st w)
+      (agree-last (headLine l) (λ h. begun h (moved stage st)) (headChecks l) (head-agrees l))
+      (agree-last (pointLine l) (λ p. pointed (moved stage st)) (pointChecks l) (point-agrees l))
+  ruled-agrees kind.D stage i = d-agrees ls l (moved stage st)
+  ruled-agrees kind.E stage i = e-agrees ls l (moved stage st) (w .clock)
+  ruled-agrees kind.F stage i = f-agrees ls l (moved stage st) (w .clock)
+  ruled-agrees kind.G stage i = agree-last (gLine l) (λ u. moved stage st) (shapeChecks 2 255 false l) (shape-agrees 2 255 false l)
+  ruled-agrees kind.H stage i =
+      agree-cond (eqb (st .flight .lines + 1) 2) (eqb (length ls) 1) _ _ (dateChecks l) (headerChecks l) (second-line (st .flight .lines) ∙ ap (λ n. eqb n 1) (w .lines))
+      (agree-last (dateLine l) (λ d. dated d (moved stage st)) (dateChecks l) (date-agrees l))
+      (agree-last (hLine l) (λ u. moved stage st) (headerChecks l) (header-agrees l))
+  ruled-agrees kind.I stage i = agree-last (layoutLine 36 l) (λ x. withFixes x (moved stage st)) (layoutChecks family.B l) (layout-agrees family.B l)
+  ruled-agrees kind.J stage i = agree-last (layoutLine 8 l) (λ x. withNotes x (moved stage st)) (layoutChecks family.K l) (layout-agrees family.K l)
+  ruled-agrees kind.K stage i = k-agrees ls l (moved stage st) (w .clock) (w .notes)
+  ruled-agrees kind.L stage i = agree-last (lLine l) (λ u. moved stage st) (shapeChecks 1 99 false l) (shape-agrees 1 99 false l)
+  ruled-agrees kind.Other stage i = agree-last (otherLine l) (λ u. moved stage st) (shapeChecks 1 255 false l) (shape-agrees 1 255 false l)
+  ruled-agrees kind.NoKind stage i = absurd (false-true i)
+
+  judge-agrees : Agrees (judge l st) (checksOf ls l)
+  unfolding judge checksOf on number
+  judge-agrees =
+      let k = kindOf (getD l 0 0) in
+      agree-need 4 1 (leb 1 (length l)) _ _ λ e.
+      rw (← kind-letters k (getD l 0 0) (letter (getD l 0 0)))
+      (agree-need 5 1 (isKind k) _ _ λ i.
+      subst (λ t. Agrees (given (orderOf k st) (refuses 6 0 1) λ stage. ruled k l (moved stage st)) (check 6 1 t ∷ kindChecks k ls l)) (order-told ls st w k)
+      (agree-given 6 1 (orderOf k st) _ (kindChecks k ls l) λ stage e. ruled-agrees k stage i))
 
 -- ---- the first that fails, told apart
 
@@ -430,17 +480,17 @@ agrees-all : {A : Type 0} (s : Said A) (cs : List Check) → Agrees s cs → All
 agrees-all (says v) cs h p = (v, refl)
 agrees-all (refuses n k b) cs h p = absurd (none-fails cs n b p (h .1))
 
-module _ (l : List ℕ) (st : State) where
+module _ (ls : List (List ℕ)) (l : List ℕ) (st : State) (w : Stands ls st) where
   -- a line is refused exactly where a check fails first, with its number and byte
-  pub judge-fails : (n k b : ℕ) → judge l st ≡ refuses n k b → FailsFirst (checksOf st l) n b
-  judge-fails n k b e = fails-first (checksOf st l) n b ((rw e at (judge-agrees l st)) .1)
+  pub judge-fails : (n k b : ℕ) → judge l st ≡ refuses n k b → FailsFirst (checksOf ls l) n b
+  judge-fails n k b e = fails-first (checksOf ls l) n b ((rw e at (judge-agrees ls l st w)) .1)
 
-  pub fails-judge : (n b : ℕ) → FailsFirst (checksOf st l) n b → judge l st ≡ refuses n 0 b
-  fails-judge n b w = agrees-one (judge l st) (checksOf st l) n b (judge-agrees l st) (first-fails (checksOf st l) n b w)
+  pub fails-judge : (n b : ℕ) → FailsFirst (checksOf ls l) n b → judge l st ≡ refuses n 0 b
+  fails-judge n b f = agrees-one (judge l st) (checksOf ls l) n b (judge-agrees ls l st w) (first-fails (checksOf ls l) n b f)
 
   -- and it is good exactly where all checks pass
-  pub judge-passes : (m : State) → judge l st ≡ says m → AllPass (checksOf st l)
-  judge-passes m e = rw e at (judge-agrees l st)
+  pub judge-passes : (m : State) → judge l st ≡ says m → AllPass (checksOf ls l)
+  judge-passes m e = rw e at (judge-agrees ls l st w)
 
-  pub passes-judge : AllPass (checksOf st l) → (m : State) × (judge l st ≡ says m)
-  passes-judge p = agrees-all (judge l st) (checksOf st l) (judge-agrees l st) p
+  pub passes-judge : AllPass (checksOf ls l) → (m : State) × (judge l st ≡ says m)
+  passes-judge p = agrees-all (judge l st) (checksOf ls l) (judge-agrees ls l st w) p

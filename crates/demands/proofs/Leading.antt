@@ -10,10 +10,11 @@ use native.Mathlib.Omega.{arith}
 use borrow.Author.Tests.{le-leb, lt-leb, leb-true, leb-false, eqb-true, eqb-false, eq-eqb, ne-eqb, ltb-true, ltb-false, lt-ltb, le-ltb, not-true}
 use lib.Dec.{leb, eqb, ltb}
 use lib.ListN.{length, getD}
-use Rattle.rules.specs.Choice.{on}
+use Rattle.rules.specs.Choice.{on, leads}
 use Rattle.rules.specs.Refusals.{Said, says, andThen}
+use Rattle.rules.specs.Layouts.{isUnused, allPlaced, allowed}
 use Rattle.rules.specs.Lines.{kindOf, aLine, dateLine, hLine, layoutLine, headLine, pointLine, dLine, eLine, fLine, bLine, kLine, lLine, gLine, otherLine}
-use Rattle.rules.specs.Order.{leading, stageAfter, isC, isKind, fitsDeclaration, orderOf, moved, dated, withFixes, withNotes, counted, begun, pointed, clocked, onward, nextDay, back, passing, isBack, timed, ruled, judge}
+use Rattle.rules.specs.Order.{start, leading, stageAfter, isC, isKind, fitsDeclaration, orderOf, moved, dated, withFixes, withNotes, counted, begun, pointed, clocked, onward, nextDay, back, passing, isBack, timed, ruled, judge}
 use Rattle.rules.specs.declared.Date.{Date}
 use Rattle.rules.specs.declared.Layout.{Layout}
 use Rattle.rules.specs.declared.Family.the-variants as family
@@ -24,6 +25,7 @@ use Rattle.rules.specs.declared.Kind.the-variants as kind
 use Rattle.rules.specs.declared.State.{State}
 use Rattle.trips.proofs.Laws.{none-some, refuses-says, false-true, given-inv, need-inv, then-inv, and-inv}
 use Rattle.demands.specs.Grammar.{Follows, IsALine, IsDateLine, IsHLine, IsLayoutLine, IsHeadLine, IsPointLine, IsELine, IsFLine, IsBLine, IsKLine, IsLLine, IsGLine, Untimed, differential, remark, other}
+use Rattle.demands.specs.FieldTexts.{Letter}
 use Rattle.demands.proofs.Carried.{a-there, a-said, date-there, date-said, h-there, h-said, d-there, d-said, e-there, e-said, f-there, f-said, l-there, l-said, g-there, g-said, other-there, other-said}
 use Rattle.demands.proofs.Valued.{IsTold, b-there, b-said, k-there, k-said, head-there, head-said, point-there, point-said}
 use Rattle.demands.proofs.LayoutLines.{layout-there, layout-said, layout-allowed}
@@ -58,24 +60,11 @@ pub data Leads (st : State) (l : List ℕ) : Part → State → Type 0 where
 abbrev pub Sound : State → Type 0
 Sound st = IsTold 36 (st .flight .fixes) × IsTold 8 (st .flight .notes)
 
--- ---- kinds and letters
+pub sound-start : Sound start
+unfolding allowed allPlaced leads isUnused
+sound-start = ((refl, refl), (refl, refl))
 
--- the first bytes of a kind's lines
-abbrev pub Letter : Kind → ℕ → Type 0
-Letter kind.A b = b ≡ code "A"
-Letter kind.B b = b ≡ code "B"
-Letter kind.C b = b ≡ code "C"
-Letter kind.D b = b ≡ code "D"
-Letter kind.E b = b ≡ code "E"
-Letter kind.F b = b ≡ code "F"
-Letter kind.G b = b ≡ code "G"
-Letter kind.H b = b ≡ code "H"
-Letter kind.I b = b ≡ code "I"
-Letter kind.J b = b ≡ code "J"
-Letter kind.K b = b ≡ code "K"
-Letter kind.L b = b ≡ code "L"
-Letter kind.Other b = (code "M" ≤ b) × (b ≤ code "Z")
-Letter kind.NoKind b = (b < code "A") ⊎ (code "Z" < b)
+-- ---- kinds and letters
 
 -- no byte is between two letters that follow one another
 past : (n b : ℕ) → n ≤ b → eqb b n ≡ false → suc n ≤ b

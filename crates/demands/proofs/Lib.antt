@@ -10,7 +10,11 @@ pub mod Leading
 pub mod Passing
 pub mod Sections
 pub mod Accepted
+pub mod FieldsThere
+pub mod Standing
+pub mod Ordered
 pub mod Faulty
+pub mod Meaning
 pub mod Refusing
 pub mod Columns
 pub mod Reading

@@ -22,9 +22,13 @@ use Rattle.laws.proofs.Splitting.{Text, cut, none-left, lines-of-line}
 use Rattle.laws.proofs.Counted.{OneMore, judge-counts}
 use Rattle.trips.proofs.Laws.{refuses-says, need-inv}
 use Rattle.demands.specs.Grammar.{Each, IsText, written}
-use Rattle.demands.specs.Faults.{Passes, done, next}
 
 -- ---- a run of good lines
+
+-- each line is judged good after those before it, from one state to another
+pub data Passes : State → List (List ℕ) → State → Type 0 where
+  done : {st : State} → Passes st [] st
+  next : {st m s : State} {l : List ℕ} {ls : List (List ℕ)} → judge l st ≡ says m → Passes m ls s → Passes st (l ∷ ls) s
 
 pub passes-join : {a b c : State} {ls ks : List (List ℕ)} → Passes a ls b → Passes b ks c → Passes a (ls ++ ks) c
 passes-join done q = q

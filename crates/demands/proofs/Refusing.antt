@@ -1,11 +1,12 @@
 -- A file is refused with a number, line and byte exactly when that refusal's meaning holds of it. Assumes nothing.
-use Prim.Native.Nat.{ℕ, suc, _+_, _≤_, _<_}
+use Prim.Native.Nat.{ℕ, suc, _+_, _≤_}
+use Prim.Native.Char.{code}
 use mathlib.Core.Bool.{Bool, true, false, cond}
 use mathlib.Core.List.{List, [], _∷_, _++_}
 use mathlib.Core.Logic.{_⊎_, inl, inr, _↔_}
-use mathlib.Core.Path.{_≡_, refl, _∙_, ap}
+use mathlib.Core.Path.{_≡_, refl, sym, _∙_, ap}
 use native.Mathlib.Omega.{arith}
-use borrow.Author.Tests.{le-leb, lt-leb, leb-true, leb-false, eqb-true, eqb-false, ne-eqb}
+use borrow.Author.Tests.{le-leb, lt-leb, leb-true, leb-false, eqb-true, eqb-false, eq-eqb, ne-eqb}
 use lib.Dec.{eqb, leb}
 use lib.ListN.{length, getD}
 use Rattle.rules.specs.Choice.{need}
@@ -16,10 +17,12 @@ use Rattle.rules.specs.Files.{finish, run, verdict}
 use Rattle.rules.specs.declared.Flight.{Flight}
 use Rattle.rules.specs.declared.State.{State}
 use Rattle.laws.proofs.Splitting.{cut, none-left, lines-of-line}
-use Rattle.demands.specs.Grammar.{IsText}
+use Rattle.demands.specs.Grammar.{IsText, beginning}
+use Rattle.demands.specs.Coming.{Open}
 use Rattle.demands.specs.Faults.{Before, NoEnd, none-comes, lf-alone, cr-alone, Refused, empty, too-long, line-end, in-line, table-full, ends-early}
-use Rattle.demands.proofs.Passing.{one-line-more, lines-passed, before, text-is, is-text, begins, lines-written, Stops, ended, endless, faulty, full, comes, passes-run, stops-run}
+use Rattle.demands.proofs.Passing.{Passes, one-line-more, lines-passed, before, text-is, is-text, begins, lines-written, Stops, ended, endless, faulty, full, comes, passes-run, stops-run}
 use Rattle.demands.proofs.Faulty.{judge-fails, fails-judge, judge-passes, passes-judge}
+use Rattle.demands.proofs.Meaning.{Behind, behind-start, passes-behind, behind-passes, opened}
 
 -- ---- a line with no end
 
@@ -95,29 +98,33 @@ module _ (file : List ℕ) (room : ℕ) where
   Means (says f) = Unit {0}
   Means (refuses n l b) = Refused file room n l b
 
-  early : (lines : List (List ℕ)) (st : State) → Before file room lines st [] → st .flight .lines ≡ length lines → Means (finish st)
+  early : (lines : List (List ℕ)) (st : State) → Before file room lines [] → Behind lines st → Means (finish st)
   unfolding finish number
-  early lines st w n = go (eqb (st .points) 0) (leb 6 (st .stage)) refl refl
+  early lines st w v = go (eqb (st .points) 0) (leb 6 (st .stage)) refl refl
     where
       go : (x y : Bool) → eqb (st .points) 0 ≡ x → leb 6 (st .stage) ≡ y
           → Means (need x (refuses 16 (st .flight .lines + 1) 0) λ u. need y (refuses 16 (st .flight .lines + 1) 0) λ v. says (st .flight))
       go true true p q = tt
-      go true false p q = rw n (ends-early lines st w (inr (leb-false 6 (st .stage) q)))
-      go false y p q = let i = eqb-false (st .points) 0 p in rw n (ends-early lines st w (inl (omega arith)))
+      go true false p q =
+          let i = leb-false 6 (st .stage) q in
+          rw (v .stands .lines) (ends-early lines w (inr (eqb-true (beginning (code "G") lines) 0 (sym (v .stands .staged .unsealed) ∙ le-leb (st .stage) 5 (omega arith)))))
+      go false y p q =
+          let i = eqb-false (st .points) 0 p in
+          rw (v .stands .lines) (ends-early lines w (inl (opened lines st v .0 (omega arith))))
 
   -- where the check stops, its answer means what it says
-  stopped : (lines : List (List ℕ)) (st : State) (k : Lines) (x : Said Flight) (rest : List ℕ) → Before file room lines st rest → linesOf rest ≡ k
-      → st .flight .lines ≡ length lines → Stops room st k x → Means x
+  stopped : (lines : List (List ℕ)) (st : State) (k : Lines) (x : Said Flight) (rest : List ℕ) → Before file room lines rest → linesOf rest ≡ k → Behind lines st
+      → Stops room st k x → Means x
   unfolding number
-  stopped lines st k x rest w e n ended = early lines st (rw (none-left rest e) at w) n
-  stopped lines st k x rest w e n (endless i) = rw n (line-end lines st rest i w (no-end rest i e))
-  stopped lines st k x rest w e n (faulty {l = l} {ls = ls} i j b h) =
+  stopped lines st k x rest w e v ended = early lines st (rw (none-left rest e) at w) v
+  stopped lines st k x rest w e v (endless i) = rw (v .stands .lines) (line-end lines rest i w (no-end rest i e))
+  stopped lines st k x rest w e v (faulty {l = l} {ls = ls} i j b h) =
       let c = cut rest l ls e in
-      rw n (in-line lines st l (c .rest) i b (rw (c .bytes) at w) (text-is l (c .clear)) (judge-fails l st i j b h))
-  stopped lines st k x rest w e n (full {l = l} {ls = ls} m h g) =
+      rw (v .stands .lines) (in-line lines l (c .rest) i b (rw (c .bytes) at w) (text-is l (c .clear)) (judge-fails lines l st (v .stands) i j b h))
+  stopped lines st k x rest w e v (full {l = l} {ls = ls} m h g) =
       let c = cut rest l ls e in
-      let i : m .flight .lines ≡ length lines + 1 = one-line-more l st m h ∙ ap (λ y. y + 1) n in
-      rw i (table-full lines st l (c .rest) (rw (c .bytes) at w) (text-is l (c .clear)) (judge-passes l st m h) (omega (arith, w .fits)))
+      let i : m .flight .lines ≡ length lines + 1 = one-line-more l st m h ∙ ap (λ y. y + 1) (v .stands .lines) in
+      rw i (table-full lines l (c .rest) (rw (c .bytes) at w) (text-is l (c .clear)) (judge-passes lines l st (v .stands) m h) (omega (arith, w .fits)))
 
   means : Means (verdict file room)
   unfolding verdict number
@@ -130,58 +137,73 @@ module _ (file : List ℕ) (room : ℕ) where
       go true true p q =
           let c = comes room (linesOf file) start (omega arith) in
           let b = begins (c .lines) file (c .left) (c .parted) in
-          let n : c .state .flight .lines ≡ length (c .lines) = omega (arith, lines-passed (c .passes)) in
-          let w : Before file room (c .lines) (c .state) (b .rest) = record {
+          let v = passes-behind [] behind-start (c .passes) in
+          let w : Before file room (c .lines) (b .rest) = record {
             least = leb-true _ _ p;
             most = leb-true _ _ q;
             bytes = b .bytes;
             texts = b .texts;
-            passes = c .passes;
-            fits = omega (arith, c .fits);
+            passes = v .0;
+            fits = omega (arith, c .fits, lines-passed (c .passes));
           } in
-          stopped (c .lines) (c .state) (c .left) (run room start (linesOf file)) (b .rest) w (b .lines) n (c .stops)
+          stopped (c .lines) (c .state) (c .left) (run room start (linesOf file)) (b .rest) w (b .lines) (v .1) (c .stops)
 
   refused-there : (n l b : ℕ) → verdict file room ≡ refuses n l b → Refused file room n l b
   refused-there n l b e = rw e at means
 
-  -- the check goes through the lines before, and answers for what is left
-  goes : (lines : List (List ℕ)) (st : State) (rest : List ℕ) (k : Lines) (x : Said Flight) → Before file room lines st rest → linesOf rest ≡ k
-      → Stops room st k x → verdict file room ≡ x
-  unfolding verdict
-  goes lines st rest k x w e s =
-      let l : linesOf file ≡ before lines k = ap linesOf (w .bytes) ∙ lines-written lines rest (w .texts) ∙ ap (before lines) e in
-      let n : st .flight .lines ≤ room = omega (arith, w .fits, lines-passed (w .passes)) in
-      rw (le-leb _ _ (w .least), le-leb _ _ (w .most), l) (passes-run room k (w .passes) n ∙ stops-run room st s)
+  -- where the check stands when it has gone through the lines before
+  record Gone (lines : List (List ℕ)) : Type 0 where
+    state : State
+    passes : Passes start lines state
+    behind : Behind lines state
 
-  finish-early : (st : State) → (1 ≤ st .points) ⊎ (st .stage < 6) → finish st ≡ refuses 16 (st .flight .lines + 1) 0
+  gone : (lines : List (List ℕ)) (rest : List ℕ) → Before file room lines rest → Gone lines
+  gone lines rest w = let r = behind-passes [] lines start behind-start (w .passes) in record { state = r .0; passes = r .1; behind = r .2 }
+
+  -- it answers for what is left
+  goes : (lines : List (List ℕ)) (rest : List ℕ) (k : Lines) (x : Said Flight) → Before file room lines rest → linesOf rest ≡ k → (h : Gone lines)
+      → Stops room (h .state) k x → verdict file room ≡ x
+  unfolding verdict
+  goes lines rest k x w e h s =
+      let l : linesOf file ≡ before lines k = ap linesOf (w .bytes) ∙ lines-written lines rest (w .texts) ∙ ap (before lines) e in
+      let n : h .state .flight .lines ≤ room = omega (arith, w .fits, h .behind .stands .lines) in
+      rw (le-leb _ _ (w .least), le-leb _ _ (w .most), l) (passes-run room k (h .passes) n ∙ stops-run room (h .state) s)
+
+  finish-early : (lines : List (List ℕ)) (st : State) → Behind lines st → Open lines ⊎ (beginning (code "G") lines ≡ 0)
+      → finish st ≡ refuses 16 (st .flight .lines + 1) 0
   unfolding finish number
-  finish-early st (inl h) = rw (ne-eqb (st .points) 0 (λ z. omega arith))
-  finish-early st (inr h) = go (eqb (st .points) 0)
+  finish-early lines st v (inl h) =
+      let i = opened lines st v .1 h in
+      rw (ne-eqb (st .points) 0 (λ z. omega arith))
+  finish-early lines st v (inr h) = go (eqb (st .points) 0)
     where
       go : (x : Bool) → need x (refuses 16 (st .flight .lines + 1) 0) (λ u. need (leb 6 (st .stage)) (refuses 16 (st .flight .lines + 1) 0) λ v. says (st .flight))
           ≡ refuses 16 (st .flight .lines + 1) 0
-      go true = rw (lt-leb 6 (st .stage) h)
+      go true =
+          let i = leb-true (st .stage) 5 (v .stands .staged .unsealed ∙ eq-eqb (beginning (code "G") lines) 0 h) in
+          rw (lt-leb 6 (st .stage) (omega arith))
       go false = refl
 
   refused-here : {n l b : ℕ} → Refused file room n l b → verdict file room ≡ refuses n l b
   unfolding verdict number linesOf
   refused-here (empty e) = rw (lt-leb 1 (length file) (omega arith))
   refused-here (too-long h) = rw (le-leb 1 (length file) (omega arith), lt-leb (length file) 16777216 h)
-  refused-here (line-end lines st rest i w e) =
-      let n : st .flight .lines ≡ length lines = omega (arith, lines-passed (w .passes)) in
-      rw (← n) (goes lines st rest (broken i) _ w (end-none e) (endless i))
-  refused-here (in-line lines st l rest i b w t f) =
-      let n : st .flight .lines ≡ length lines = omega (arith, lines-passed (w .passes)) in
-      rw (← n) (goes lines st (l ++ (13 ∷ 10 ∷ rest)) (line l (linesOf rest)) _ w (lines-of-line l rest (is-text l t)) (faulty i 0 b (fails-judge l st i b f)))
-  refused-here (table-full lines st l rest w t p r) =
-      let n : st .flight .lines ≡ length lines = omega (arith, lines-passed (w .passes)) in
-      let m = passes-judge l st p in
-      let k = one-line-more l st (m .0) (m .1) in
-      let i : m .0 .flight .lines ≡ length lines + 1 = omega arith in
-      rw (← i) (goes lines st (l ++ (13 ∷ 10 ∷ rest)) (line l (linesOf rest)) _ w (lines-of-line l rest (is-text l t)) (full (m .0) (m .1) (omega arith)))
-  refused-here (ends-early lines st w h) =
-      let n : st .flight .lines ≡ length lines = omega (arith, lines-passed (w .passes)) in
-      goes lines st [] end _ w refl ended ∙ finish-early st h ∙ ap (λ x. refuses 16 (x + 1) 0) n
+  refused-here (line-end lines rest i w e) =
+      let h = gone lines rest w in
+      rw (← h .behind .stands .lines) (goes lines rest (broken i) _ w (end-none e) h (endless i))
+  refused-here (in-line lines l rest i b w t f) =
+      let h = gone lines (l ++ (13 ∷ 10 ∷ rest)) w in
+      rw (← h .behind .stands .lines)
+      (goes lines (l ++ (13 ∷ 10 ∷ rest)) (line l (linesOf rest)) _ w (lines-of-line l rest (is-text l t)) h
+      (faulty i 0 b (fails-judge lines l (h .state) (h .behind .stands) i b f)))
+  refused-here (table-full lines l rest w t p r) =
+      let h = gone lines (l ++ (13 ∷ 10 ∷ rest)) w in
+      let m = passes-judge lines l (h .state) (h .behind .stands) p in
+      let i : m .0 .flight .lines ≡ length lines + 1 = one-line-more l (h .state) (m .0) (m .1) ∙ ap (λ y. y + 1) (h .behind .stands .lines) in
+      rw (← i) (goes lines (l ++ (13 ∷ 10 ∷ rest)) (line l (linesOf rest)) _ w (lines-of-line l rest (is-text l t)) h (full (m .0) (m .1) (omega arith)))
+  refused-here (ends-early lines w e) =
+      let h = gone lines [] w in
+      goes lines [] end _ w refl h ended ∙ finish-early lines (h .state) (h .behind) e ∙ ap (λ x. refuses 16 (x + 1) 0) (h .behind .stands .lines)
 
 -- what each refusal of a file means
 pub refused-first : (file : List ℕ) (room n l b : ℕ) → (verdict file room ≡ refuses n l b) ↔ Refused file room n l b

@@ -22,8 +22,8 @@ use Rattle.demands.specs.Grammar as grammar
 use Rattle.demands.proofs.Carried.{e-said, f-said}
 use Rattle.demands.proofs.Valued.{IsTold, b-letter, k-letter}
 use Rattle.demands.proofs.Leading.{Part, recorder, header, fixLayout, noteLayout, body, seal, remarks, InBody, head, point, fix, note, event, quiet, Leads, first, second, further, fixing, noting, flying, sealing, remarking, Sound, judge-leads, leads-judge, stays-sound}
-use Rattle.demands.specs.Faults.{Passes}
-use Rattle.demands.specs.Faults as passing
+use Rattle.demands.proofs.Passing.{Passes}
+use Rattle.demands.proofs.Passing as passing
 
 -- ---- parts come in their order
 

@@ -1,27 +1,26 @@
--- Document 01, 'Refusal numbers': what each refusal of a file means, apart from how the file is checked.
+-- Document 01, 'Refusal numbers': what each refusal of a file means, told by its lines, apart from how the file is checked.
 use Prim.Native.Nat.{ℕ, _+_, _≤_, _<_}
+use Prim.Native.Char.{code}
 use mathlib.Core.List.{List, [], _∷_, _++_}
 use mathlib.Core.Logic.{_⊎_}
 use mathlib.Core.Path.{_≡_}
 use lib.ListN.{length, getD}
-use Rattle.rules.specs.Refusals.{says}
-use Rattle.rules.specs.Order.{afterG, start, judge}
-use Rattle.rules.specs.declared.State.{State}
-use Rattle.demands.specs.Grammar.{Each, IsText, written}
+use Rattle.demands.specs.Grammar.{Each, IsText, written, beginning}
+use Rattle.demands.specs.Coming.{Open}
 use Rattle.demands.specs.Checks.{AllPass, FailsFirst, checksOf}
 
--- each line is good after those before it, from one state to another
-pub data Passes : State → List (List ℕ) → State → Type 0 where
-  done : {st : State} → Passes st [] st
-  next : {st m s : State} {l : List ℕ} {ls : List (List ℕ)} → judge l st ≡ says m → Passes m ls s → Passes st (l ∷ ls) s
+-- each line passes all its checks after those before it: these, and the lines between
+abbrev pub PassAfter : List (List ℕ) → List (List ℕ) → Type 0
+PassAfter before [] = Unit {0}
+PassAfter before (l ∷ ls) = AllPass (checksOf before l) × PassAfter (before ++ (l ∷ [])) ls
 
 -- the lines before: the file is of a size to be read, they stand at its front, they pass, and the table has an entry for each
-pub record Before (file : List ℕ) (room : ℕ) (lines : List (List ℕ)) (st : State) (rest : List ℕ) : Type 0 where
+pub record Before (file : List ℕ) (room : ℕ) (lines : List (List ℕ)) (rest : List ℕ) : Type 0 where
   pub least : 1 ≤ length file
   pub most : length file ≤ 16777216
   pub bytes : file ≡ written lines ++ rest
   pub texts : Each IsText lines
-  pub passes : Passes start lines st
+  pub passes : PassAfter [] lines
   pub fits : length lines ≤ room
 
 -- "first CR or LF is not CR LF, or none comes", behind n bytes of text
@@ -37,14 +36,14 @@ pub data Refused (file : List ℕ) (room : ℕ) : ℕ → ℕ → ℕ → Type 0
   -- "2 TOO_LONG: over the limit; 0, 0"
   too-long : 16777216 < length file → Refused file room 2 0 0
   -- "3 LINE_END: first CR or LF is not CR LF, or none comes; line, one past the text before it"
-  line-end : (lines : List (List ℕ)) (st : State) (rest : List ℕ) (n : ℕ) → Before file room lines st rest → NoEnd rest n
+  line-end : (lines : List (List ℕ)) (rest : List ℕ) (n : ℕ) → Before file room lines rest → NoEnd rest n
       → Refused file room 3 (length lines + 1) (n + 1)
-  -- 4 to 14: in the line every check before passes, and this one fails
-  in-line : (lines : List (List ℕ)) (st : State) (l rest : List ℕ) (n b : ℕ) → Before file room lines st (l ++ (13 ∷ 10 ∷ rest)) → IsText l
-      → FailsFirst (checksOf st l) n b → Refused file room n (length lines + 1) b
+  -- 4 to 14: "The answer is the first refusal"; in the line every check before passes, and this one fails
+  in-line : (lines : List (List ℕ)) (l rest : List ℕ) (n b : ℕ) → Before file room lines (l ++ (13 ∷ 10 ∷ rest)) → IsText l
+      → FailsFirst (checksOf lines l) n b → Refused file room n (length lines + 1) b
   -- "15 TABLE_FULL: good line, no entry left; line, 0"
-  table-full : (lines : List (List ℕ)) (st : State) (l rest : List ℕ) → Before file room lines st (l ++ (13 ∷ 10 ∷ rest)) → IsText l
-      → AllPass (checksOf st l) → length lines ≡ room → Refused file room 15 (length lines + 1) 0
+  table-full : (lines : List (List ℕ)) (l rest : List ℕ) → Before file room lines (l ++ (13 ∷ 10 ∷ rest)) → IsText l
+      → AllPass (checksOf lines l) → length lines ≡ room → Refused file room 15 (length lines + 1) 0
   -- "16 ENDS_EARLY: end inside a declaration or without G; lines + 1, 0"
-  ends-early : (lines : List (List ℕ)) (st : State) → Before file room lines st [] → (1 ≤ st .points) ⊎ (st .stage < afterG)
+  ends-early : (lines : List (List ℕ)) → Before file room lines [] → Open lines ⊎ (beginning (code "G") lines ≡ 0)
       → Refused file room 16 (length lines + 1) 0

@@ -2,7 +2,8 @@
 ghost use Prim.Native.Nat.{_≤_};
 ghost use mathlib.Core.Path.{_≡_};
 ghost use lib.IntN.{pos, negℤ};
-ghost use Rattle.rules.specs.Fields.{isLeap, daysOf, yearOf, positionAt, placeTold};
+ghost use Rattle.rules.specs.Fields.{isLeap, yearOf, positionAt, placeTold};
+ghost use Rattle.field.specs.Days.{DaysGiven};
 ghost use Rattle.rules.specs.Promises.{TimeAt, DateAt, LatitudeAt, LongitudeAt, AltitudeAt};
 use rules::Altitude;
 use rules::Date;
@@ -55,7 +56,7 @@ const MONTHS: [u64; 13] = [0, 31, 28, 31, 30, 31, 30, 31, 31, 30, 31, 30, 31];
 
 // How many days a month of a year has; none where there is no such month.
 pub fn days_of(y: u16, m: u64) -> u64
-    ensures { λ r. ⌜ r ≡ daysOf y m ⌝ }
+    ensures { λ r. ⌜ DaysGiven y m r ⌝ }
 {
     if m == 2 {
         if is_leap(y) {

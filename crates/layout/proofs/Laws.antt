@@ -3,7 +3,7 @@ use Prim.Native.Nat.{ℕ, _-_, _<_}
 use mathlib.Core.Bool.{Bool, true, false, _&&_}
 use mathlib.Core.List.{List, map}
 use mathlib.Core.Option.{Option}
-use mathlib.Core.Path.{_≡_, refl, sym, _∙_, ap, ap₂}
+use mathlib.Core.Path.{_≡_, refl, sym, _∙_, ap}
 use native.Mathlib.Omega.{arith}
 use borrow.Author.Tests.{le-leb, lt-leb, eq-eqb, ne-eqb, not-true, not-false}
 use lib.Dec.{leb, eqb}
@@ -17,8 +17,7 @@ use Rattle.rules.specs.Listed.{listed, unlisted, isDigits, keepsSign}
 use Rattle.rules.specs.declared.Refusal.{Refusal}
 use Rattle.rules.specs.declared.Listed.{Listed}
 use Rattle.rules.specs.declared.Entry.{Entry}
-use Rattle.rules.specs.declared.Layout.{Layout}
-use Rattle.layout.specs.Parts.{SpotFound, spotTold, lettersTold, entryTold}
+use Rattle.layout.specs.Parts.{spotTold, lettersTold, entryTold}
 use Rattle.layout.specs.declared.entries.Spot.{Spot}
 use Rattle.layout.specs.declared.entries.Spot.the-variants as spot
 use Rattle.layout.specs.declared.entries.EntryRead.{EntryRead}
@@ -94,14 +93,3 @@ said-refused n r w h g = rw (← h, g)
 -- what owning an array of structs tells is the length of a mapped list
 pub unmapped : {X Y : Type 0} (f : X → Y) (l : List X) (n : ℕ) → length (map f l) ≡ n → length l ≡ n
 unmapped f l n e = sym (length-map l f) ∙ e
-
--- ---- one answer at most meets the promise of `look`
-
-pub only-spot-found : (l : Layout) (x : ℕ) (r s : Spot) → SpotFound l x r → SpotFound l x s → r ≡ s
-unfolding spotTold
-only-spot-found l x (spot.At a e) (spot.At b f) p q =
-    let same : _≡_ {A = Span} (record { first = a; last = e }) (record { first = b; last = f }) = cc in
-    ap₂ spot.At (ap (λ v. v .first) same) (ap (λ v. v .last) same)
-only-spot-found l x (spot.At a e) spot.Nowhere p q = let z : _≡_ {A = ℕ} 0 1 = cc in absurd (omega arith)
-only-spot-found l x spot.Nowhere (spot.At b f) p q = let z : _≡_ {A = ℕ} 0 1 = cc in absurd (omega arith)
-only-spot-found l x spot.Nowhere spot.Nowhere p q = refl

@@ -9,7 +9,7 @@ use lib.Dec.{eqb}
 use lib.IntN.{ℤ, pos, negsuc}
 use lib.Signed.{ltZ, leZ}
 use Rattle.rules.specs.Choice.{given, need}
-use Rattle.rules.specs.Layouts.{firstStart, allowed}
+use Rattle.rules.specs.Layouts.{firstStart, allowed, lineLength}
 use Rattle.rules.specs.declared.Family.{Family}
 use Rattle.rules.specs.declared.Layout.{Layout}
 use Rattle.trips.specs.Limits.{isMetres}
@@ -35,9 +35,9 @@ one-breaks o v e = rw e
 pub allowed-is : (f : Family) (start : ℕ) (l : Layout) (r : Bool) → start ≡ firstStart f → r ≡ allowed (firstStart f) l → r ≡ allowed start l
 allowed-is f start l r e h = rw e h
 
-module _ {A : Type 0} (m n k : ℕ) (x a : A) (f : Unit {0} → A) (e : n ≡ k) where
-  pub need-same : m ≡ n → x ≡ f tt → x ≡ need (eqb m k) a f
-  need-same h g = rw (eq-eqb m k (h ∙ e)) g
+module _ {A : Type 0} (f : Family) (start m n : ℕ) (l : Layout) (x a : A) (g : Unit {0} → A) (e : start ≡ firstStart f) (is : n ≡ lineLength (firstStart f) l) where
+  pub length-is : m ≡ n → x ≡ g tt → x ≡ need (eqb m (lineLength start l)) a g
+  length-is h k = rw (e, eq-eqb m (lineLength (firstStart f) l) (h ∙ is)) k
 
-  pub need-other : (m ≡ n → ⊥) → x ≡ a → x ≡ need (eqb m k) a f
-  need-other h g = rw (ne-eqb m k (λ p. h (p ∙ sym e))) g
+  pub length-differs : (m ≡ n → ⊥) → x ≡ a → x ≡ need (eqb m (lineLength start l)) a g
+  length-differs h k = rw (e, ne-eqb m (lineLength (firstStart f) l) (λ p. h (p ∙ sym is))) k

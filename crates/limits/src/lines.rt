@@ -1,6 +1,7 @@
 // The values of a line, with the text behind its fields.
 ghost use mathlib.Core.Path.{_≡_};
-ghost use Rattle.trips.specs.Limits.{goodPoint, goodHeadFields, goodHead, goodFixFields, goodFix, goodNote};
+ghost use Rattle.trips.specs.Limits.{goodHeadFields, goodFixFields};
+ghost use Rattle.limits.specs.Tests.{PointTest, HeadTest, FixTest, NoteTest};
 use crate::fields::is_altitude;
 use crate::fields::is_clean;
 use crate::fields::is_date;
@@ -16,7 +17,7 @@ use rules::Point;
 
 // Whether some C point line reads as the point, with this text behind it.
 pub fn good_point(p: Point, rest: &[u8]) -> bool
-    ensures { λ r. ⌜ r ≡ goodPoint p (now (rest .entry)) ⌝ }
+    ensures { λ r. ⌜ PointTest p (now (rest .entry)) r ⌝ }
 {
     if !is_latitude(p.lat) {
         return false;
@@ -52,7 +53,7 @@ fn good_head_fields(h: Head) -> bool
 
 // Whether some C head line reads as the head, with this text behind it.
 pub fn good_head(h: Head, rest: &[u8]) -> bool
-    ensures { λ r. ⌜ r ≡ goodHead h (now (rest .entry)) ⌝ }
+    ensures { λ r. ⌜ HeadTest h (now (rest .entry)) r ⌝ }
 {
     if !good_head_fields(h) {
         return false;
@@ -87,7 +88,7 @@ fn good_fix_fields(f: Fix) -> bool
 
 // Whether some B line with this layout reads as the fix, with this tail.
 pub fn good_fix(f: Fix, tail: &[u8], l: Layout) -> bool
-    ensures { λ r. ⌜ r ≡ goodFix f (now (tail .entry)) l ⌝ }
+    ensures { λ r. ⌜ FixTest f (now (tail .entry)) l r ⌝ }
 {
     if !good_fix_fields(f) {
         return false;
@@ -97,7 +98,7 @@ pub fn good_fix(f: Fix, tail: &[u8], l: Layout) -> bool
 
 // Whether some K line with this layout reads as the time, with this tail.
 pub fn good_note(t: u32, tail: &[u8], l: Layout) -> bool
-    ensures { λ r. ⌜ r ≡ goodNote t (now (tail .entry)) l ⌝ }
+    ensures { λ r. ⌜ NoteTest t (now (tail .entry)) l r ⌝ }
 {
     if 86399 < t {
         return false;

@@ -60,7 +60,7 @@ pub(crate) fn good_tail(family: Family, start: u8, tail: &[u8], l: Layout) -> bo
     if !layout::allowed(family, l) {
         return false;
     }
-    let n = column::line_length(start, l);
+    let n = layout::line_length(family, l);
     if (start as usize) - 1 + tail.len() != n as usize {
         return false;
     }

@@ -1,14 +1,14 @@
-// Lists a file on standard output: its counts, each fix and its columns; or why it is refused. Each line is made by `show`, and written.
+// Lists a file on standard output: its counts, each fix and its columns; or why it is refused. What is printed is made by `pages` and `show`, and written here.
 use libc::STDOUT_FILENO;
+use pages::Page;
+use pages::Turn;
 use rules::Entry;
 use rules::Fix;
-use rules::FixRead;
 use rules::Flight;
 use rules::Layout;
-use rules::Outcome;
-use rules::Reason;
 use rules::Refusal;
 
+// REFUSED, the number, the line and the byte.
 pub fn print_refusal(why: Refusal) {
     let mut out = [0u8; 288];
     let n = show::refused(why, &mut out);
@@ -21,6 +21,7 @@ fn print_ok(flight: Flight) {
     io::write_all(STDOUT_FILENO, &out[..n]);
 }
 
+// FIX, a line's number and the values of its fix.
 pub fn print_fix(line: u32, f: Fix) {
     let mut out = [0u8; 288];
     let n = show::fix(line, f, &mut out);
@@ -33,6 +34,7 @@ fn print_column(line: &[u8], e: Entry) {
     io::write_all(STDOUT_FILENO, &out[..n]);
 }
 
+// COL, a code and its text, for each entry of a layout.
 pub fn print_columns(line: &[u8], layout: Layout) {
     let n = layout.count;
     let mut i = 0;
@@ -46,44 +48,35 @@ pub fn print_columns(line: &[u8], layout: Layout) {
     }
 }
 
-// A fix and its columns, where the line is a B line.
-fn print_line(number: u32, line: &[u8], layout: Layout) {
-    if let FixRead::Is(f) = read::fix(line, layout) {
-        print_fix(number, f);
-        print_columns(line, layout);
+// Each page of the file, from the first to the last; a line has 14 at most, its fix and 13 columns.
+fn print_pages(file: &[u8], table: &[u32], lines: u32, layout: Layout) {
+    let mut out = [0u8; 288];
+    let mut page = Page::first();
+    let mut left = 14 * (lines as u64);
+    while 0 < left {
+        let Turn::Put(n, next) = page.step(file, table, lines, layout, &mut out) else {
+            return;
+        };
+        io::write_all(STDOUT_FILENO, &out[..n]);
+        page = next;
+        left -= 1;
     }
 }
 
-fn print_lines(file: &[u8], table: &[u32], lines: u32, layout: Layout) {
-    let mut n: u32 = 1;
-    while n <= lines {
-        if n == 4294967295 {
-            return;
-        }
-        print_line(n, file::line(file, table, n as usize), layout);
-        n += 1;
-    }
+// The listing of an accepted file, by its table and what the check said of it.
+pub fn print_accepted(file: &[u8], table: &[u32], flight: Flight) {
+    let layout = flight.fixes;
+    print_ok(flight);
+    print_pages(file, table, flight.lines, layout);
 }
 
 // Lists a file of at most 65,536 bytes; a longer one is INPUT_OVER.
 pub fn list(file: &[u8]) {
-    if 65536 < file.len() {
-        print_refusal(Refusal {
-            reason: Reason::InputOver,
-            line: 0,
-            byte: 0,
-        });
-        return;
-    }
     let mut table = [0u32; 16384];
-    let checked = file::check(file, &mut table);
-    let outcome = checked.outcome;
-    let flight = checked.flight;
-    match outcome {
-        Outcome::Refused(why) => print_refusal(why),
-        Outcome::Accepted => {
-            print_ok(flight);
-            print_lines(file, &table, flight.lines, flight.fixes);
-        }
-    }
+    let mut out = [0u8; 288];
+    let begun = pages::begin(65536, file, &mut table, &mut out);
+    let n = begun.count;
+    let layout = begun.layout;
+    io::write_all(STDOUT_FILENO, &out[..n]);
+    print_pages(file, &table, begun.lines, layout);
 }

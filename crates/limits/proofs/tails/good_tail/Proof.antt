@@ -3,7 +3,7 @@ use borrow.Author.Needs.{needs}
 use borrow.Author.Tests.{not-true, not-false}
 use Rattle.rules.proofs.Links.{tests}
 use Rattle.trips.specs.Limits.{goodTail}
-use Rattle.limits.proofs.Laws.{allowed-is, need-same, need-other}
+use Rattle.limits.proofs.Laws.{allowed-is, length-is, length-differs}
 use Rattle.limits.proofs.tails.good_tail.Statement.{statement}
 use Rattle.limits.proofs.tails.good_tail.Tie as tie
 
@@ -13,13 +13,13 @@ good-tail-spec =
     tie.close
     (tie.spec
     (λ c κs. search needs)
-    (λ c. search (tests, not-true, not-false, allowed-is, need-same, need-other) depth 16)
+    (λ c. search (tests, not-true, not-false, allowed-is, length-is, length-differs) depth 16)
     (λ c κs. search needs)
     (λ c. search needs)
     (λ c. search needs)
     (λ c. search needs)
-    (λ c. search (tests, not-true, not-false, allowed-is, need-same, need-other) depth 16)
+    (λ c. search (tests, not-true, not-false, allowed-is, length-is, length-differs) depth 16)
     (λ c κs. search needs)
-    (λ c. search (tests, not-true, not-false, allowed-is, need-same, need-other) depth 16)
+    (λ c. search (tests, not-true, not-false, allowed-is, length-is, length-differs) depth 16)
     (λ c κs. search needs)
-    (λ c. search (tests, not-true, not-false, allowed-is, need-same, need-other) depth 16))
+    (λ c. search (tests, not-true, not-false, allowed-is, length-is, length-differs) depth 16))

@@ -1,0 +1,160 @@
+-- Document 01, 'Which kind may follow which' and the time order of 'Fields': what the lines before tell of a line that comes after them. They are given in their
+-- order, each without its CR LF, and a line's kind is told by its first byte. They have passed; a field of theirs that could not be read would count as 0.
+use Prim.Native.Nat.{ℕ, zero, suc, _+_, _-_, _<_}
+use Prim.Native.Char.{code}
+use mathlib.Core.Bool.{Bool, true, false, not, _&&_, _||_, cond}
+use mathlib.Core.List.{List, [], _∷_, _++_}
+use mathlib.Core.Logic.{_↔_}
+use mathlib.Core.Option.{Option, none, some}
+use mathlib.Core.Path.{_≡_}
+use lib.Dec.{eqb, leb, ltb}
+use lib.ListN.{length, getD}
+use Rattle.rules.specs.Choice.{given, byte, bytes}
+use Rattle.rules.specs.Numbers.{numberAt}
+use Rattle.rules.specs.Fields.{timeAt}
+use Rattle.rules.specs.Listed.{codeAt}
+use Rattle.rules.specs.Reads.{layoutLetter}
+use Rattle.rules.specs.declared.Entry.{Entry}
+use Rattle.rules.specs.declared.Family.{Family}
+use Rattle.rules.specs.declared.Family.the-variants as family
+use Rattle.rules.specs.declared.Head.{Head}
+use Rattle.rules.specs.declared.Kind.{Kind}
+use Rattle.rules.specs.declared.Kind.the-variants as kind
+use Rattle.demands.specs.Grammar.{Each, IsHeadLine, IsPointLine, Follows, AtMostOne, laid, beginning}
+
+-- a field's value, 0 where it could not be read
+abbrev pub orZero : Option ℕ → ℕ
+orZero o = given o 0 λ v. v
+
+-- ---- letters
+
+-- one of these letters
+unfoldable pub isOf : List ℕ → ℕ → Bool
+isOf [] b = false
+isOf (x ∷ xs) b = eqb b x || isOf xs b
+
+-- each line begins with one of these letters
+unfoldable pub only : List ℕ → List (List ℕ) → Bool
+only xs [] = true
+only xs (l ∷ ls) = isOf xs (getD l 0 0) && only xs ls
+
+-- no line begins with this letter
+abbrev pub without : ℕ → List (List ℕ) → Bool
+without x ls = eqb (beginning x ls) 0
+
+-- the last line begins with this letter
+unfoldable pub endsWith : ℕ → List (List ℕ) → Bool
+endsWith x [] = false
+endsWith x (l ∷ []) = eqb (getD l 0 0) x
+endsWith x (l ∷ k ∷ ls) = endsWith x (k ∷ ls)
+
+-- ---- the declaration
+
+-- "its point lines, as many as its turn points plus 4 (take-off, start, finish, landing)"; a head has the "2-digit number of turn points" at 24
+abbrev pub pointsOf : List ℕ → ℕ
+pointsOf head = orZero (numberAt head (byte 24) 2) + 4
+
+-- "a C head, then at once its point lines": the first C line is the head, and fewer lines have come after it than it has points
+unfoldable pub isOpen : List (List ℕ) → Bool
+isOpen [] = false
+isOpen (l ∷ ls) = cond (eqb (getD l 0 0) (code "C")) (ltb (length ls) (pointsOf l)) (isOpen ls)
+
+-- the same in the grammar's words: the lines end with a head and its first points, fewer than all of them
+pub record Open (ls : List (List ℕ)) : Type 0 where
+  pub before : List (List ℕ)
+  pub head : List ℕ
+  pub points : List (List ℕ)
+  pub order : ls ≡ before ++ (head ∷ points)
+  pub no-other : Each (λ l. getD l 0 0 ≡ code "C" → ⊥) before
+  pub says : Head
+  pub is-head : IsHeadLine says head
+  pub are-points : Each IsPointLine points
+  pub fewer : length points < says .turns + 4
+
+-- ---- which kind may come
+
+-- "After these come C, D, E, F, B, K, L and other": behind the first two lines, and before the first G
+unfoldable pub isBody : List (List ℕ) → Bool
+isBody ls = leb 2 (length ls) && without (code "G") ls
+
+-- "Line 1 is A, line 2 is H, then further H lines, then at most one I, then at most one J. After these come C, D, E, F, B, K, L and other, with no further A, H,
+-- I, J. At most one declaration (h), begun before the first B: a C head, then at once its point lines .. Then one or more G lines. After the first G only G or L;
+-- after an L that follows a G, only L. So a B after G is refused, as 000 A2.3.1 demands."
+unfoldable pub mayCome : Kind → List (List ℕ) → Bool
+unfolding bytes
+-- line 1, and "no further A"
+mayCome kind.A ls = eqb (length ls) 0
+-- behind line 1, among H lines only
+mayCome kind.H ls = leb 1 (length ls) && only (bytes "AH") ls
+-- behind line 2, and behind H lines only, so there was no I yet
+mayCome kind.I ls = leb 2 (length ls) && only (bytes "AH") ls
+-- likewise, perhaps behind the I
+mayCome kind.J ls = leb 2 (length ls) && only (bytes "AHI") ls
+-- the next point of the declaration, or the head of the only one, before the first B
+mayCome kind.C ls = isBody ls && (isOpen ls || (without (code "C") ls && without (code "B") ls))
+-- "at once its point lines": no other kind comes between them
+mayCome kind.B ls = isBody ls && not (isOpen ls)
+mayCome kind.D ls = isBody ls && not (isOpen ls)
+mayCome kind.E ls = isBody ls && not (isOpen ls)
+mayCome kind.F ls = isBody ls && not (isOpen ls)
+mayCome kind.K ls = isBody ls && not (isOpen ls)
+mayCome kind.Other ls = isBody ls && not (isOpen ls)
+-- before and after the first G
+mayCome kind.L ls = leb 2 (length ls) && not (isOpen ls)
+-- the first G, or one right behind a G
+mayCome kind.G ls = leb 2 (length ls) && not (isOpen ls) && (without (code "G") ls || endsWith (code "G") ls)
+mayCome kind.NoKind ls = false
+
+-- ---- the columns that an I or a J line tells
+
+-- "start SS, finish FF and a code CCC", behind `at` bytes
+abbrev pub entryOf : List ℕ → ℕ → Entry
+entryOf l at = record { first = orZero (numberAt l at 2); last = orZero (numberAt l (at + 2) 2); code = orZero (codeAt l (at + 4)) }
+
+-- so many entries, the first behind `at` bytes
+unfoldable pub entriesIn : ℕ → List ℕ → ℕ → List Entry
+entriesIn zero l at = []
+entriesIn (suc left) l at = entryOf l at ∷ entriesIn left l (at + 7)
+
+-- "NN, then NN entries": those of the I line, for B lines, or of the J line, for K lines; none where there is "no such line"
+unfoldable pub entriesTold : Family → List (List ℕ) → List Entry
+entriesTold f [] = []
+entriesTold f (l ∷ ls) =
+    cond (eqb (getD l 0 0) (layoutLetter f)) (entriesIn (orZero (numberAt l (byte 2) 2)) l (byte 4)) (entriesTold f ls)
+
+-- the lines that begin with this letter
+unfoldable pub those : ℕ → List (List ℕ) → List (List ℕ)
+those x [] = []
+those x (l ∷ ls) = cond (eqb (getD l 0 0) x) (l ∷ those x ls) (those x ls)
+
+-- the last FF, where there is one, else n
+unfoldable pub endsAt : ℕ → List Entry → ℕ
+endsAt n [] = n
+endsAt n (e ∷ es) = endsAt (e .last) es
+
+-- "A line of that kind ends at the last FF; with NN 00, or no such line, B has 35 and K has 7."
+abbrev pub sizeOf : Family → List Entry → ℕ
+sizeOf family.B es = endsAt 35 es
+sizeOf family.K es = endsAt 7 es
+
+-- ---- the time order
+
+-- the time, at 2 to 7, of the last B, E, F or K line, where there is one
+unfoldable pub lastTime : List (List ℕ) → Option ℕ
+unfolding bytes
+lastTime [] = none
+lastTime (l ∷ ls) = given (lastTime ls) (cond (isOf (bytes "BEFK") (getD l 0 0)) (timeAt l (byte 2)) none) λ t. some t
+
+-- "A fall of more than 43,200 seconds from the one before counts as the next day; a smaller fall, or one of exactly 43,200, is refused (h). Equal times are fine."
+unfoldable pub isInTime : Option ℕ → ℕ → Bool
+isInTime before now = given before true λ t. leb t now || ltb 43200 (t - now)
+
+-- ---- what these tests mean, in the grammar's words, of lines that have passed
+
+pub record Meant (ls : List (List ℕ)) : Type 0 where
+  pub declaration : (isOpen ls ≡ true) ↔ Open ls
+  -- "at most one I", "at most one J", and their entries
+  pub fixes : AtMostOne family.B (laid (entriesTold family.B ls)) (those (code "I") ls)
+  pub notes : AtMostOne family.K (laid (entriesTold family.K ls)) (those (code "J") ls)
+  -- from the last time on, a time is in order where it follows it
+  pub times : (t now : ℕ) → lastTime ls ≡ some t → (isInTime (lastTime ls) now ≡ true) ↔ Follows t now

@@ -1,0 +1,79 @@
+-- Document 01, 'Lines' and 'Fields': the letters of each kind, and what it means that a field could be read, apart from how it is read: the bytes there are the text
+-- of a value within its limits.
+use Prim.Native.Nat.{ℕ, _≤_, _<_, _^_}
+use Prim.Native.Char.{code}
+use mathlib.Core.Bool.{Bool, true}
+use mathlib.Core.List.{List, [], _∷_, _++_}
+use mathlib.Core.Logic.{_⊎_, _↔_}
+use mathlib.Core.Option.{Option, some}
+use mathlib.Core.Path.{_≡_}
+use lib.Dec.{ltb}
+use lib.ListN.{length, drop}
+use Rattle.rules.specs.Choice.{byte}
+use Rattle.rules.specs.Chars.{isCode, codesAt}
+use Rattle.rules.specs.Numbers.{numberAt, digitsOf}
+use Rattle.rules.specs.Fields.{timeAt, timeText, dateAt, dateText, latitudeAt, latitudeText, longitudeAt, longitudeText, altitudeAt, altitudeText}
+use Rattle.rules.specs.Degrees.{isLatitude, isLongitude}
+use Rattle.rules.specs.Listed.{codeAt, codeText, isCodeWord}
+use Rattle.rules.specs.Lines.{kindOf, isDateMark, plannedAt}
+use Rattle.rules.specs.Writes.{plannedText}
+use Rattle.rules.specs.declared.Kind.{Kind}
+use Rattle.rules.specs.declared.Kind.the-variants as kind
+use Rattle.trips.specs.Limits.{isTime, isDate, isPlanned, isAltitude}
+use Rattle.demands.specs.Grammar.{Each}
+use Rattle.demands.specs.Checks.{isThere}
+
+-- "The first byte, A to Z, is the kind. M to Z are 'other' and carried (h)."
+abbrev pub Letter : Kind → ℕ → Type 0
+Letter kind.A b = b ≡ code "A"
+Letter kind.B b = b ≡ code "B"
+Letter kind.C b = b ≡ code "C"
+Letter kind.D b = b ≡ code "D"
+Letter kind.E b = b ≡ code "E"
+Letter kind.F b = b ≡ code "F"
+Letter kind.G b = b ≡ code "G"
+Letter kind.H b = b ≡ code "H"
+Letter kind.I b = b ≡ code "I"
+Letter kind.J b = b ≡ code "J"
+Letter kind.K b = b ≡ code "K"
+Letter kind.L b = b ≡ code "L"
+Letter kind.Other b = (code "M" ≤ b) × (b ≤ code "Z")
+Letter kind.NoKind b = (b < code "A") ⊎ (code "Z" < b)
+
+-- behind `at` bytes of the line this text stands
+pub record Stood (l : List ℕ) (at : ℕ) (text : List ℕ) : Type 0 where
+  pub rest : List ℕ
+  pub bytes : drop at l ≡ text ++ rest
+
+-- the field reads as a value exactly where the value's text stands, the value being within its limits; and it could be read exactly where there is such a value
+pub record Field {A : Type 0} (read : List ℕ → ℕ → Option A) (text : A → List ℕ) (within : A → Bool) : Type 0 where
+  pub reads : (l : List ℕ) (at : ℕ) (v : A) → (read l at ≡ some v) ↔ ((within v ≡ true) × Stood l at (text v))
+  pub there : (l : List ℕ) (at : ℕ) → (isThere (read l at) ≡ true) ↔ ((v : A) × (within v ≡ true) × Stood l at (text v))
+
+-- so many code characters
+pub record Codes (n : ℕ) (t : List ℕ) : Type 0 where
+  pub count : length t ≡ n
+  pub each : Each (λ b. isCode b ≡ true) t
+
+-- the kind, and each field that a check of 9 reads
+pub record FieldsTold : Type 0 where
+  pub kind : (b : ℕ) → Letter (kindOf b) b
+  -- "Time: HHMMSS, 00 to 23, 00 to 59, 00 to 59, read as seconds of the day."
+  pub time : Field timeAt timeText isTime
+  -- "Years 80 to 99 are 1980 to 1999, 00 to 79 are 2000 to 2079 (h). The day must exist in that month and year."
+  pub date : Field dateAt dateText isDate
+  -- "000000 means not given; every other value must be a date"
+  pub planned : Field plannedAt plannedText isPlanned
+  -- "Minutes are 00 to 59. Latitude at most 5,400,000, longitude at most 10,800,000."
+  pub latitude : Field latitudeAt latitudeText isLatitude
+  pub longitude : Field longitudeAt longitudeText isLongitude
+  -- "Altitude in metres: five digits, or a minus and four digits that are not all zero. So -9,999 to 99,999."
+  pub altitude : Field altitudeAt altitudeText isAltitude
+  -- "Digit fields hold 0 to 9 only."
+  pub number : (n : ℕ) → n ≤ 18 → Field (λ l at. numberAt l at n) (digitsOf n) (λ v. ltb v (10 ^ n))
+  -- "a code CCC of 3 code characters"
+  pub word : Field codeAt codeText isCodeWord
+  -- "'Code' characters are A to Z and 0 to 9."
+  pub codes : (l : List ℕ) (at n : ℕ) → (codesAt l at n ≡ true) ↔ ((t : List ℕ) × Codes n t × Stood l at t)
+  -- "FDTE at 2 to 5 as one field"
+  pub mark : (l : List ℕ) → (isDateMark l ≡ true) ↔ Stood l (byte 2) (code "F" ∷ code "D" ∷ code "T" ∷ code "E" ∷ [])

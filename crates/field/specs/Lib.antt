@@ -1,0 +1,2 @@
+-- The promise of this crate that the rules do not name.
+pub mod Days

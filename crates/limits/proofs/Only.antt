@@ -1,0 +1,21 @@
+-- One answer at most meets each promise of this crate. Assumes nothing.
+use Prim.Native.Nat.{ℕ}
+use mathlib.Core.List.{List}
+use Rattle.rules.specs.declared.Layout.{Layout}
+use Rattle.rules.specs.declared.Fix.{Fix}
+use Rattle.rules.specs.declared.Head.{Head}
+use Rattle.rules.specs.declared.Point.{Point}
+use Rattle.laws.proofs.Only.{Only, same}
+use Rattle.limits.specs.Tests.{PointTest, HeadTest, FixTest, NoteTest}
+
+pub only-point-test : (p : Point) (rest : List ℕ) → Only (PointTest p rest)
+only-point-test p rest = same
+
+pub only-head-test : (h : Head) (rest : List ℕ) → Only (HeadTest h rest)
+only-head-test h rest = same
+
+pub only-fix-test : (f : Fix) (tail : List ℕ) (layout : Layout) → Only (FixTest f tail layout)
+only-fix-test f tail layout = same
+
+pub only-note-test : (t : ℕ) (tail : List ℕ) (layout : Layout) → Only (NoteTest t tail layout)
+only-note-test t tail layout = same

@@ -1,0 +1,22 @@
+-- The promises of the tests that a writer makes of the values given: whether some line that passes 7 to 13 reads as them.
+use Prim.Native.Nat.{ℕ}
+use mathlib.Core.Bool.{Bool}
+use mathlib.Core.List.{List}
+use mathlib.Core.Path.{_≡_}
+use Rattle.rules.specs.declared.Layout.{Layout}
+use Rattle.rules.specs.declared.Fix.{Fix}
+use Rattle.rules.specs.declared.Head.{Head}
+use Rattle.rules.specs.declared.Point.{Point}
+use Rattle.trips.specs.Limits.{goodPoint, goodHead, goodFix, goodNote}
+
+abbrev pub PointTest : Point → List ℕ → Bool → Type 0
+PointTest p rest r = r ≡ goodPoint p rest
+
+abbrev pub HeadTest : Head → List ℕ → Bool → Type 0
+HeadTest h rest r = r ≡ goodHead h rest
+
+abbrev pub FixTest : Fix → List ℕ → Layout → Bool → Type 0
+FixTest f tail layout r = r ≡ goodFix f tail layout
+
+abbrev pub NoteTest : ℕ → List ℕ → Layout → Bool → Type 0
+NoteTest t tail layout r = r ≡ goodNote t tail layout

@@ -1,0 +1,2 @@
+-- The listing as its pages.
+pub mod Pages
