@@ -6,18 +6,19 @@
 -- `write` keep `Written` (FixWritten ..), from which `BothWays` tells what they write. By the laws `only-..` of crate laws, nothing else would keep these promises.
 use Prim.Native.Nat.{ℕ, _≤_}
 use Prim.Native.Char.{code}
-use mathlib.Core.Bool.{Bool, true}
+use mathlib.Core.Bool.{true}
 use mathlib.Core.List.{List, [], _∷_, _++_}
 use mathlib.Core.Logic.{_↔_}
 use mathlib.Core.Path.{_≡_, refl, sym, _∙_, ap}
-use native.Mathlib.Omega.{arith}
 use lib.ListN.{length, getD}
-use Rattle.rules.specs.Refusals.{Said, says, refuses}
+use Rattle.rules.specs.Refusals.{says, refuses}
 use Rattle.rules.specs.Files.{verdict}
-use Rattle.rules.specs.Layouts.{isSaid, firstStart, allowed, emptyLayout}
+use Rattle.rules.specs.Listed.{widthFits, keepsRule}
+use Rattle.rules.specs.Layouts.{isSaid, firstStart, allowed}
 use Rattle.rules.specs.Reads.{fixSaid, noteSaid, headSaid, pointSaid, layoutSaid}
 use Rattle.rules.specs.Writes.{fixText, noteText, headText, pointText, layoutText, isFix, isNote, isHead, isPoint}
 use Rattle.rules.specs.Promises.{FixWritten, NoteWritten, LayoutWritten, HeadWritten, PointWritten}
+use Rattle.rules.specs.declared.Date.{Date}
 use Rattle.rules.specs.declared.Layout.{Layout}
 use Rattle.rules.specs.declared.Family.{Family}
 use Rattle.rules.specs.declared.Fix.{Fix}
@@ -26,21 +27,27 @@ use Rattle.rules.specs.declared.Point.{Point}
 use Rattle.rules.specs.declared.Flight.{Flight}
 use Rattle.rules.specs.declared.Wrote.{Wrote}
 use Rattle.rules.proofs.Damaged.{fiveLines}
-use Rattle.trips.specs.Limits.{goodFix, goodNote, goodHead, goodPoint}
+use Rattle.trips.specs.Limits.{isDate, goodFix, goodNote, goodHead, goodPoint}
 use Rattle.trips.proofs.Fixes.{fix-trip, fix-good}
 use Rattle.trips.proofs.Notes.{note-trip, note-good}
 use Rattle.trips.proofs.Heads.{head-trip, head-good}
 use Rattle.trips.proofs.Points.{point-trip, point-good}
-use Rattle.demands.specs.Grammar.{Each, IsLayoutLine, IsBLine, IsKLine, IsHeadLine, IsPointLine, linesIn, Meets, flightOf}
-use Rattle.demands.specs.Faults.{Refused}
+use Rattle.demands.specs.Grammar.{Each, IsDay, Listing, Holds, IsLayoutLine, IsBLine, IsKLine, IsHeadLine, IsPointLine, linesIn, Meets, flightOf}
+use Rattle.demands.specs.Faults.{PassAfter, Refused}
+use Rattle.demands.specs.FieldTexts.{FieldsTold}
+use Rattle.demands.specs.Coming.{Meant}
 use Rattle.demands.specs.Readings.{Readable}
 use Rattle.demands.specs.BothWays.{Slotted, ReadsAs, Ways, BothWays}
 use Rattle.demands.proofs.Accepted as acceptance
 use Rattle.demands.proofs.Refusing as refusing
+use Rattle.demands.proofs.FieldsThere as fields-there
+use Rattle.demands.proofs.Meaning.{meant}
+use Rattle.demands.proofs.Days.{day-exactly}
+use Rattle.demands.proofs.Rows.{width-exactly, rule-exactly}
 use Rattle.demands.proofs.Reading as reading
 use Rattle.demands.proofs.LayoutLines.{layout-exactly, layout-line-exactly}
 use Rattle.demands.proofs.Valued.{fix-reads, fix-read, note-reads, note-read, head-reads, head-read, point-reads, point-read}
-use Rattle.demands.proofs.Writers.{both-ways, trip-ways, nothing-good}
+use Rattle.demands.proofs.Writers.{both-ways, trip-ways}
 use Rattle.demands.proofs.Worked as worked
 
 -- ---- the verdict on a file, with a table of `room` entries
@@ -57,6 +64,26 @@ module _ (file : List ℕ) (room : ℕ) where
   -- it is refused with a number, line and byte exactly when that refusal's meaning holds of it
   pub refused-first : (number line byte : ℕ) → (verdict file room ≡ refuses number line byte) ↔ Refused file room number line byte
   refused-first number line byte = refusing.refused-first file room number line byte
+
+-- ---- what the checks of a refusal read and test, apart from how
+
+-- the kind and each field: it is read exactly where the text of a value within its limits stands
+pub fields-told : FieldsTold
+fields-told = fields-there.fields-told
+
+-- of lines that pass: a declaration that is still open, the entries of the I and the J line, the time before
+pub lines-meant : (ls : List (List ℕ)) → PassAfter [] ls → Meant ls
+lines-meant = meant
+
+-- a date; the width of a code's column (12), and its text (13)
+pub dates-meant : (d : Date) → (isDate d ≡ true) ↔ IsDay d
+dates-meant = day-exactly
+
+pub widths-meant : (x w : ℕ) → (widthFits x w ≡ true) ↔ Listing x (λ r. (r .least ≤ w) × (w ≤ r .most))
+widths-meant = width-exactly
+
+pub texts-meant : (x : ℕ) (t : List ℕ) → (keepsRule x t ≡ true) ↔ Listing x (λ r. Holds (r .sign) t)
+texts-meant = rule-exactly
 
 -- ---- the grammar by itself
 
@@ -142,13 +169,3 @@ module _ (place : ℕ) (out : List ℕ) (r : Wrote) (after : List ℕ) where
   pub layout-writer : (family : Family) (i : Slotted) → LayoutWritten family (i .layout) place out r after
       → Ways (λ l (v : Slotted). layoutSaid family l ≡ says (v .layout)) i place out r after
   layout-writer family i = layouts-both-ways family .writes i place out r after
-
--- a reader of K lines that refuses everything is not both ways, whatever its writer tests
-pub not-refusing : (said : List ℕ → Said ℕ) (test : ℕ × List ℕ → Bool) → ((l : List ℕ) (t : ℕ) → said l ≡ says t → ⊥)
-    → BothWays (ReadsAs said 7) (λ v. noteText (v .0) (v .1)) test (λ v. goodNote (v .0) (v .1) emptyLayout) → ⊥
-not-refusing said test never b = never (noteText 0 []) 0 (b .reads-exactly (noteText 0 []) (0, []) .1 (refl, nothing-good) .0)
-
--- nor is one that always says the same time
-pub not-stock : (t : ℕ) (test limits : ℕ × List ℕ → Bool) → BothWays (ReadsAs (λ l. says t) 7) (λ v. noteText (v .0) (v .1)) test limits → ⊥
-unfolding noteText
-not-stock t test limits b = let n = ap length (b .reads-exactly [] (t, []) .0 (refl, refl) .0) in omega arith

@@ -1,5 +1,5 @@
 -- Lines read and written, whatever line it is: where a line reads as values exactly when it is their text and they are within their limits, the writer's promise
--- gives the line and its CR LF, 17 exactly where no line reads so, and 18. Assumes nothing.
+-- gives the line and its CR LF, 17 exactly where no line reads so, and 18. And readers of which that does not hold. Assumes nothing.
 use Prim.Native.Nat.{ℕ, _+_, _-_, _<_, _≤_}
 use mathlib.Core.Bool.{Bool, true, false}
 use mathlib.Core.List.{List, [], _++_, append-assoc}
@@ -14,7 +14,7 @@ use Rattle.rules.specs.Choice.{firstOf, leads}
 use Rattle.rules.specs.Chars.{firstInvalid}
 use Rattle.rules.specs.Layouts.{emptyLayout, allowed, allPlaced, isUnused, lineLength}
 use Rattle.rules.specs.Refusals.{Said, says, no, number}
-use Rattle.rules.specs.Writes.{crlf, wroteTold, written, outAfter}
+use Rattle.rules.specs.Writes.{crlf, noteText, wroteTold, written, outAfter}
 use Rattle.rules.specs.Promises.{Written}
 use Rattle.rules.specs.declared.Reason.the-variants.{BadValue, NoRoom}
 use Rattle.rules.specs.declared.Wrote.{Wrote}
@@ -134,7 +134,19 @@ trip-ways {said = said} {text = text} {fields = fields} {limits = limits} test t
     ))
     (λ v. tested (v .0) (v .1))
 
+-- ---- what is not both ways
+
 -- midnight, with no columns, is within the limits of a K line
-pub nothing-good : goodNote 0 [] emptyLayout ≡ true
+nothing-good : goodNote 0 [] emptyLayout ≡ true
 unfolding goodNote goodTail badTail isClean firstInvalid firstOf allowed allPlaced leads isUnused lineLength
 nothing-good = refl
+
+-- a reader of K lines that refuses everything is not both ways, whatever its writer tests
+pub not-refusing : (said : List ℕ → Said ℕ) (test : ℕ × List ℕ → Bool) → ((l : List ℕ) (t : ℕ) → said l ≡ says t → ⊥)
+    → BothWays (ReadsAs said 7) (λ v. noteText (v .0) (v .1)) test (λ v. goodNote (v .0) (v .1) emptyLayout) → ⊥
+not-refusing said test never b = never (noteText 0 []) 0 (b .reads-exactly (noteText 0 []) (0, []) .1 (refl, nothing-good) .0)
+
+-- nor is one that always says the same time
+pub not-stock : (t : ℕ) (test limits : ℕ × List ℕ → Bool) → BothWays (ReadsAs (λ l. says t) 7) (λ v. noteText (v .0) (v .1)) test limits → ⊥
+unfolding noteText
+not-stock t test limits b = let n = ap length (b .reads-exactly [] (t, []) .0 (refl, refl) .0) in omega arith

@@ -44,6 +44,7 @@ pub record Ways {A : Type 0} (Reads : List ℕ → A → Type 0) (v : A) (place 
   -- there is no other refusal, and "a refused write changes no byte"
   pub refused : (n l b : ℕ) → wroteTold r ≡ refuses n l b → ((wroteTold r ≡ no BadValue 0) ⊎ (wroteTold r ≡ no NoRoom 0)) × (after ≡ out)
 
+-- the reader and the writer of a kind of line; a reader that refuses everything, or always says the same, is none (proofs/Writers)
 pub record BothWays {A : Type 0} (Reads : List ℕ → A → Type 0) (text : A → List ℕ) (test limits : A → Bool) : Type 0 where
   -- a line reads as values exactly when it is their text and they are within their limits
   pub reads-exactly : (l : List ℕ) (v : A) → Reads l v ↔ ((l ≡ text v) × (limits v ≡ true))

@@ -25,7 +25,7 @@ use Rattle.trips.proofs.Laws.{none-some, false-true, given-inv}
 use Rattle.laws.proofs.Splitting.{textsOf}
 use Rattle.laws.proofs.Counted.{tally}
 use Rattle.laws.proofs.Counted as counted
-use Rattle.wider.specs.Wider.{Extends, widthIn, Behind, done, same, fix, note, without, changed, put, FromJ, FromI, Wider, head, from}
+use Rattle.wider.specs.Wider.{Extends, widthIn, AfterLayouts, done, same, fix, note, without, changed, put, FromJ, FromI, Wider, head, from}
 use Rattle.wider.specs.Before.{isB, isK, linesWith, addedFrom, addedIn, MoreBits, putInJ, putInI, putIn}
 use Rattle.wider.proofs.Lists.{found-one}
 use Rattle.wider.proofs.Placed.{Sound}
@@ -41,7 +41,7 @@ module _ (test : Kind → Bool) (ni : test kind.I ≡ false) (nj : test kind.J �
   skip : (t : List ℕ) (ls : Lines) (k : Kind) → kindOf (getD t 0 0) ≡ k → test k ≡ false → linesWith test (line t ls) ≡ linesWith test ls
   skip t ls k e n = rw (ap test e ∙ n)
 
-  body-others : {i i′ j j′ : Layout} {ls ls′ : Lines} → Behind i i′ j j′ ls ls′ → linesWith test ls′ ≡ linesWith test ls
+  body-others : {i i′ j j′ : Layout} {ls ls′ : Lines} → AfterLayouts i i′ j j′ ls ls′ → linesWith test ls′ ≡ linesWith test ls
   body-others done = refl
   body-others (same {t = t} x b) = ap (λ (r : List (List ℕ)). cond (test (kindOf (getD t 0 0))) (t ∷ r) r) (body-others b)
   body-others (fix {t = t} {t′ = t′} {ls = ls} {ls′ = ls′} x w b) =
@@ -67,7 +67,7 @@ module _ (test : Kind → Bool) (ni : test kind.I ≡ false) (nj : test kind.J �
 
 -- ---- the count of lines
 
-body-count : {i i′ j j′ : Layout} {ls ls′ : Lines} → Behind i i′ j j′ ls ls′ → length (textsOf ls′) ≡ length (textsOf ls)
+body-count : {i i′ j j′ : Layout} {ls ls′ : Lines} → AfterLayouts i i′ j j′ ls ls′ → length (textsOf ls′) ≡ length (textsOf ls)
 body-count done = refl
 body-count (same x b) = ap suc (body-count b)
 body-count (fix x w b) = ap suc (body-count b)

@@ -24,7 +24,7 @@ use Rattle.trips.proofs.Laws.{refuses-says, false-true, need-inv, then-inv}
 use Rattle.laws.proofs.Chains.{surely}
 use Rattle.laws.proofs.Splitting.{textsOf}
 use Rattle.laws.proofs.Counted.{OneMore, judge-counts}
-use Rattle.wider.specs.Wider.{Extends, isFront, isPlain, Behind, done, same, fix, note, without, changed, put, FromJ, FromI, Wider, head, from}
+use Rattle.wider.specs.Wider.{Extends, isFront, isPlain, AfterLayouts, done, same, fix, note, without, changed, put, FromJ, FromI, Wider, head, from}
 use Rattle.wider.specs.Before.{isB, isK, linesWith, AsBefore}
 use Rattle.wider.proofs.Lists.{Pairs}
 use Rattle.wider.proofs.Placed.{Sound, sound-line, sound-empty}
@@ -94,7 +94,7 @@ module _ (room room′ : ℕ) (f : Flight) where
       }
 
   module _ (i i′ j j′ : Layout) (si : Sound 36 i) (si′ : Sound 36 i′) (sj : Sound 8 j) (sj′ : Sound 8 j′) where
-    body : {ls ls′ : Lines} → Behind i i′ j j′ ls ls′ → (st : State) (s n : ℕ) → st .flight .fixes ≡ i → st .flight .notes ≡ j → Alike (st .stage) s
+    body : {ls ls′ : Lines} → AfterLayouts i i′ j j′ ls ls′ → (st : State) (s n : ℕ) → st .flight .fixes ≡ i → st .flight .notes ≡ j → Alike (st .stage) s
         → n + length (textsOf ls′) ≤ room′ → run room st ls ≡ says f → Passed room′ (wide i′ j′ n (staged s st)) i i′ j j′ ls ls′ f
     body done st s n p q a m h = at-end i i′ j j′ st s n p q a h
     body (same {t = t} {ls = ls} {ls′ = ls′} x b) st s n p q a m h =
@@ -169,7 +169,7 @@ NotHead end = Unit {0}
 NotHead (broken n) = Unit {0}
 NotHead (line t ls) = isFront (kindOf (getD t 0 0)) ≡ false
 
-body-later : {i i′ j j′ : Layout} {ls ls′ : Lines} → Behind i i′ j j′ ls ls′ → NotHead ls
+body-later : {i i′ j j′ : Layout} {ls ls′ : Lines} → AfterLayouts i i′ j j′ ls ls′ → NotHead ls
 body-later done = tt
 body-later (same {t = t} x b) = plain-is (kindOf (getD t 0 0)) x .3
 body-later (fix x w b) = ap isFront (ap kindOf x ∙ is-b)

@@ -67,13 +67,13 @@ abbrev pub isPlain : Kind → Bool
 isPlain = elim [ kind.A ↦ false | kind.B ↦ false | kind.C ↦ true | kind.D ↦ true | kind.E ↦ true | kind.F ↦ true | kind.G ↦ true | kind.H ↦ false | kind.I ↦ false | kind.J ↦ false | kind.K ↦ false | kind.L ↦ true | kind.Other ↦ true | kind.NoKind ↦ false ]
 
 -- After the layout lines: B lines are widened from layout i to i′, K lines from j to j′, the others stay.
-pub data Behind (i i′ j j′ : Layout) : Lines → Lines → Type 0 where
-  done : Behind i i′ j j′ end end
-  same : {t : List ℕ} {ls ls′ : Lines} → isPlain (kindOf (getD t 0 0)) ≡ true → Behind i i′ j j′ ls ls′ → Behind i i′ j j′ (line t ls) (line t ls′)
-  fix : {t t′ : List ℕ} {ls ls′ : Lines} → getD t 0 0 ≡ code "B" → WiderLine (firstStart family.B) i i′ t t′ → Behind i i′ j j′ ls ls′
-      → Behind i i′ j j′ (line t ls) (line t′ ls′)
-  note : {t t′ : List ℕ} {ls ls′ : Lines} → getD t 0 0 ≡ code "K" → WiderLine (firstStart family.K) j j′ t t′ → Behind i i′ j j′ ls ls′
-      → Behind i i′ j j′ (line t ls) (line t′ ls′)
+pub data AfterLayouts (i i′ j j′ : Layout) : Lines → Lines → Type 0 where
+  done : AfterLayouts i i′ j j′ end end
+  same : {t : List ℕ} {ls ls′ : Lines} → isPlain (kindOf (getD t 0 0)) ≡ true → AfterLayouts i i′ j j′ ls ls′ → AfterLayouts i i′ j j′ (line t ls) (line t ls′)
+  fix : {t t′ : List ℕ} {ls ls′ : Lines} → getD t 0 0 ≡ code "B" → WiderLine (firstStart family.B) i i′ t t′ → AfterLayouts i i′ j j′ ls ls′
+      → AfterLayouts i i′ j j′ (line t ls) (line t′ ls′)
+  note : {t t′ : List ℕ} {ls ls′ : Lines} → getD t 0 0 ≡ code "K" → WiderLine (firstStart family.K) j j′ t t′ → AfterLayouts i i′ j j′ ls ls′
+      → AfterLayouts i i′ j j′ (line t ls) (line t′ ls′)
 
 -- At the place of the I line, or of the J line: there is none before and after; or it is changed in place; or, where there was none, it is put in.
 pub data LayoutLine (f : Family) (Rest : Layout → Layout → Lines → Lines → Type 0) : Lines → Lines → Type 0 where
@@ -83,7 +83,7 @@ pub data LayoutLine (f : Family) (Rest : Layout → Layout → Lines → Lines �
   put : {t′ : List ℕ} {new : Layout} {ls ls′ : Lines} → layoutSaid f t′ ≡ says new → Rest emptyLayout new ls ls′ → LayoutLine f Rest ls (line t′ ls′)
 
 abbrev pub FromJ : Layout → Layout → Lines → Lines → Type 0
-FromJ i i′ = LayoutLine family.K (Behind i i′)
+FromJ i i′ = LayoutLine family.K (AfterLayouts i i′)
 
 abbrev pub FromI : Lines → Lines → Type 0
 FromI = LayoutLine family.B FromJ
