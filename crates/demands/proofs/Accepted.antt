@@ -28,6 +28,7 @@ use Rattle.demands.specs.FieldTexts.{Letter}
 use Rattle.demands.proofs.Laws.{said-some}
 use Rattle.demands.proofs.Leading.{letter, Part, Leads, first, second, further, fixing, noting, flying, sealing, remarking, sound-start, judge-leads, leads-judge}
 use Rattle.demands.proofs.Leading as part
+use Rattle.demands.proofs.LayoutLines.{told}
 use Rattle.demands.proofs.Passing.{Passes, done, next, passes-join, lines-passed, Accepts, accepted-passes}
 use Rattle.demands.proofs.Sections.{Fresh, passes-above, Section, split, above-end, section-passes, headers-there, headers-here, fixes-there, fixes-here, notes-there, notes-here, body-same, body-stage, body-there, body-here, seal-there, sealed, seal-here, remarks-there, remarked, remarks-here}
 
@@ -232,7 +233,7 @@ module _ {p : Parts} {date : Date} {fixes notes : Layout} {times : List ℕ} (w 
   body-on : (st : State) → st .flight .date ≡ date → st .flight .fixes ≡ fixes → st .flight .notes ≡ notes → Fresh st → 2 ≤ st .stage → st .stage ≤ 4
       → Passed st (p .body ++ (p .seal ++ p .remarks)) date fixes notes
   body-on st d f n h a b =
-      let r = body-here fixes notes st (w .body) (f, n) h a (one-up 4 b) (from-zero (st .clock) times (h .3) (w .order)) in
+      let r = body-here fixes notes (told family.B (w .fixLayout), told family.K (w .noteLayout)) st (w .body) (f, n) h a (one-up 4 b) (from-zero (st .clock) times (h .3) (w .order)) in
       let s = body-same (r .1) in
       let t = body-stage (r .1) a (one-up 4 b) in
       behind (section-passes (r .1)) (seal-on (r .0) (s .0 ∙ d) (s .1 ∙ f) (s .2 ∙ n) (r .2) (t .0) (t .1))

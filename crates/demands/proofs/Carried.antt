@@ -21,6 +21,7 @@ use Rattle.trips.proofs.Laws.{none-some, refuses-says, given-inv, need-inv, the
 use Rattle.trips.proofs.Times.{time-trip}
 use Rattle.trips.proofs.Dates.{date-trip}
 use Rattle.demands.specs.Grammar.{Each, Shaped, IsALine, IsDateLine, IsHLine, IsDLine, IsELine, IsFLine, IsLLine, IsGLine, IsOtherLine}
+use Rattle.demands.proofs.Days.{day-exactly}
 use Rattle.demands.proofs.Laws.{given-none, each-map, are-valid, shape-there, shape-said}
 
 -- ---- A
@@ -66,7 +67,7 @@ date-there l d k e =
           ∙ ap (λ x. 68 ∷ x) (byte-there l 3 4 84 refl (omega arith) (eqb-true _ _ (p₂ .1))
           ∙ ap (λ x. 84 ∷ x) (byte-there l 4 5 69 refl (omega arith) (eqb-true _ _ (p₃ .1))
           ∙ ap (λ x. 69 ∷ x) r))));
-      good = date-trip .limits l 5 d (a .1 ∙ ap some i);
+      day = day-exactly d .0 (date-trip .limits l 5 d (a .1 ∙ ap some i));
     }
 
 date-text : Date → List ℕ
@@ -85,8 +86,9 @@ date-shape d g =
 pub date-said : (l : List ℕ) (d : Date) → IsDateLine d l → dateLine l ≡ says d
 unfolding dateLine isDateMark date-text
 date-said l d w =
-    let s = shape-said 11 11 true (date-text d) (date-shape d (w .good)) in
-    let a = date-trip .here (date-text d) 5 d [] (w .good) (sym (append-nil (dateText d))) in
+    let g = day-exactly d .1 (w .day) in
+    let s = shape-said 11 11 true (date-text d) (date-shape d g) in
+    let a = date-trip .here (date-text d) 5 d [] g (sym (append-nil (dateText d))) in
     rw (w .text) (simp (s, a))
 
 -- ---- H

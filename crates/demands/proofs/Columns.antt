@@ -1,5 +1,5 @@
--- The columns of a line: a code of the layout leads to its entry's bytes and to the number that they spell, every other code to none, and together the columns are
--- the line's tail. Assumes nothing.
+-- The columns of a line: a code of the layout leads to its entry's bytes, as many as it is wide, and to the number that they spell, every other code to none, and
+-- together the columns are the line's tail. Assumes nothing.
 use Prim.Native.Nat.{ℕ, zero, suc, _+_, _-_, _^_, _/_, _%_, _≤_, _<_}
 use Prim.Native.Char.{code}
 use mathlib.Core.Bool.{Bool, true, false, cond}
@@ -10,13 +10,13 @@ use native.Mathlib.Omega.{arith}
 use borrow.Author.Tests.{le-leb, leb-true, eqb-true, eq-eqb, ne-eqb}
 use lib.Dec.{eqb, leb}
 use lib.IntN.{pos, negℤ}
-use lib.ListN.{length, getD, drop, replicate, length-append, take-append-drop, List·getD-append}
-use lib.Seq.{drop-length, drop-drop}
+use lib.ListN.{length, getD, drop, length-append, length-drop, take-append-drop}
+use lib.Seq.{drop-length, drop-drop, length-take-le}
 use Rattle.rules.specs.Choice.{given, need, on, firstOf, part}
 use Rattle.rules.specs.Refusals.{says, refuses, number}
 use Rattle.rules.specs.Numbers.{numberAt, digitsOf, wholeOf}
 use Rattle.rules.specs.Listed.{packedOf, codeText}
-use Rattle.rules.specs.Layouts.{unused, emptyLayout, withEntry, entriesOf, Span, spanOf, look, firstStart, allowed, lineLength, columnText}
+use Rattle.rules.specs.Layouts.{emptyLayout, withEntry, entriesOf, Span, spanOf, look, firstStart, allowed, lineLength, columnText}
 use Rattle.rules.specs.Reads.{lineSaid, columnSaid, columnRest, numberSaid}
 use Rattle.rules.specs.declared.Signed.{Signed}
 use Rattle.rules.specs.declared.Entry.{Entry}
@@ -24,9 +24,10 @@ use Rattle.rules.specs.declared.Layout.{Layout}
 use Rattle.rules.specs.declared.Family.{Family}
 use Rattle.trips.proofs.Laws.{none-some, given-inv, need-inv, byte-there}
 use Rattle.trips.proofs.Digits.{digits-length, digits-front, number-there, number-here}
-use Rattle.demands.specs.Grammar.{Each, laid}
-use Rattle.demands.specs.Readings.{Spells, plain, minus, NumberOf, ColumnRead, columnTexts, IsName, ColumnsRead}
-use Rattle.demands.proofs.Laws.{each-map, none-found}
+use Rattle.demands.specs.Grammar.{Each, widthOf, laid}
+use Rattle.demands.specs.Readings.{Spells, plain, minus, NumberOf, ReadsColumn, columnTexts, IsName, ReadsColumns}
+use Rattle.demands.proofs.Laws.{each-map, each-both, none-found}
+use Rattle.demands.proofs.Tails.{end-of, end-past, line-end}
 use Rattle.demands.proofs.Entries.{unpacked, packed-back, Fits, Tiled, with-laid, Coded, carries-none, allowed-there}
 
 -- ---- the number that a text spells
@@ -108,11 +109,6 @@ looked start pre (e ∷ es) n w =
 
 -- ---- the columns stand one behind the other, up to the line's end
 
--- where the last of the entries ends
-abbrev end-of : List Entry → ℕ → ℕ
-end-of [] start = start - 1
-end-of (e ∷ es) start = end-of es (e .last + 1)
-
 texts-tail : (es : List Entry) (start : ℕ) (before : Layout) (l : List ℕ) → Tiled es start before → 1 ≤ start → length l ≡ end-of es start
     → columnTexts l es ≡ drop (start - 1) l
 unfolding columnTexts
@@ -128,17 +124,18 @@ texts-tail (e ∷ es) start before l w h n =
     ∙ ap (λ i. part i (e .last) l ++ drop (e .last - (start - 1)) (drop (start - 1) l)) a
     ∙ take-append-drop (e .last - (start - 1)) (drop (start - 1) l)
 
-last-end : (e : Entry) (es : List Entry) → getD (e ∷ es) (length es) unused .last ≡ end-of es (e .last + 1)
-last-end e [] = omega arith
-last-end e (x ∷ es) = last-end x es
-
-line-end : (start : ℕ) (es : List Entry) → lineLength start (laid es) ≡ end-of es start
-unfolding lineLength
-line-end start [] = refl
-line-end start (e ∷ es) =
-    let n : suc (length es) - 1 ≡ length es = omega arith in
-    let g = List·getD-append (e ∷ es) (replicate (13 - suc (length es)) unused) unused (length es) (omega arith) in
-    rw (ne-eqb (suc (length es)) 0 (λ z. omega arith), n, g) (last-end e es)
+-- each is as wide as its entry says
+widths : (es : List Entry) (start : ℕ) (before : Layout) (l : List ℕ) → Tiled es start before → 1 ≤ start → length l ≡ end-of es start
+    → Each (λ e. length (columnText l (spanOf e)) ≡ widthOf e) es
+widths [] start before l w h n = tt
+widths (e ∷ es) start before l w h n =
+    let f : Fits start before e = w .1 in
+    let p = end-past es (e .last + 1) (withEntry before e) (w .2) (omega arith) in
+    let a : e .last ≤ length l = omega arith in
+    let k : e .last - (e .first - 1) ≤ length (drop (e .first - 1) l) = omega (arith, length-drop (e .first - 1) l, f .starts) in (
+      length-take-le (e .last - (e .first - 1)) (drop (e .first - 1) l) k ∙ omega (arith, f .starts, f .ends),
+      widths es (e .last + 1) (withEntry before e) l (w .2) (omega arith) n,
+    )
 
 -- ---- all columns of a line
 
@@ -158,13 +155,14 @@ module _ (layout : Layout) (l : List ℕ) (said : lineSaid l layout ≡ says tt)
   unfolding columnSaid number
   column-absent name e = rw (said, e)
 
-  column-read : (e : Entry) → look layout (e .code) ≡ some (spanOf e) → ColumnRead layout l e
+  column-read : (e : Entry) → look layout (e .code) ≡ some (spanOf e) → length (columnText l (spanOf e)) ≡ widthOf e → ReadsColumn layout l e
   unfolding numberSaid columnRest number
-  column-read e h =
+  column-read e h n =
       let s = column-said (codeText (e .code)) (spanOf e) (ap (look layout) (packed-back (e .code)) ∙ h) in
       record {
         span = s;
         text = rw s;
+        wide = n;
         number = rw s (number-of (columnText l (spanOf e)) (wholeOf (columnText l (spanOf e))) refl);
       }
 
@@ -175,7 +173,7 @@ module _ (layout : Layout) (l : List ℕ) (said : lineSaid l layout ≡ says tt)
       (each-map (entriesOf layout) (λ e n. ne-eqb (e .code) (packedOf name) (λ i. n (ap codeText i ∙ name-back name w))) h))
 
 pub columns-read : (f : Family) (layout : Layout) (l : List ℕ) → 1 ≤ firstStart f → allowed (firstStart f) layout ≡ true → length (layout .entries) ≡ 13
-    → length l ≡ lineLength (firstStart f) layout → lineSaid l layout ≡ says tt → ColumnsRead f layout l
+    → length l ≡ lineLength (firstStart f) layout → lineSaid l layout ≡ says tt → ReadsColumns f layout l
 unfolding look number
 columns-read f layout l low good slots long said =
     let a = allowed-there (firstStart f) layout good slots in
@@ -183,7 +181,10 @@ columns-read f layout l low good slots long said =
     let es = entriesOf layout in
     let n : length l ≡ end-of es (firstStart f) = long ∙ ap (lineLength (firstStart f)) (a .1) ∙ line-end (firstStart f) es in
     record {
-      carried = each-map es (column-read layout l said) (looked (firstStart f) [] es (omega (arith, w .count, w .few)) (w .tiled));
+      carried = each-map es (λ e h. column-read layout l said e (h .0) (h .1))
+          (each-both es (λ e. look layout (e .code) ≡ some (spanOf e)) (λ e. length (columnText l (spanOf e)) ≡ widthOf e)
+          (looked (firstStart f) [] es (omega (arith, w .count, w .few)) (w .tiled))
+          (widths es (firstStart f) emptyLayout l (w .tiled) low n));
       absent = name-absent layout l said;
       tail = texts-tail es (firstStart f) emptyLayout l (w .tiled) low n;
     }

@@ -1,110 +1,171 @@
--- Demand 2, what is claimed: when a file is accepted, what each refusal means, what can be read from an accepted file, and that lines are read and written both
--- ways. Each claim is one line from the room that proves it; what its words mean is said in specs/. Assumes nothing.
+-- Demand 2, what is claimed. Each claim is a line from the room that proves it; its words stand in specs/ (Grammar, Faults, Readings, BothWays), the definitions that
+-- it is about in the rules. Assumes nothing.
+--
+-- How these definitions are the library's answers: `file::check` answers `verdict file (length table)` and leaves `tableAfter file table` (promise FileChecked); `file::bounds`
+-- answers `boundsOf` (LineGiven), `Cursor::step` answers `stepAt` (LineStepped), the readers in `read` answer `fixSaid`, `columnSaid` and so on (FixGiven ..); the writers in
+-- `write` keep `Written` (FixWritten ..), from which `BothWays` tells what they write. By the laws `only-..` of crate laws, nothing else would keep these promises.
 use Prim.Native.Nat.{ℕ, _≤_}
+use Prim.Native.Char.{code}
 use mathlib.Core.Bool.{true}
-use mathlib.Core.List.{List}
+use mathlib.Core.List.{List, [], _∷_, _++_}
 use mathlib.Core.Logic.{_↔_}
-use mathlib.Core.Path.{_≡_}
-use lib.ListN.{length}
+use mathlib.Core.Path.{_≡_, refl, sym, _∙_, ap}
+use lib.ListN.{length, getD}
 use Rattle.rules.specs.Refusals.{says, refuses}
-use Rattle.rules.specs.Split.{linesOf}
-use Rattle.rules.specs.Files.{verdict, goodLines}
+use Rattle.rules.specs.Files.{verdict}
+use Rattle.rules.specs.Listed.{widthFits, keepsRule}
 use Rattle.rules.specs.Layouts.{isSaid, firstStart, allowed}
-use Rattle.rules.specs.Reads.{fixSaid, noteSaid, headSaid, pointSaid, layoutSaid, headRest, pointRest}
+use Rattle.rules.specs.Reads.{fixSaid, noteSaid, headSaid, pointSaid, layoutSaid}
 use Rattle.rules.specs.Writes.{fixText, noteText, headText, pointText, layoutText, isFix, isNote, isHead, isPoint}
+use Rattle.rules.specs.Promises.{FixWritten, NoteWritten, LayoutWritten, HeadWritten, PointWritten}
+use Rattle.rules.specs.declared.Date.{Date}
 use Rattle.rules.specs.declared.Layout.{Layout}
 use Rattle.rules.specs.declared.Family.{Family}
+use Rattle.rules.specs.declared.Fix.{Fix}
+use Rattle.rules.specs.declared.Head.{Head}
+use Rattle.rules.specs.declared.Point.{Point}
 use Rattle.rules.specs.declared.Flight.{Flight}
-use Rattle.rules.proofs.Damaged.{fiveLines, verdict-of-five}
-use Rattle.laws.proofs.Splitting.{Whole, Steps, steps, total, lengths-total, textsOf}
-use Rattle.laws.proofs.Counted.{Numbered, line-by-number, accepted-whole}
-use Rattle.trips.proofs.Fixes.{fix-read-written, fix-written-read, fix-exactly}
-use Rattle.trips.proofs.Notes.{note-read-written, note-written-read, note-exactly}
-use Rattle.trips.proofs.Heads.{head-trip, head-written-read, head-exactly}
-use Rattle.trips.proofs.Points.{point-trip, point-written-read, point-exactly}
-use Rattle.demands.specs.Grammar.{linesIn, Meets, flightOf}
-use Rattle.demands.specs.Faults.{Refused}
+use Rattle.rules.specs.declared.Wrote.{Wrote}
+use Rattle.rules.proofs.Damaged.{fiveLines}
+use Rattle.trips.specs.Limits.{isDate, goodFix, goodNote, goodHead, goodPoint}
+use Rattle.trips.proofs.Fixes.{fix-trip, fix-good}
+use Rattle.trips.proofs.Notes.{note-trip, note-good}
+use Rattle.trips.proofs.Heads.{head-trip, head-good}
+use Rattle.trips.proofs.Points.{point-trip, point-good}
+use Rattle.demands.specs.Grammar.{Each, IsDay, Listing, Holds, IsLayoutLine, IsBLine, IsKLine, IsHeadLine, IsPointLine, linesIn, Meets, flightOf}
+use Rattle.demands.specs.Faults.{PassAfter, Refused}
+use Rattle.demands.specs.FieldTexts.{FieldsTold}
+use Rattle.demands.specs.Coming.{Meant}
 use Rattle.demands.specs.Readings.{Readable}
-use Rattle.demands.specs.BothWays.{BothWays}
-use Rattle.demands.proofs.LayoutLines.{layout-read-written, layout-written-read, layout-exactly}
-use Rattle.demands.proofs.Accepted.{accepted-as, accepted-exactly, one-reading}
-use Rattle.demands.proofs.Refusing.{refused-first}
-use Rattle.demands.proofs.Reading.{readable, lines-are}
+use Rattle.demands.specs.BothWays.{Slotted, ReadsAs, Ways, BothWays}
+use Rattle.demands.proofs.Accepted as acceptance
+use Rattle.demands.proofs.Refusing as refusing
+use Rattle.demands.proofs.FieldsThere as fields-there
+use Rattle.demands.proofs.Meaning.{meant}
+use Rattle.demands.proofs.Days.{day-exactly}
+use Rattle.demands.proofs.Rows.{width-exactly, rule-exactly}
+use Rattle.demands.proofs.Reading as reading
+use Rattle.demands.proofs.LayoutLines.{layout-exactly, layout-line-exactly}
+use Rattle.demands.proofs.Valued.{fix-reads, fix-read, note-reads, note-read, head-reads, head-read, point-reads, point-read}
+use Rattle.demands.proofs.Writers.{both-ways, trip-ways}
+use Rattle.demands.proofs.Worked as worked
 
--- ---- the verdict
+-- ---- the verdict on a file, with a table of `room` entries
 
 module _ (file : List ℕ) (room : ℕ) where
   -- a file is accepted exactly when it meets the grammar and its lines fit the table
-  pub accepted : (isSaid (verdict file room) ≡ true) ↔ ((m : Meets file) × (length (linesIn (m .parts)) ≤ room))
-  accepted = accepted-exactly file room
+  pub accepted-exactly : (isSaid (verdict file room) ≡ true) ↔ ((m : Meets file) × (length (linesIn (m .parts)) ≤ room))
+  accepted-exactly = acceptance.accepted-exactly file room
 
-  -- and then the date, the layouts and the counts of the answer are the grammar's
-  pub answered : (f : Flight) → (verdict file room ≡ says f) ↔ ((m : Meets file) × (length (linesIn (m .parts)) ≤ room) × (flightOf m ≡ f))
-  answered f = accepted-as file room f
+  -- and then the date, the layouts (`fixes` of the B lines, `notes` of the K lines) and the counts of the answer are the grammar's
+  pub accepted-as : (f : Flight) → (verdict file room ≡ says f) ↔ ((m : Meets file) × (length (linesIn (m .parts)) ≤ room) × (flightOf m ≡ f))
+  accepted-as f = acceptance.accepted-as file room f
 
   -- it is refused with a number, line and byte exactly when that refusal's meaning holds of it
-  pub refused : (n l b : ℕ) → (verdict file room ≡ refuses n l b) ↔ Refused file room n l b
-  refused n l b = refused-first file room n l b
+  pub refused-first : (number line byte : ℕ) → (verdict file room ≡ refuses number line byte) ↔ Refused file room number line byte
+  refused-first number line byte = refusing.refused-first file room number line byte
 
--- the grammar says one thing of a file, over the lines that it is cut into
-pub said-once : (file : List ℕ) (m n : Meets file) → (flightOf m ≡ flightOf n) × (textsOf (linesOf file) ≡ linesIn (m .parts))
-said-once file m n = (one-reading file m n, lines-are file m)
+-- ---- what the checks of a refusal read and test, apart from how
 
--- document 01's file of five lines meets it
+-- the kind and each field: it is read exactly where the text of a value within its limits stands
+pub fields-told : FieldsTold
+fields-told = fields-there.fields-told
+
+-- of lines that pass: a declaration that is still open, the entries of the I and the J line, the time before
+pub lines-meant : (ls : List (List ℕ)) → PassAfter [] ls → Meant ls
+lines-meant = meant
+
+-- a date; the width of a code's column (12), and its text (13)
+pub dates-meant : (d : Date) → (isDate d ≡ true) ↔ IsDay d
+dates-meant = day-exactly
+
+pub widths-meant : (x w : ℕ) → (widthFits x w ≡ true) ↔ Listing x (λ r. (r .least ≤ w) × (w ≤ r .most))
+widths-meant = width-exactly
+
+pub texts-meant : (x : ℕ) (t : List ℕ) → (keepsRule x t ≡ true) ↔ Listing x (λ r. Holds (r .sign) t)
+texts-meant = rule-exactly
+
+-- ---- the grammar by itself
+
+-- it says one thing of a file, over one cut of it into lines
+pub said-once : (file : List ℕ) (m n : Meets file) → flightOf m ≡ flightOf n
+said-once = acceptance.one-reading
+
+pub cut-once : (file : List ℕ) (m n : Meets file) → linesIn (m .parts) ≡ linesIn (n .parts)
+cut-once file m n = sym (reading.lines-are file m) ∙ reading.lines-are file n
+
+-- document 01's file of five lines meets it, put together by hand
 pub five-meet : Meets fiveLines
-five-meet = answered fiveLines 16 _ .0 verdict-of-five .0
+five-meet = worked.five-meet
 
--- ---- what can be read from an accepted file
+-- "So a B after G is refused": no file that meets it has a B line behind a G line
+pub no-b-after-g : {file : List ℕ} (m : Meets file) (before : List (List ℕ)) (g : List ℕ) (after : List (List ℕ)) → linesIn (m .parts) ≡ before ++ (g ∷ after)
+    → getD g 0 0 ≡ code "G" → Each (λ l. getD l 0 0 ≡ code "B" → ⊥) after
+no-b-after-g = worked.no-b-after-g
 
-module _ (file table : List ℕ) (f : Flight) (accepts : verdict file (length table) ≡ says f) where
-  -- entry n of the table leads to the nth line
-  pub by-number : (n : ℕ) → 1 ≤ n → n ≤ f .lines → Numbered file table n
-  unfolding goodLines
-  by-number n low high = line-by-number file table n low (rw accepts high)
+-- ---- what can be read from an accepted file, with the table that it was checked with: its lines by number and step by step, each B and K line column by column, and the
+-- declaration
 
-  -- stepping from place 0 gives exactly the lines in their order, and then none
-  pub stepping : Whole (linesOf file) × Steps file 0 (linesOf file)
-  stepping = (accepted-whole file (length table) f accepts, steps file)
+pub readable : (file table : List ℕ) (f : Flight) → verdict file (length table) ≡ says f → Readable file table f
+readable = reading.readable
 
-  -- line lengths plus 2 each total the file's length
-  pub lengths : total (linesOf file) ≡ length file
-  lengths = lengths-total file (accepted-whole file (length table) f accepts)
+-- ---- a reader says a value of a line exactly when the line is, by the grammar, a line of that value
 
-  -- each B and K line is read with no refusal, column by column, by the layouts of the answer; the declaration is a head and its points
-  pub reading : Readable file f
-  reading = readable file (length table) f accepts
+-- B lines and K lines, by a layout that is allowed
+module _ (i : Slotted) (l : List ℕ) where
+  pub fixes-exactly : allowed 36 (i .layout) ≡ true → (f : Fix) → (fixSaid l (i .layout) ≡ says f) ↔ IsBLine (i .layout) f l
+  fixes-exactly g f = (fix-read (i .layout) (g, i .slots) f l, fix-reads (i .layout) (g, i .slots) f l)
 
--- ---- lines read and written
+  pub notes-exactly : allowed 8 (i .layout) ≡ true → (t : ℕ) → (noteSaid l (i .layout) ≡ says t) ↔ IsKLine (i .layout) t l
+  notes-exactly g t = (note-read (i .layout) (g, i .slots) t l, note-reads (i .layout) (g, i .slots) t l)
 
-pub fixes-both-ways : (layout : Layout) → BothWays (λ l. fixSaid l layout) fixText 35 (λ f tail. isFix f tail layout)
-fixes-both-ways layout = record {
-  read-then-write = fix-read-written layout;
-  write-then-read = λ f tail. fix-written-read f tail layout;
-  written-exactly = λ f tail. fix-exactly f tail layout;
-}
+-- I lines and J lines
+pub layouts-exactly : (family : Family) (layout : Layout) (l : List ℕ) → (layoutSaid family l ≡ says layout) ↔ IsLayoutLine family layout l
+layouts-exactly = layout-line-exactly
 
-pub notes-both-ways : (layout : Layout) → BothWays (λ l. noteSaid l layout) noteText 7 (λ t tail. isNote t tail layout)
-notes-both-ways layout = record {
-  read-then-write = note-read-written layout;
-  write-then-read = λ t tail. note-written-read t tail layout;
-  written-exactly = λ t tail. note-exactly t tail layout;
-}
+-- C heads and C points
+pub heads-exactly : (h : Head) (l : List ℕ) → (headSaid l ≡ says h) ↔ IsHeadLine h l
+heads-exactly h l = (head-read h l, head-reads h l)
 
-pub heads-both-ways : BothWays headSaid headText 25 isHead
-unfolding headRest
-heads-both-ways = record { read-then-write = head-trip .there; write-then-read = head-written-read; written-exactly = head-exactly }
+pub points-exactly : (p : Point) (l : List ℕ) → (pointSaid l ≡ says p) ↔ ((w : IsPointLine l) × (w .point ≡ p))
+points-exactly p l = (point-read p l, λ w. point-reads l (w .0) ∙ ap says (w .1))
 
-pub points-both-ways : BothWays pointSaid pointText 18 isPoint
-unfolding pointRest
-points-both-ways = record { read-then-write = point-trip .there; write-then-read = point-written-read; written-exactly = point-exactly }
+-- ---- lines read and written: of each kind `read-then-write`, `write-then-read` and `bad-value-exactly` (specs/BothWays); 35, 7, 25 and 18 bytes stand before the columns or
+-- the text
 
--- an I or a J line is the text of the layout that it reads as
-pub layouts-read : (f : Family) (layout : Layout) (l : List ℕ) → layoutSaid f l ≡ says layout → l ≡ layoutText f layout
-layouts-read = layout-read-written
+pub fixes-both-ways : (layout : Layout)
+    → BothWays (ReadsAs (λ l. fixSaid l layout) 35) (λ v. fixText (v .0) (v .1)) (λ v. isFix (v .0) (v .1) layout) (λ v. goodFix (v .0) (v .1) layout)
+fixes-both-ways layout = trip-ways (λ f tail. isFix f tail layout) (fix-trip layout) (λ f tail. fix-good f tail layout)
 
--- a layout's text reads as it, and it is allowed, with its 13 slots, exactly when some line reads as it
-pub layouts-written : (f : Family) (layout : Layout) → length (layout .entries) ≡ 13 → allowed (firstStart f) layout ≡ true → layoutSaid f (layoutText f layout) ≡ says layout
-layouts-written f layout n g = layout-written-read f layout g n
+pub notes-both-ways : (layout : Layout)
+    → BothWays (ReadsAs (λ l. noteSaid l layout) 7) (λ v. noteText (v .0) (v .1)) (λ v. isNote (v .0) (v .1) layout) (λ v. goodNote (v .0) (v .1) layout)
+notes-both-ways layout = trip-ways (λ t tail. isNote t tail layout) (note-trip layout) (λ t tail. note-good t tail layout)
 
-pub layouts-exactly : (f : Family) (layout : Layout) → ((allowed (firstStart f) layout ≡ true) × (length (layout .entries) ≡ 13)) ↔ ((l : List ℕ) × (layoutSaid f l ≡ says layout))
-layouts-exactly = layout-exactly
+pub heads-both-ways : BothWays (ReadsAs headSaid 25) (λ v. headText (v .0) (v .1)) (λ v. isHead (v .0) (v .1)) (λ v. goodHead (v .0) (v .1))
+heads-both-ways = trip-ways isHead head-trip head-good
+
+pub points-both-ways : BothWays (ReadsAs pointSaid 18) (λ v. pointText (v .0) (v .1)) (λ v. isPoint (v .0) (v .1)) (λ v. goodPoint (v .0) (v .1))
+points-both-ways = trip-ways isPoint point-trip point-good
+
+-- I lines and J lines: of a layout nothing stands behind
+pub layouts-both-ways : (family : Family)
+    → BothWays (λ l (v : Slotted). layoutSaid family l ≡ says (v .layout)) (λ v. layoutText family (v .layout)) (λ v. allowed (firstStart family) (v .layout)) (λ v. allowed (firstStart family) (v .layout))
+layouts-both-ways family = both-ways _ _ _ _ (λ l v. layout-exactly family (v .layout) l (v .slots)) (λ v. refl)
+
+-- so of every answer r and output afterwards that the writers' promises allow
+module _ (place : ℕ) (out : List ℕ) (r : Wrote) (after : List ℕ) where
+  pub fix-writer : (f : Fix) (tail : List ℕ) (layout : Layout) → FixWritten f tail layout place out r after → Ways (ReadsAs (λ l. fixSaid l layout) 35) (f, tail) place out r after
+  fix-writer f tail layout = fixes-both-ways layout .writes (f, tail) place out r after
+
+  pub note-writer : (t : ℕ) (tail : List ℕ) (layout : Layout) → NoteWritten t tail layout place out r after → Ways (ReadsAs (λ l. noteSaid l layout) 7) (t, tail) place out r after
+  note-writer t tail layout = notes-both-ways layout .writes (t, tail) place out r after
+
+  pub head-writer : (h : Head) (rest : List ℕ) → HeadWritten h rest place out r after → Ways (ReadsAs headSaid 25) (h, rest) place out r after
+  head-writer h rest = heads-both-ways .writes (h, rest) place out r after
+
+  pub point-writer : (p : Point) (rest : List ℕ) → PointWritten p rest place out r after → Ways (ReadsAs pointSaid 18) (p, rest) place out r after
+  point-writer p rest = points-both-ways .writes (p, rest) place out r after
+
+  pub layout-writer : (family : Family) (i : Slotted) → LayoutWritten family (i .layout) place out r after
+      → Ways (λ l (v : Slotted). layoutSaid family l ≡ says (v .layout)) i place out r after
+  layout-writer family i = layouts-both-ways family .writes i place out r after

@@ -21,7 +21,8 @@ use Rattle.rules.specs.declared.Layout.{Layout}
 use Rattle.trips.proofs.Laws.{none-some, refuses-says, false-true, given-inv, need-inv, then-inv, and-inv, past, byte-here}
 use Rattle.trips.proofs.Texts.{digit-range}
 use Rattle.trips.proofs.Digits.{digits-length, number-there, number-here}
-use Rattle.demands.specs.Grammar.{Each, IsEntry, Tiles, laid}
+use Rattle.demands.specs.Grammar.{Each, widthOf, IsEntry, Tiles, laid}
+use Rattle.demands.proofs.Rows.{width-exactly}
 use Rattle.demands.proofs.Laws.{said-some, each-map, each-join, each-cut, each-both, nothing-found, none-found}
 
 -- ---- three code characters
@@ -297,7 +298,7 @@ tiles-there (e ∷ es) start pre n w =
     let r = tiles-there es (e .last + 1) (pre ++ (e ∷ [])) (omega (arith, length-append pre (e ∷ []))) (subst (Tiled es (e .last + 1)) (with-laid pre e (omega arith)) (w .2)) in
     let c = each-map es (λ x. each-cut (λ a. a .code ≡ x .code → ⊥) pre (e ∷ [])) (r .1) in (
       (
-        record { starts = f .starts; ends = f .ends; spelt = leb-true _ _ (s .0); word = s .1; wide = f .wide },
+        record { starts = f .starts; ends = f .ends; spelt = leb-true _ _ (s .0); word = s .1; wide = width-exactly (e .code) (widthOf e) .0 (f .wide) },
         each-map es (λ x h i. h .1 .0 (sym i)) c,
         r .0,
       ),
@@ -314,7 +315,7 @@ tiles-here (e ∷ es) start pre n w c =
     let r = tiles-here es (e .last + 1) (pre ++ (e ∷ [])) (omega (arith, length-append pre (e ∷ []))) (w .2)
     (each-map es (λ x h. each-join (λ a. a .code ≡ x .code → ⊥) pre (e ∷ []) (h .0) ((λ i. h .1 (sym i)), tt)) d) in (
       rw (le-leb _ _ (f .spelt), f .word),
-      record { starts = f .starts; ends = f .ends; once = none-carries pre (e .code) (c .0); wide = f .wide },
+      record { starts = f .starts; ends = f .ends; once = none-carries pre (e .code) (c .0); wide = width-exactly (e .code) (widthOf e) .1 (f .wide) },
       subst (Tiled es (e .last + 1)) (sym (with-laid pre e (omega arith))) r,
     )
 

@@ -26,6 +26,11 @@ pub given-none : {A B : Type 0} (o : Option A) (a x : B) (f : A → B) → ((v :
 given-none (some v) a x f n e = absurd (n v e)
 given-none none a x f n e = (refl, e)
 
+-- nothing was found
+pub nothing-given : {A : Type 0} (o : Option A) → given o true (λ i. false) ≡ true → o ≡ none
+nothing-given none e = refl
+nothing-given (some i) e = absurd (false-true e)
+
 -- an answer that is a value
 pub said-some : {A : Type 0} (s : Said A) → isSaid s ≡ true → (v : A) × (s ≡ says v)
 said-some (says v) e = (v, refl)
@@ -68,6 +73,11 @@ pub are-valid : (l : List ℕ) → areValid l ≡ true → Each (λ b. isValid f
 unfolding areValid
 are-valid [] e = tt
 are-valid (b ∷ l) e = let h = and-inv (isValid false b) (areValid l) e in (h .0, are-valid l (h .1))
+
+pub valid-are : (l : List ℕ) → Each (λ b. isValid false b ≡ true) l → areValid l ≡ true
+unfolding areValid
+valid-are [] h = refl
+valid-are (b ∷ l) h = rw (h .0) (valid-are l (h .1))
 
 module _ (least most : ℕ) (inH : Bool) (l : List ℕ) where
   pub shape-there : (u : Unit {0}) → shaped least most inH l ≡ says u → Shaped least most inH l

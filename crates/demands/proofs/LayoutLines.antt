@@ -4,18 +4,19 @@ use Prim.Native.Nat.{ℕ, zero, suc, _+_, _*_, _/_, _%_, _≤_}
 use Prim.Native.Char.{code}
 use mathlib.Core.Bool.{true, false, _&&_}
 use mathlib.Core.List.{List, [], _∷_, _++_, append-nil}
-use mathlib.Core.Path.{_≡_, refl, sym, _∙_, ap}
+use mathlib.Core.Path.{_≡_, refl, sym, _∙_, ap, subst}
 use mathlib.Core.Logic.{_↔_}
 use native.Mathlib.Omega.{arith}
 use borrow.Author.Tests.{le-leb, eqb-true, eq-eqb, ne-eqb}
 use lib.Dec.{eqb, leb}
 use lib.ListN.{length, getD, replicate, length-append}
 use lib.Seq.{drop-length}
+use Rattle.rules.specs.Choice.{leads}
 use Rattle.rules.specs.Refusals.{says}
 use Rattle.rules.specs.Chars.{isValid, isCode}
 use Rattle.rules.specs.Numbers.{numberAt, digitsOf}
 use Rattle.rules.specs.Listed.{codeText, isCodeWord}
-use Rattle.rules.specs.Layouts.{firstStart, emptyLayout, entriesOf, layoutFields, isSpelt, allowed}
+use Rattle.rules.specs.Layouts.{firstStart, emptyLayout, entriesOf, layoutFields, isSpelt, isUnused, allPlaced, allowed}
 use Rattle.rules.specs.Lines.{shaped, layoutLine}
 use Rattle.rules.specs.Reads.{layoutLetter, layoutSaid}
 use Rattle.rules.specs.Writes.{entryText, entryTexts, layoutText}
@@ -26,8 +27,9 @@ use Rattle.rules.specs.declared.Family.the-variants as family
 use Rattle.trips.proofs.Laws.{refuses-says, given-inv, need-inv, then-inv, and-inv, past, byte-there}
 use Rattle.trips.proofs.Texts.{areValid, both-valid, shaped-here}
 use Rattle.trips.proofs.Digits.{digits-length, digits-clean, number-there, number-here}
-use Rattle.demands.specs.Grammar.{laid, IsLayoutLine}
+use Rattle.demands.specs.Grammar.{laid, IsLayoutLine, AtMostOne, absent, given}
 use Rattle.demands.proofs.Laws.{shape-there}
+use Rattle.demands.proofs.Valued.{IsTold}
 use Rattle.demands.proofs.Entries.{code-range, entry-length, Tiled, entries-there, entries-here, all-laid, entries-laid, laid-allowed, allowed-there, tiled-tiles, tiles-tiled}
 
 letter-is : (f : Family) → (1 ≤ layoutLetter f) × (isValid false (layoutLetter f) ≡ true)
@@ -141,6 +143,13 @@ layout-allowed f layout l w =
       ap (λ x. length (x .entries)) (w .slots) ∙ slots-laid (w .entries) n,
     )
 
+-- so is the empty one, where there is no such line
+pub told : (f : Family) {layout : Layout} {ls : List (List ℕ)} → AtMostOne f layout ls → IsTold (firstStart f) layout
+unfolding allowed allPlaced leads isUnused
+told family.B absent = (refl, refl)
+told family.K absent = (refl, refl)
+told f (given {layout = i} {l = l} w) = layout-allowed f i l w
+
 -- ---- the theorems
 
 module _ (f : Family) (layout : Layout) where
@@ -170,22 +179,21 @@ module _ (f : Family) (layout : Layout) where
         slots = a .1;
       }
 
-  -- read, then written: a line that reads as a layout is that layout's text
-  pub layout-read-written : (l : List ℕ) → layoutSaid f l ≡ says layout → l ≡ layoutText f layout
+  reads-text : (l : List ℕ) → layoutSaid f l ≡ says layout → l ≡ layoutText f layout
   unfolding layoutText
-  layout-read-written l e =
+  reads-text l e =
       let w = reads-line l e in
       w .text
       ∙ ap (λ x. layoutLetter f ∷ (digitsOf 2 (length (w .entries)) ++ entryTexts x)) (sym (entries-laid (w .entries)))
       ∙ ap (λ x. layoutLetter f ∷ (digitsOf 2 (x .count) ++ entryTexts (entriesOf x))) (sym (w .slots))
 
-  -- written, then read
-  pub layout-written-read : allowed (firstStart f) layout ≡ true → length (layout .entries) ≡ 13 → layoutSaid f (layoutText f layout) ≡ says layout
-  layout-written-read g n = line-reads (layoutText f layout) (own-line g n)
+  -- a line reads as the layout exactly when it is an I or a J line of it
+  pub layout-line-exactly : (l : List ℕ) → (layoutSaid f l ≡ says layout) ↔ IsLayoutLine f layout l
+  layout-line-exactly l = (reads-line l, line-reads l)
 
-  -- allowed, of 13 slots, exactly when some line reads as it
-  pub layout-exactly : ((allowed (firstStart f) layout ≡ true) × (length (layout .entries) ≡ 13)) ↔ ((l : List ℕ) × (layoutSaid f l ≡ says layout))
-  layout-exactly = (
-    λ g. (layoutText f layout, layout-written-read (g .0) (g .1)),
-    λ t. layout-allowed f layout (t .0) (reads-line (t .0) (t .1)),
+  -- of 13 slots: a line reads as the layout exactly when it is the layout's text and the layout is allowed
+  pub layout-exactly : (l : List ℕ) → length (layout .entries) ≡ 13 → (layoutSaid f l ≡ says layout) ↔ ((l ≡ layoutText f layout) × (allowed (firstStart f) layout ≡ true))
+  layout-exactly l n = (
+    λ e. (reads-text l e, layout-allowed f layout l (reads-line l e) .0),
+    λ h. line-reads l (subst (IsLayoutLine f layout) (sym (h .0)) (own-line (h .1) n)),
   )

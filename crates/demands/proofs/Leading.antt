@@ -27,7 +27,7 @@ use Rattle.trips.proofs.Laws.{none-some, refuses-says, false-true, given-inv, n
 use Rattle.demands.specs.Grammar.{Follows, IsALine, IsDateLine, IsHLine, IsLayoutLine, IsHeadLine, IsPointLine, IsELine, IsFLine, IsBLine, IsKLine, IsLLine, IsGLine, Untimed, differential, remark, other}
 use Rattle.demands.specs.FieldTexts.{Letter}
 use Rattle.demands.proofs.Carried.{a-there, a-said, date-there, date-said, h-there, h-said, d-there, d-said, e-there, e-said, f-there, f-said, l-there, l-said, g-there, g-said, other-there, other-said}
-use Rattle.demands.proofs.Valued.{b-there, b-said, k-there, k-said, head-there, head-said, point-there, point-said}
+use Rattle.demands.proofs.Valued.{IsTold, b-there, b-said, k-there, k-said, head-there, head-said, point-there, point-said}
 use Rattle.demands.proofs.LayoutLines.{layout-there, layout-said, layout-allowed}
 
 -- ---- what is claimed
@@ -40,8 +40,8 @@ pub data Part : Type 0 where
 pub data InBody (st : State) (l : List ℕ) : State → Type 0 where
   head : (h : Head) → st .points ≡ 0 → st .declared ≡ false → st .flight .bs ≡ 0 → IsHeadLine h l → InBody st l (begun h (moved 5 st))
   point : 1 ≤ st .points → IsPointLine l → InBody st l (pointed (moved 5 st))
-  fix : (f : Fix) → st .points ≡ 0 → Follows (st .clock) (f .time) → IsBLine (st .flight .fixes) f l → InBody st l (clocked (f .time) (counted 1 0 (moved 5 st)))
-  note : (t : ℕ) → st .points ≡ 0 → Follows (st .clock) t → IsKLine (st .flight .notes) t l → InBody st l (clocked t (counted 0 1 (moved 5 st)))
+  fix : (f : Fix) → st .points ≡ 0 → Follows (st .clock) (f .time) → IsTold 36 (st .flight .fixes) × IsBLine (st .flight .fixes) f l → InBody st l (clocked (f .time) (counted 1 0 (moved 5 st)))
+  note : (t : ℕ) → st .points ≡ 0 → Follows (st .clock) t → IsTold 8 (st .flight .notes) × IsKLine (st .flight .notes) t l → InBody st l (clocked t (counted 0 1 (moved 5 st)))
   event : (t : ℕ) → st .points ≡ 0 → Follows (st .clock) t → IsELine t l ⊎ IsFLine t l → InBody st l (clocked t (moved 5 st))
   quiet : st .points ≡ 0 → Untimed l → InBody st l (moved 5 st)
 
@@ -58,11 +58,11 @@ pub data Leads (st : State) (l : List ℕ) : Part → State → Type 0 where
 
 -- both layouts are ones that a line can tell
 abbrev pub Sound : State → Type 0
-Sound st = (allowed 36 (st .flight .fixes) ≡ true) × (allowed 8 (st .flight .notes) ≡ true)
+Sound st = IsTold 36 (st .flight .fixes) × IsTold 8 (st .flight .notes)
 
 pub sound-start : Sound start
 unfolding allowed allPlaced leads isUnused
-sound-start = (refl, refl)
+sound-start = ((refl, refl), (refl, refl))
 
 -- ---- kinds and letters
 
@@ -263,7 +263,7 @@ module _ (l : List ℕ) (st m : State) where
   by-kind kind.B stage g k f o e = to-body stage (λ x. ruled kind.B l x ≡ says m) o e λ e.
       let r = then-inv (bLine (st .flight .fixes) l) m _ e in
       let t = timed-there (r .0 .time) (counted 1 0 (moved 5 st)) m (r .2) in
-      rw (← t .1) (fix (r .0) (plain-fits st f) (t .0) (b-there (st .flight .fixes) (r .0) l (g .0) k (r .1)))
+      rw (← t .1) (fix (r .0) (plain-fits st f) (t .0) (g .0, b-there (st .flight .fixes) (r .0) l (g .0) k (r .1)))
   by-kind kind.C stage g k f o e = to-body stage (λ x. ruled kind.C l x ≡ says m) o e λ e. c-led k (c-fits st f) e
   by-kind kind.D stage g k f o e = to-body stage (λ x. ruled kind.D l x ≡ says m) o e λ e.
       let r = says-inv (dLine l) (λ u. moved 5 st) m e in
@@ -292,7 +292,7 @@ module _ (l : List ℕ) (st m : State) where
   by-kind kind.K stage g k f o e = to-body stage (λ x. ruled kind.K l x ≡ says m) o e λ e.
       let r = then-inv (kLine (st .flight .notes) l) m _ e in
       let t = timed-there (r .0) (counted 0 1 (moved 5 st)) m (r .2) in
-      rw (← t .1) (note (r .0) (plain-fits st f) (t .0) (k-there (st .flight .notes) (r .0) l (g .1) k (r .1)))
+      rw (← t .1) (note (r .0) (plain-fits st f) (t .0) (g .1, k-there (st .flight .notes) (r .0) l (g .1) k (r .1)))
   by-kind kind.L stage g k f o e = l-led stage (leb (st .stage) 5) k (plain-fits st f) o e
   by-kind kind.Other stage g k f o e = to-body stage (λ x. ruled kind.Other l x ≡ says m) o e λ e.
       let r = says-inv (otherLine l) (λ u. moved 5 st) m e in
@@ -383,8 +383,8 @@ pub stays-sound : (l : List ℕ) (st : State) {p : Part} {m : State} → Leads s
 stays-sound l st (first z p w) g = g
 stays-sound l st (second d a b p n w) g = g
 stays-sound l st (further a b p n w) g = g
-stays-sound l st (fixing i a p w) g = (layout-allowed family.B i l w .0, g .1)
-stays-sound l st (noting j a b p w) g = (g .0, layout-allowed family.K j l w .0)
+stays-sound l st (fixing i a p w) g = (layout-allowed family.B i l w, g .1)
+stays-sound l st (noting j a b p w) g = (g .0, layout-allowed family.K j l w)
 stays-sound l st (flying a b w) g = body-sound l st w g
 stays-sound l st (sealing a b p w) g = g
 stays-sound l st (remarking a b p w) g = g

@@ -1,7 +1,10 @@
 pub mod Laws
+pub mod Days
 pub mod Carried
-pub mod Valued
+pub mod Rows
 pub mod Entries
+pub mod Tails
+pub mod Valued
 pub mod LayoutLines
 pub mod Leading
 pub mod Passing
@@ -15,4 +18,6 @@ pub mod Meaning
 pub mod Refusing
 pub mod Columns
 pub mod Reading
+pub mod Writers
+pub mod Worked
 pub mod Demands

@@ -1,36 +1,39 @@
--- Of an accepted file each B line and each K line is read with no refusal by the layouts of the answer, column by column, and its declaration is a head with its
--- points. Assumes nothing.
-use Prim.Native.Nat.{ℕ}
+-- What can be read from an accepted file: its lines by number and step by step; each B line and each K line, by the layouts of the answer, as the value whose line it
+-- is, column by column; and its declaration, a head with its points. Assumes nothing.
+use Prim.Native.Nat.{ℕ, zero, suc, _+_, _-_, _<_}
 use Prim.Native.Char.{code}
 use mathlib.Core.Bool.{false}
 use mathlib.Core.List.{List, [], _∷_, _++_, append-assoc, append-nil}
 use mathlib.Core.Path.{_≡_, refl, sym, _∙_, ap, subst}
+use native.Mathlib.Nat.{zero-add}
 use native.Mathlib.Omega.{arith}
 use borrow.Author.Tests.{eq-eqb, ne-eqb}
 use lib.Dec.{eqb}
-use lib.ListN.{length, getD}
+use lib.ListN.{length, getD, take}
 use Rattle.rules.specs.Refusals.{says}
 use Rattle.rules.specs.Layouts.{lineLength}
 use Rattle.rules.specs.Lines.{shapedBy}
-use Rattle.rules.specs.Split.{end, linesOf}
+use Rattle.rules.specs.Split.{end, linesOf, offsets}
 use Rattle.rules.specs.Reads.{lineSaid}
-use Rattle.rules.specs.Files.{verdict}
+use Rattle.rules.specs.Files.{verdict, goodLines}
 use Rattle.rules.specs.declared.Date.{Date}
 use Rattle.rules.specs.declared.Layout.{Layout}
 use Rattle.rules.specs.declared.Family.{Family}
 use Rattle.rules.specs.declared.Family.the-variants as family
 use Rattle.rules.specs.declared.Fix.{Fix}
 use Rattle.rules.specs.declared.Flight.{Flight}
-use Rattle.laws.proofs.Splitting.{textsOf}
+use Rattle.laws.proofs.Splitting.{textsOf, steps, lengths-total}
+use Rattle.laws.proofs.Splitting as splitting
+use Rattle.laws.proofs.Counted.{accepted-whole, goodIn, entry-put, entry-kept, line-by-number}
 use Rattle.trips.proofs.Fixes.{fix-there}
 use Rattle.trips.proofs.Notes.{note-there}
-use Rattle.demands.specs.Grammar.{Each, IsLayoutLine, IsBLine, IsKLine, AtMostOne, absent, given, Timed, Untimed, differential, remark, other, Items, done, timed, untimed, Body, undeclared, Parts, linesIn, Keeps, Meets, written, flightOf}
+use Rattle.demands.specs.Grammar.{Each, IsLayoutLine, IsBLine, IsKLine, AtMostOne, absent, given, Timed, Untimed, differential, remark, other, Items, done, timed, untimed, Body, undeclared, Parts, linesIn, Keeps, Meets, written}
 use Rattle.demands.specs.Grammar as grammar
-use Rattle.demands.specs.Readings.{FixRead, NoteRead, LineReads, NoC, Declaration, nowhere, declared, Readable}
+use Rattle.demands.specs.Readings.{ReadsFix, ReadsNote, ReadsLine, NoC, ReadsDeclaration, nowhere, declared, total, Steps, Readable}
 use Rattle.demands.proofs.Laws.{each-map, each-join, shape-there}
 use Rattle.demands.proofs.Carried.{e-said, f-said}
-use Rattle.demands.proofs.Valued.{fix-reads, note-reads, head-reads, point-reads, b-said, k-said, head-said, point-said}
-use Rattle.demands.proofs.LayoutLines.{layout-said, layout-allowed}
+use Rattle.demands.proofs.Valued.{IsTold, fix-reads, note-reads, head-reads, point-reads, b-letter, k-letter, head-said, point-said}
+use Rattle.demands.proofs.LayoutLines.{layout-said, told}
 use Rattle.demands.proofs.Passing.{before, lines-written}
 use Rattle.demands.proofs.Accepted.{accepted-as}
 use Rattle.demands.proofs.Columns.{columns-read}
@@ -41,44 +44,61 @@ texts-before : (ls : List (List ℕ)) → textsOf (before ls end) ≡ ls
 texts-before [] = refl
 texts-before (l ∷ ls) = ap (λ x. l ∷ x) (texts-before ls)
 
-pub lines-are : (file : List ℕ) (m : Meets file) → textsOf (linesOf file) ≡ linesIn (m .parts)
+lines-cut : (file : List ℕ) (m : Meets file) → linesOf file ≡ before (linesIn (m .parts)) end
 unfolding linesOf
-lines-are file m =
+lines-cut file m =
     let ls = linesIn (m .parts) in
-    ap textsOf (ap linesOf (m .bytes ∙ sym (append-nil (written ls))) ∙ lines-written ls [] (m .texts)) ∙ texts-before ls
+    ap linesOf (m .bytes ∙ sym (append-nil (written ls))) ∙ lines-written ls [] (m .texts)
 
--- ---- a layout that an accepted file tells
+pub lines-are : (file : List ℕ) (m : Meets file) → textsOf (linesOf file) ≡ linesIn (m .parts)
+lines-are file m = ap textsOf (lines-cut file m) ∙ texts-before (linesIn (m .parts))
 
-told : (f : Family) {layout : Layout} {ls : List (List ℕ)} → AtMostOne f layout ls → length (layout .entries) ≡ 13
-told f absent = refl
-told f (given {layout = i} {l = l} w) = layout-allowed f i l w .1
+-- ---- their offsets, and the steps over them
+
+offset-is : (ls : List (List ℕ)) (at n : ℕ) → n < length ls → getD (offsets at (before ls end)) n 0 ≡ at + total (take n ls)
+unfolding offsets total
+offset-is [] at n h = absurd (omega arith)
+offset-is (l ∷ ls) at zero h = omega arith
+offset-is (l ∷ ls) at (suc n) h = offset-is ls (at + length l + 2) n (omega arith) ∙ omega arith
+
+steps-over : (file : List ℕ) (ls : List (List ℕ)) (at : ℕ) → splitting.Steps file at (before ls end) → Steps file at ls
+unfolding Steps
+steps-over file [] at h = h
+steps-over file (l ∷ ls) at h = (h .0, h .1, steps-over file ls (at + length l + 2) (h .2))
+
+total-is : (ls : List (List ℕ)) → splitting.total (before ls end) ≡ total ls
+unfolding total
+total-is [] = refl
+total-is (l ∷ ls) = ap (λ n. length l + 2 + n) (total-is ls)
 
 -- ---- B and K lines
 
-module _ (layout : Layout) (slots : length (layout .entries) ≡ 13) (l : List ℕ) where
-  pub reads-fix : (f : Fix) → IsBLine layout f l → FixRead layout l
+module _ (layout : Layout) (l : List ℕ) where
+  pub reads-fix : IsTold 36 layout → (f : Fix) → IsBLine layout f l → ReadsFix layout l
   unfolding shapedBy lineSaid
-  reads-fix f w =
-      let e = fix-reads layout f l w in
+  reads-fix i f w =
+      let e = fix-reads layout i f l w in
       let t = fix-there layout l f e in
       let s = shape-there (lineLength 36 layout) (lineLength 36 layout) false l tt (t .shape) in
       record {
         fix = f;
+        is = w;
         reads = e;
-        columns = columns-read family.B layout l (omega arith) (t .layout-allowed) slots (omega (arith, s .long, s .short)) (rw (eq-eqb _ _ (t .kind), e));
+        columns = columns-read family.B layout l (omega arith) (i .0) (i .1) (omega (arith, s .long, s .short)) (rw (eq-eqb _ _ (t .kind), e));
       }
 
-  pub reads-note : (t : ℕ) → IsKLine layout t l → NoteRead layout l
+  pub reads-note : IsTold 8 layout → (t : ℕ) → IsKLine layout t l → ReadsNote layout l
   unfolding shapedBy lineSaid
-  reads-note n w =
-      let e = note-reads layout n l w in
+  reads-note i n w =
+      let e = note-reads layout i n l w in
       let t = note-there layout l n e in
       let s = shape-there (lineLength 8 layout) (lineLength 8 layout) false l tt (t .shape) in
       let k : eqb (getD l 0 0) (code "B") ≡ false = ne-eqb (getD l 0 0) (code "B") (λ z. omega (arith, t .kind)) in
       record {
         time = n;
+        is = w;
         reads = e;
-        columns = columns-read family.K layout l (omega arith) (t .layout-allowed) slots (omega (arith, s .long, s .short)) (rw (k, e));
+        columns = columns-read family.K layout l (omega arith) (i .0) (i .1) (omega (arith, s .long, s .short)) (rw (k, e));
       }
 
 -- ---- lines that are none of these
@@ -105,23 +125,23 @@ one-aside f (given {layout = i} {l = l} w) = (layout-aside f i l w, tt)
 
 -- ---- the lines of a body
 
-aside-reads : (fixes notes : Layout) (l : List ℕ) → Aside l → LineReads fixes notes l
+aside-reads : (fixes notes : Layout) (l : List ℕ) → Aside l → ReadsLine fixes notes l
 aside-reads fixes notes l h = record { b = λ z. absurd (h .0 z); k = λ z. absurd (h .1 z) }
 
-module _ (fixes notes : Layout) (fix-slots : length (fixes .entries) ≡ 13) (note-slots : length (notes .entries) ≡ 13) where
+module _ (fixes notes : Layout) (fix-told : IsTold 36 fixes) (note-told : IsTold 8 notes) where
   -- each line is read as it may be, and is no C line
   abbrev Item : List ℕ → Type 0
-  Item l = LineReads fixes notes l × NoC l
+  Item l = ReadsLine fixes notes l × NoC l
 
   timed-item : {t : ℕ} (l : List ℕ) → Timed fixes notes t l → Item l
   timed-item l (grammar.fix f i w) =
-      let k = b-said fixes f l w .0 in
-      (record { b = λ z. reads-fix fixes fix-slots l f w; k = λ z. absurd (omega arith) }, λ z. omega arith)
+      let k = b-letter fixes f l w in
+      (record { b = λ z. reads-fix fixes l fix-told f w; k = λ z. absurd (omega arith) }, λ z. omega arith)
   timed-item {t} l (grammar.event w) = let h = aside 69 l (e-said l t w .0) (omega arith) (omega arith) (omega arith) in (aside-reads fixes notes l h, h .2)
   timed-item {t} l (grammar.satellites w) = let h = aside 70 l (f-said l t w .0) (omega arith) (omega arith) (omega arith) in (aside-reads fixes notes l h, h .2)
   timed-item {t} l (grammar.note w) =
-      let k = k-said notes t l w .0 in
-      (record { b = λ z. absurd (omega arith); k = λ z. reads-note notes note-slots l t w }, λ z. omega arith)
+      let k = k-letter notes t l w in
+      (record { b = λ z. absurd (omega arith); k = λ z. reads-note notes l note-told t w }, λ z. omega arith)
 
   items-read : {ls : List (List ℕ)} {ts : List ℕ} → Items fixes notes ls ts → Each Item ls
   items-read done = tt
@@ -129,29 +149,30 @@ module _ (fixes notes : Layout) (fix-slots : length (fixes .entries) ≡ 13) (no
   items-read (untimed {l = l} w r) = let h = untimed-aside w in ((aside-reads fixes notes l h, h .2), items-read r)
 
   -- C lines are neither
-  c-reads : (l : List ℕ) → getD l 0 0 ≡ code "C" → LineReads fixes notes l
+  c-reads : (l : List ℕ) → getD l 0 0 ≡ code "C" → ReadsLine fixes notes l
   c-reads l e = record { b = λ z. absurd (omega arith); k = λ z. absurd (omega arith) }
 
-  lines-of : (ls : List (List ℕ)) → Each Item ls → Each (LineReads fixes notes) ls
+  lines-of : (ls : List (List ℕ)) → Each Item ls → Each (ReadsLine fixes notes) ls
   lines-of ls h = each-map ls (λ l x. x .0) h
 
-  body-reads : {ls : List (List ℕ)} {ts : List ℕ} → Body fixes notes ls ts → Each (LineReads fixes notes) ls
+  body-reads : {ls : List (List ℕ)} {ts : List ℕ} → Body fixes notes ls ts → Each (ReadsLine fixes notes) ls
   body-reads (undeclared {ls = ls} i) = lines-of ls (items-read i)
   body-reads (grammar.declared pre hd points after h i no-b w ps c j) =
-      each-join (LineReads fixes notes) pre (hd ∷ (points ++ after)) (lines-of pre (items-read i)) (
+      each-join (ReadsLine fixes notes) pre (hd ∷ (points ++ after)) (lines-of pre (items-read i)) (
         c-reads hd (head-said h hd w .0),
-        each-join (LineReads fixes notes) points after (each-map points (λ l v. c-reads l (point-said l v .0)) ps) (lines-of after (items-read j)),
+        each-join (ReadsLine fixes notes) points after (each-map points (λ l v. c-reads l (point-said l v .0)) ps) (lines-of after (items-read j)),
       )
 
   -- the declaration of a body, between lines that are no C lines
-  body-declares : {ls : List (List ℕ)} {ts : List ℕ} (a z : List (List ℕ)) → Each NoC a → Each NoC z → Body fixes notes ls ts → Declaration (a ++ (ls ++ z))
+  body-declares : {ls : List (List ℕ)} {ts : List ℕ} (a z : List (List ℕ)) → Each NoC a → Each NoC z → Body fixes notes ls ts → ReadsDeclaration (a ++ (ls ++ z))
   body-declares a z p q (undeclared {ls = ls} i) = nowhere (each-join NoC a (ls ++ z) p (each-join NoC ls z (each-map ls (λ l x. x .1) (items-read i)) q))
   body-declares a z p q (grammar.declared pre hd points after h i no-b w ps c j) =
       declared (a ++ pre) hd points (after ++ z) h
       (simp append-assoc)
       (each-join NoC a pre p (each-map pre (λ l x. x .1) (items-read i)))
+      w
       (head-reads h hd w)
-      (each-map points (λ l v. (v .point, point-reads l v)) ps)
+      (each-map points (λ l v. record { is = v; reads = point-reads l v }) ps)
       c
       (each-join NoC after z (each-map after (λ l x. x .1) (items-read j)) q)
 
@@ -184,17 +205,17 @@ module _ {p : Parts} {date : Date} {fixes notes : Layout} {times : List ℕ} (w 
       (each-map (p .seal) (λ l h. aside 71 l (h .letter) (omega arith) (omega arith) (omega arith)) (w .seal))
       (each-map (p .remarks) (λ l h. aside 76 l (h .letter) (omega arith) (omega arith) (omega arith)) (w .remarks))
 
-  keeps-reads : Each (LineReads fixes notes) (linesIn p)
+  keeps-reads : Each (ReadsLine fixes notes) (linesIn p)
   keeps-reads =
-      subst (Each (LineReads fixes notes)) (sym in-three)
-      (each-join (LineReads fixes notes) front (p .body ++ back) (each-map front (aside-reads fixes notes) front-aside)
-      (each-join (LineReads fixes notes) (p .body) back
+      subst (Each (ReadsLine fixes notes)) (sym in-three)
+      (each-join (ReadsLine fixes notes) front (p .body ++ back) (each-map front (aside-reads fixes notes) front-aside)
+      (each-join (ReadsLine fixes notes) (p .body) back
       (body-reads fixes notes (told family.B (w .fixLayout)) (told family.K (w .noteLayout)) (w .body))
       (each-map back (aside-reads fixes notes) back-aside)))
 
-  keeps-declares : Declaration (linesIn p)
+  keeps-declares : ReadsDeclaration (linesIn p)
   keeps-declares =
-      subst Declaration (sym in-three)
+      subst ReadsDeclaration (sym in-three)
       (body-declares fixes notes (told family.B (w .fixLayout)) (told family.K (w .noteLayout)) front back
       (each-map front (λ l h. h .2) front-aside)
       (each-map back (λ l h. h .2) back-aside)
@@ -202,11 +223,31 @@ module _ {p : Parts} {date : Date} {fixes notes : Layout} {times : List ℕ} (w 
 
 -- ---- the theorem
 
-meets-readable : (file : List ℕ) (m : Meets file) → Readable file (flightOf m)
-meets-readable file m =
-    let e = sym (lines-are file m) in
-    record { lines = subst (Each (LineReads (m .fixes) (m .notes))) e (keeps-reads (m .keeps)); declaration = subst Declaration e (keeps-declares (m .keeps)) }
-
 -- what can be read from an accepted file, by the layouts of the answer
-pub readable : (file : List ℕ) (room : ℕ) (f : Flight) → verdict file room ≡ says f → Readable file f
-readable file room f e = let w = accepted-as file room f .0 e in subst (Readable file) (w .2) (meets-readable file (w .0))
+pub readable : (file table : List ℕ) (f : Flight) → verdict file (length table) ≡ says f → Readable file table f
+unfolding goodLines
+readable file table f e =
+    let w = accepted-as file (length table) f .0 e in
+    let m = w .0 in
+    let ls : List (List ℕ) = linesIn (m .parts) in
+    let c = lines-cut file m in
+    let t = lines-are file m in
+    let n : f .lines ≡ length ls = sym (ap (λ x. x .lines) (w .2)) in
+    let g : goodIn file table ≡ f .lines = rw e in
+    record {
+      lines = ls;
+      bytes = m .bytes;
+      texts = m .texts;
+      lengths = sym (total-is ls) ∙ ap splitting.total (sym c) ∙ lengths-total file (accepted-whole file (length table) f e);
+      counted = n;
+      bs = sym (ap (λ x. x .bs) (w .2));
+      ks = sym (ap (λ x. x .ks) (w .2));
+      entries = λ i h. entry-put file table i 0 (omega arith) ∙ ap (λ x. getD (offsets 0 x) i 0) c ∙ offset-is ls 0 i h ∙ zero-add (total (take i ls));
+      unchanged = λ i h. entry-kept file table i 0 (omega arith);
+      numbered = λ i h.
+          let k : i + 1 - 1 ≡ i = omega arith in
+          line-by-number file table (i + 1) (omega arith) (omega arith) .bytes ∙ ap (λ x. getD x (i + 1 - 1) []) t ∙ ap (λ x. getD ls x []) k;
+      stepping = steps-over file ls 0 (subst (splitting.Steps file 0) c (steps file));
+      reads = subst (λ (x : Flight). Each (ReadsLine (x .fixes) (x .notes)) ls) (w .2) (keeps-reads (m .keeps));
+      declaration = keeps-declares (m .keeps);
+    }

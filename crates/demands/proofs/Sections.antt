@@ -20,7 +20,7 @@ use Rattle.trips.proofs.Laws.{false-true}
 use Rattle.demands.specs.Grammar.{Each, Follows, OrderFrom, IsHLine, IsBLine, IsKLine, IsELine, IsFLine, IsHeadLine, IsPointLine, IsLLine, IsGLine, AtMostOne, absent, given, Timed, Untimed, differential, remark, other, Items, Body, undeclared, declared}
 use Rattle.demands.specs.Grammar as grammar
 use Rattle.demands.proofs.Carried.{e-said, f-said}
-use Rattle.demands.proofs.Valued.{b-said, k-said}
+use Rattle.demands.proofs.Valued.{IsTold, b-letter, k-letter}
 use Rattle.demands.proofs.Leading.{Part, recorder, header, fixLayout, noteLayout, body, seal, remarks, InBody, head, point, fix, note, event, quiet, Leads, first, second, further, fixing, noting, flying, sealing, remarking, Sound, judge-leads, leads-judge, stays-sound}
 use Rattle.demands.proofs.Passing.{Passes}
 use Rattle.demands.proofs.Passing as passing
@@ -260,9 +260,9 @@ module _ (fixes notes : Layout) where
   items-there (also (flying a b (head h z d n w)) r) e p c = absurd (c d n)
   items-there (also (flying a b (point h w)) r) e p c = absurd (omega arith)
   items-there (also {st = st} {l = l} {ls = ls} (flying a b (fix f z t w)) r) e p c =
-      timed-told (st .clock) (f .time) l ls t (λ ts. grammar.timed (fix-line st f l e w)) (items-there r e p (λ d n. omega arith))
+      timed-told (st .clock) (f .time) l ls t (λ ts. grammar.timed (fix-line st f l e (w .1))) (items-there r e p (λ d n. omega arith))
   items-there (also {st = st} {l = l} {ls = ls} (flying a b (note n z t w)) r) e p c =
-      timed-told (st .clock) n l ls t (λ ts. grammar.timed (note-line st n l e w)) (items-there r e p (λ d i. c d (omega arith)))
+      timed-told (st .clock) n l ls t (λ ts. grammar.timed (note-line st n l e (w .1))) (items-there r e p (λ d i. c d (omega arith)))
   items-there (also {st = st} {l = l} {ls = ls} (flying a b (event n z t w)) r) e p c =
       timed-told (st .clock) n l ls t (λ ts. grammar.timed (event-line n l w)) (items-there r e p c)
   items-there (also {st = st} {l = l} {ls = ls} (flying a b (quiet z w)) r) e p c =
@@ -354,9 +354,9 @@ module _ (fixes notes : Layout) where
       declaration h l (begun h (moved 5 st)) w (points-there (h .turns + 4) r refl z) e refl
   body-there (also (flying a b (point h w)) r) e p d n z = absurd (omega arith)
   body-there (also {st = st} {l = l} {ls = ls} (flying a b (fix f x t w)) r) e p d n z =
-      items-body (timed-told (st .clock) (f .time) l ls t (λ ts. grammar.timed (fix-line st f l e w)) (items-there r e p (λ q i. omega arith)))
+      items-body (timed-told (st .clock) (f .time) l ls t (λ ts. grammar.timed (fix-line st f l e (w .1))) (items-there r e p (λ q i. omega arith)))
   body-there (also {st = st} {l = l} {ls = ls} (flying a b (note i x t w)) r) e p d n z =
-      timed-told (st .clock) i l ls t (body-timed (note-line st i l e w) (λ q. omega (arith, k-said _ i l w .0))) (body-there r e p d (omega arith) z)
+      timed-told (st .clock) i l ls t (body-timed (note-line st i l e (w .1)) (λ q. omega (arith, k-letter _ i l (w .1)))) (body-there r e p d (omega arith) z)
   body-there (also {st = st} {l = l} {ls = ls} (flying a b (event i x t w)) r) e p d n z =
       timed-told (st .clock) i l ls t (body-timed (event-line i l w) (event-not-b w)) (body-there r e p d n z)
   body-there (also {st = st} {l = l} {ls = ls} (flying a b (quiet x w)) r) e p d n z =
@@ -373,32 +373,36 @@ module _ (fixes notes : Layout) where
     begun : state .declared ≡ st .declared
     bs : Each (λ l. getD l 0 0 ≡ code "B" → ⊥) ls → state .flight .bs ≡ st .flight .bs
 
-  timed-here : (us : List ℕ) (ls : List (List ℕ)) (st : State) {t : ℕ} (l : List ℕ) → Timed fixes notes t l → Laid st → 2 ≤ st .stage → st .stage ≤ 5 → st .points ≡ 0
+  -- lines can tell both layouts
+  abbrev Told-both : Type 0
+  Told-both = IsTold 36 fixes × IsTold 8 notes
+
+  timed-here : Told-both → (us : List ℕ) (ls : List (List ℕ)) (st : State) {t : ℕ} (l : List ℕ) → Timed fixes notes t l → Laid st → 2 ≤ st .stage → st .stage ≤ 5 → st .points ≡ 0
       → Follows (st .clock) t
       → ((m : State) → m .clock ≡ t → Laid m → m .stage ≡ 5 → m .points ≡ 0 → ItemsHere us ls m) → ItemsHere us (l ∷ ls) st
-  timed-here us ls st l (grammar.fix f i w) e a b p t k =
+  timed-here g us ls st l (grammar.fix f i w) e a b p t k =
       let v : IsBLine (st .flight .fixes) f l = rw (e .0) w in
       let r = k (clocked (f .time) (counted 1 0 (moved 5 st))) i e refl p in
       record {
         state = r .state;
-        section = also {st = st} (flying a b (fix f p (rw i t) v)) (r .section);
+        section = also {st = st} (flying a b (fix f p (rw i t) (rw (e .0) (g .0), v))) (r .section);
         order = r .order;
         points = r .points;
         begun = r .begun;
-        bs = λ n. absurd (n .0 (b-said _ f l w .0));
+        bs = λ n. absurd (n .0 (b-letter _ f l w));
       }
-  timed-here us ls st {t} l (grammar.note w) e a b p q k =
+  timed-here g us ls st {t} l (grammar.note w) e a b p q k =
       let v : IsKLine (st .flight .notes) t l = rw (e .1) w in
       let r = k (clocked t (counted 0 1 (moved 5 st))) refl e refl p in
       record {
         state = r .state;
-        section = also (flying a b (note t p q v)) (r .section);
+        section = also {st = st} (flying a b (note t p q (rw (e .1) (g .1), v))) (r .section);
         order = r .order;
         points = r .points;
         begun = r .begun;
         bs = λ n. let x = r .bs (n .1) in omega arith;
       }
-  timed-here us ls st {t} l (grammar.event w) e a b p q k =
+  timed-here g us ls st {t} l (grammar.event w) e a b p q k =
       let r = k (clocked t (moved 5 st)) refl e refl p in
       record {
         state = r .state;
@@ -408,7 +412,7 @@ module _ (fixes notes : Layout) where
         begun = r .begun;
         bs = λ n. r .bs (n .1);
       }
-  timed-here us ls st {t} l (grammar.satellites w) e a b p q k =
+  timed-here g us ls st {t} l (grammar.satellites w) e a b p q k =
       let r = k (clocked t (moved 5 st)) refl e refl p in
       record {
         state = r .state;
@@ -419,9 +423,9 @@ module _ (fixes notes : Layout) where
         bs = λ n. r .bs (n .1);
       }
 
-  items-here : {ls : List (List ℕ)} {ts : List ℕ} (us : List ℕ) (st : State) (c : ℕ) → Items fixes notes ls ts → st .clock ≡ c → Laid st → 2 ≤ st .stage → st .stage ≤ 5
+  items-here : Told-both → {ls : List (List ℕ)} {ts : List ℕ} (us : List ℕ) (st : State) (c : ℕ) → Items fixes notes ls ts → st .clock ≡ c → Laid st → 2 ≤ st .stage → st .stage ≤ 5
       → st .points ≡ 0 → OrderFrom c (ts ++ us) → ItemsHere us ls st
-  items-here us st c grammar.done i e a b p o = record {
+  items-here g us st c grammar.done i e a b p o = record {
     state = st;
     section = empty;
     order = subst (λ x. OrderFrom x us) (sym i) o;
@@ -429,10 +433,10 @@ module _ (fixes notes : Layout) where
     begun = refl;
     bs = λ n. refl;
   }
-  items-here us st c (grammar.timed {l = l} {ls = ls} {t = t} w r) i e a b p o =
-      timed-here us ls st l w e a b p (rw i (o .0)) λ m j g s z. items-here us m t r j g (omega arith) (omega arith) z (o .1)
-  items-here us st c (grammar.untimed {l = l} w r) i e a b p o =
-      let x = items-here us (moved 5 st) c r i e (omega arith) (omega arith) p o in
+  items-here g us st c (grammar.timed {l = l} {ls = ls} {t = t} w r) i e a b p o =
+      timed-here g us ls st l w e a b p (rw i (o .0)) λ m j h s z. items-here g us m t r j h (omega arith) (omega arith) z (o .1)
+  items-here g us st c (grammar.untimed {l = l} w r) i e a b p o =
+      let x = items-here g us (moved 5 st) c r i e (omega arith) (omega arith) p o in
       record {
         state = x .state;
         section = also (flying a b (quiet p w)) (x .section);
@@ -454,20 +458,20 @@ module _ (fixes notes : Layout) where
   section-join empty q = q
   section-join (also w r) q = also w (section-join r q)
 
-  pub body-here : {ls : List (List ℕ)} {ts : List ℕ} (st : State) → Body fixes notes ls ts → Laid st → Fresh st → 2 ≤ st .stage → st .stage ≤ 5
+  pub body-here : Told-both → {ls : List (List ℕ)} {ts : List ℕ} (st : State) → Body fixes notes ls ts → Laid st → Fresh st → 2 ≤ st .stage → st .stage ≤ 5
       → OrderFrom (st .clock) ts → (m : State) × Section body st ls m × (m .points ≡ 0)
-  body-here st (undeclared i) e f a b o =
-      let r = items-here [] st (st .clock) i refl e a b (f .0) (rw append-nil o) in
+  body-here g st (undeclared i) e f a b o =
+      let r = items-here g [] st (st .clock) i refl e a b (f .0) (rw append-nil o) in
       (r .state, r .section, r .points)
-  body-here st (declared {ts = ts} {us = us} before hd points after h i no-b w ps c j) e f a b o =
-      let r = items-here us st (st .clock) i refl e a b (f .0) o in
+  body-here g st (declared {ts = ts} {us = us} before hd points after h i no-b w ps c j) e f a b o =
+      let r = items-here g us st (st .clock) i refl e a b (f .0) o in
       let x = body-stage (r .section) a b in
       let y = body-same (r .section) in
       let n : r .state .flight .bs ≡ 0 = r .bs no-b ∙ f .2 in
       let k = points-here points (begun h (moved 5 (r .state))) ps (sym c) (omega arith) (omega arith) in
       let z = body-stage (k .1) (omega arith) (omega arith) in
       let s = body-same (k .1) in
-      let q = items-here [] (k .0) (r .state .clock) j (k .3) (s .1 ∙ y .1 ∙ e .0, s .2 ∙ y .2 ∙ e .1) (z .0) (z .1) (k .2) (rw append-nil (r .order)) in (
+      let q = items-here g [] (k .0) (r .state .clock) j (k .3) (s .1 ∙ y .1 ∙ e .0, s .2 ∙ y .2 ∙ e .1) (z .0) (z .1) (k .2) (rw append-nil (r .order)) in (
         q .state,
         section-join (r .section) (also (flying (x .0) (x .1) (head h (r .points) (r .begun ∙ f .1) n w)) (section-join (k .1) (q .section))),
         q .points,

@@ -1,77 +1,152 @@
 -- B, K and C lines: such a line reads as values exactly when it is their text, and they are within their limits. From the laws of each line both ways. Assumes nothing.
-use Prim.Native.Nat.{ℕ}
+use Prim.Native.Nat.{ℕ, _+_, _-_, _≤_}
 use Prim.Native.Char.{code}
-use mathlib.Core.Bool.{true}
+use mathlib.Core.Bool.{true, false}
 use mathlib.Core.List.{List}
-use mathlib.Core.Path.{_≡_, _∙_, ap}
-use borrow.Author.Tests.{eqb-true, eq-eqb}
+use mathlib.Core.Logic.{_↔_}
+use mathlib.Core.Path.{_≡_, refl, sym, _∙_, ap, subst}
+use native.Mathlib.Omega.{arith}
+use borrow.Author.Tests.{le-leb, leb-true, eqb-true, eq-eqb}
 use lib.Dec.{eqb}
-use lib.ListN.{getD, drop}
+use lib.ListN.{length, getD, take, drop, length-drop, take-append-drop}
 use Rattle.rules.specs.Refusals.{says}
-use Rattle.rules.specs.Layouts.{allowed}
+use Rattle.rules.specs.Chars.{isValid}
+use Rattle.rules.specs.Layouts.{entriesOf, allowed}
 use Rattle.rules.specs.Lines.{headLine, pointLine, bLine, kLine}
 use Rattle.rules.specs.Reads.{fixSaid, noteSaid, headSaid, pointSaid}
+use Rattle.rules.specs.Writes.{fixText, noteText}
 use Rattle.rules.specs.declared.Layout.{Layout}
 use Rattle.rules.specs.declared.Fix.{Fix}
 use Rattle.rules.specs.declared.Head.{Head}
 use Rattle.rules.specs.declared.Point.{Point}
-use Rattle.trips.proofs.Laws.{refuses-says, need-inv}
+use Rattle.trips.specs.Limits.{isTime, isClean, goodFixFields, goodFix, goodNote, goodHeadFields, goodHead}
+use Rattle.trips.proofs.Laws.{false-true, refuses-says, need-inv}
+use Rattle.trips.proofs.Texts.{clean-valid}
 use Rattle.trips.proofs.LineTrip.{line-limits}
 use Rattle.trips.proofs.Fixes.{fix-trip}
 use Rattle.trips.proofs.Notes.{note-trip}
-use Rattle.trips.proofs.Heads.{head-trip}
+use Rattle.trips.proofs.Heads.{head-trip, head-within}
+use Rattle.trips.proofs.Heads as heads
 use Rattle.trips.proofs.Points.{point-trip}
-use Rattle.demands.specs.Grammar.{IsBLine, IsKLine, IsHeadLine, IsPointLine}
+use Rattle.demands.specs.Grammar.{Each, Columns, IsBLine, IsKLine, IsHeadLine, IsPointLine}
+use Rattle.demands.proofs.Laws.{each-cut, valid-are, shape-there}
+use Rattle.demands.proofs.Days.{day-exactly, planned-exactly}
+use Rattle.demands.proofs.Tails.{tail-exactly}
+
+-- a layout that a line can tell, over the place where its first column starts
+abbrev pub IsTold : ℕ → Layout → Type 0
+IsTold start layout = (allowed start layout ≡ true) × (length (layout .entries) ≡ 13)
+
+-- ---- the limits, by such a layout
+
+pub fix-limits : (layout : Layout) → IsTold 36 layout → (f : Fix) (tail : List ℕ)
+    → (goodFix f tail layout ≡ true) ↔ ((goodFixFields f ≡ true) × Columns (entriesOf layout) tail)
+unfolding goodFix
+fix-limits layout t f tail =
+    let x = tail-exactly 36 tail layout (omega arith) (t .0) (t .1) in (
+      λ e. let w = need-inv (goodFixFields f) false true _ false-true e in (w .0, x .0 (w .1)),
+      λ h. rw (h .0) (x .1 (h .1)),
+    )
+
+pub note-limits : (layout : Layout) → IsTold 8 layout → (t : ℕ) (tail : List ℕ)
+    → (goodNote t tail layout ≡ true) ↔ ((isTime t ≡ true) × Columns (entriesOf layout) tail)
+unfolding goodNote
+note-limits layout t n tail =
+    let x = tail-exactly 8 tail layout (omega arith) (t .0) (t .1) in (
+      λ e. let w = need-inv (isTime n) false true _ false-true e in (w .0, x .0 (w .1)),
+      λ h. rw (h .0) (x .1 (h .1)),
+    )
 
 -- ---- a line as its reader reads it
 
-pub fix-reads : (layout : Layout) (f : Fix) (l : List ℕ) → IsBLine layout f l → fixSaid l layout ≡ says f
-fix-reads layout f l w = ap (λ x. fixSaid x layout) (w .text) ∙ fix-trip layout .here f (w .tail) (w .good)
+pub fix-reads : (layout : Layout) → IsTold 36 layout → (f : Fix) (l : List ℕ) → IsBLine layout f l → fixSaid l layout ≡ says f
+fix-reads layout t f l w = ap (λ x. fixSaid x layout) (w .text) ∙ fix-trip layout .here f (w .tail) (fix-limits layout t f (w .tail) .1 (w .fields, w .columns))
 
-pub note-reads : (layout : Layout) (t : ℕ) (l : List ℕ) → IsKLine layout t l → noteSaid l layout ≡ says t
-note-reads layout t l w = ap (λ x. noteSaid x layout) (w .text) ∙ note-trip layout .here t (w .tail) (w .good)
+pub note-reads : (layout : Layout) → IsTold 8 layout → (t : ℕ) (l : List ℕ) → IsKLine layout t l → noteSaid l layout ≡ says t
+note-reads layout i t l w = ap (λ x. noteSaid x layout) (w .text) ∙ note-trip layout .here t (w .tail) (note-limits layout i t (w .tail) .1 (w .time, w .columns))
+
+pub fix-read : (layout : Layout) → IsTold 36 layout → (f : Fix) (l : List ℕ) → fixSaid l layout ≡ says f → IsBLine layout f l
+fix-read layout t f l e =
+    let g = fix-limits layout t f (drop 35 l) .0 (line-limits (fix-trip layout) l f e) in
+    record { tail = drop 35 l; text = fix-trip layout .there l f e; fields = g .0; columns = g .1 }
+
+pub note-read : (layout : Layout) → IsTold 8 layout → (t : ℕ) (l : List ℕ) → noteSaid l layout ≡ says t → IsKLine layout t l
+note-read layout i t l e =
+    let g = note-limits layout i t (drop 7 l) .0 (line-limits (note-trip layout) l t e) in
+    record { tail = drop 7 l; text = note-trip layout .there l t e; time = g .0; columns = g .1 }
 
 pub head-reads : (h : Head) (l : List ℕ) → IsHeadLine h l → headSaid l ≡ says h
-head-reads h l w = ap headSaid (w .text) ∙ head-trip .here h (w .rest) (w .good)
+unfolding goodHead
+head-reads h l w =
+    let d : drop 25 l ≡ w .rest = ap (drop 25) (w .text) ∙ head-trip .behind h (w .rest) in
+    let k : length (w .rest) ≡ length l - 25 = ap length (sym d) ∙ length-drop 25 l in
+    let n : 25 + length (w .rest) ≤ 255 = omega (arith, w .shape .long, w .shape .short) in
+    let v = each-cut (λ b. isValid false b ≡ true) (take 25 l) (drop 25 l) (subst (Each (λ b. isValid false b ≡ true)) (sym (take-append-drop 25 l)) (w .shape .valid)) .1 in
+    let c : isClean (w .rest) ≡ true = ap isClean (sym d) ∙ clean-valid (drop 25 l) ∙ valid-are (drop 25 l) v in
+    let g : goodHeadFields h ≡ true = head-within h .1 (record {
+      declared = day-exactly (h .declared) .1 (w .declared);
+      time = w .time;
+      flight = planned-exactly (h .flight) .1 (w .flight);
+      task = le-leb _ _ (w .task);
+      turns = le-leb _ _ (w .turns);
+    }) in
+    ap headSaid (w .text) ∙ head-trip .here h (w .rest) (rw (g, le-leb _ _ n) c)
+
+pub head-read : (h : Head) (l : List ℕ) → headSaid l ≡ says h → IsHeadLine h l
+unfolding goodHead
+head-read h l e =
+    let g = need-inv (goodHeadFields h) false true _ false-true (line-limits head-trip l h e) in
+    let w = head-within h .0 (g .0) in
+    record {
+      rest = drop 25 l;
+      text = head-trip .there l h e;
+      declared = day-exactly (h .declared) .0 (w .declared);
+      time = w .time;
+      flight = planned-exactly (h .flight) .0 (w .flight);
+      task = leb-true _ _ (w .task);
+      turns = leb-true _ _ (w .turns);
+      shape = shape-there 25 255 false l tt (heads.head-there l h e .shape);
+    }
 
 pub point-reads : (l : List ℕ) (w : IsPointLine l) → pointSaid l ≡ says (w .point)
 point-reads l w = ap pointSaid (w .text) ∙ point-trip .here (w .point) (w .rest) (w .good)
 
-pub fix-read : (layout : Layout) (f : Fix) (l : List ℕ) → fixSaid l layout ≡ says f → IsBLine layout f l
-fix-read layout f l e = record { tail = drop 35 l; text = fix-trip layout .there l f e; good = line-limits (fix-trip layout) l f e }
-
-pub note-read : (layout : Layout) (t : ℕ) (l : List ℕ) → noteSaid l layout ≡ says t → IsKLine layout t l
-note-read layout t l e = record { tail = drop 7 l; text = note-trip layout .there l t e; good = line-limits (note-trip layout) l t e }
+pub point-read : (p : Point) (l : List ℕ) → pointSaid l ≡ says p → (w : IsPointLine l) × (w .point ≡ p)
+point-read p l e = (record { point = p; rest = drop 18 l; text = point-trip .there l p e; good = line-limits point-trip l p e }, refl)
 
 -- ---- a line as the check reads it
 
-pub b-there : (layout : Layout) (f : Fix) (l : List ℕ) → allowed 36 layout ≡ true → getD l 0 0 ≡ code "B" → bLine layout l ≡ says f → IsBLine layout f l
+pub b-there : (layout : Layout) (f : Fix) (l : List ℕ) → IsTold 36 layout → getD l 0 0 ≡ code "B" → bLine layout l ≡ says f → IsBLine layout f l
 unfolding fixSaid
-b-there layout f l g k e = fix-read layout f l (rw (eq-eqb _ _ k, g) e)
+b-there layout f l t k e = fix-read layout t f l (rw (eq-eqb _ _ k, t .0) e)
 
-pub b-said : (layout : Layout) (f : Fix) (l : List ℕ) → IsBLine layout f l → (getD l 0 0 ≡ code "B") × (bLine layout l ≡ says f)
+pub b-letter : (layout : Layout) (f : Fix) (l : List ℕ) → IsBLine layout f l → getD l 0 0 ≡ code "B"
+unfolding fixText
+b-letter layout f l w = ap (λ x. getD x 0 0) (w .text)
+
+pub b-said : (layout : Layout) (f : Fix) (l : List ℕ) → IsTold 36 layout × IsBLine layout f l → (getD l 0 0 ≡ code "B") × (bLine layout l ≡ says f)
 unfolding fixSaid
 b-said layout f l w =
-    let a = need-inv (eqb (getD l 0 0) (code "B")) _ (says f) _ refuses-says (fix-reads layout f l w) in
-    let b = need-inv (allowed 36 layout) _ (says f) _ refuses-says (a .1) in
-    (eqb-true _ _ (a .0), b .1)
+    let a = need-inv (eqb (getD l 0 0) (code "B")) _ (says f) _ refuses-says (fix-reads layout (w .0) f l (w .1)) in
+    (eqb-true _ _ (a .0), need-inv (allowed 36 layout) _ (says f) _ refuses-says (a .1) .1)
 
-pub k-there : (layout : Layout) (t : ℕ) (l : List ℕ) → allowed 8 layout ≡ true → getD l 0 0 ≡ code "K" → kLine layout l ≡ says t → IsKLine layout t l
+pub k-there : (layout : Layout) (t : ℕ) (l : List ℕ) → IsTold 8 layout → getD l 0 0 ≡ code "K" → kLine layout l ≡ says t → IsKLine layout t l
 unfolding noteSaid
-k-there layout t l g k e = note-read layout t l (rw (eq-eqb _ _ k, g) e)
+k-there layout t l i k e = note-read layout i t l (rw (eq-eqb _ _ k, i .0) e)
 
-pub k-said : (layout : Layout) (t : ℕ) (l : List ℕ) → IsKLine layout t l → (getD l 0 0 ≡ code "K") × (kLine layout l ≡ says t)
+pub k-letter : (layout : Layout) (t : ℕ) (l : List ℕ) → IsKLine layout t l → getD l 0 0 ≡ code "K"
+unfolding noteText
+k-letter layout t l w = ap (λ x. getD x 0 0) (w .text)
+
+pub k-said : (layout : Layout) (t : ℕ) (l : List ℕ) → IsTold 8 layout × IsKLine layout t l → (getD l 0 0 ≡ code "K") × (kLine layout l ≡ says t)
 unfolding noteSaid
 k-said layout t l w =
-    let a = need-inv (eqb (getD l 0 0) (code "K")) _ (says t) _ refuses-says (note-reads layout t l w) in
-    let b = need-inv (allowed 8 layout) _ (says t) _ refuses-says (a .1) in
-    (eqb-true _ _ (a .0), b .1)
+    let a = need-inv (eqb (getD l 0 0) (code "K")) _ (says t) _ refuses-says (note-reads layout (w .0) t l (w .1)) in
+    (eqb-true _ _ (a .0), need-inv (allowed 8 layout) _ (says t) _ refuses-says (a .1) .1)
 
 pub head-there : (h : Head) (l : List ℕ) → getD l 0 0 ≡ code "C" → headLine l ≡ says h → IsHeadLine h l
 unfolding headSaid
-head-there h l k e =
-    let s : headSaid l ≡ says h = rw (eq-eqb _ _ k) e in
-    record { rest = drop 25 l; text = head-trip .there l h s; good = line-limits head-trip l h s }
+head-there h l k e = head-read h l (rw (eq-eqb _ _ k) e)
 
 pub head-said : (h : Head) (l : List ℕ) → IsHeadLine h l → (getD l 0 0 ≡ code "C") × (headLine l ≡ says h)
 unfolding headSaid
@@ -81,9 +156,7 @@ head-said h l w =
 
 pub point-there : (p : Point) (l : List ℕ) → getD l 0 0 ≡ code "C" → pointLine l ≡ says p → IsPointLine l
 unfolding pointSaid
-point-there p l k e =
-    let s : pointSaid l ≡ says p = rw (eq-eqb _ _ k) e in
-    record { point = p; rest = drop 18 l; text = point-trip .there l p s; good = line-limits point-trip l p s }
+point-there p l k e = point-read p l (rw (eq-eqb _ _ k) e) .0
 
 pub point-said : (l : List ℕ) (w : IsPointLine l) → (getD l 0 0 ≡ code "C") × (pointLine l ≡ says (w .point))
 unfolding pointSaid

@@ -12,8 +12,8 @@ use Rattle.rules.specs.Choice.{byte}
 use Rattle.rules.specs.Chars.{isValid, isCode, codesAt}
 use Rattle.rules.specs.Fields.{timeText, dateText, isEither}
 use Rattle.rules.specs.Numbers.{digitsOf}
-use Rattle.rules.specs.Listed.{isCodeWord, widthFits}
-use Rattle.rules.specs.Layouts.{unused, emptyLayout, firstStart}
+use Rattle.rules.specs.Listed.{isCodeWord, listed}
+use Rattle.rules.specs.Layouts.{unused, emptyLayout, firstStart, entriesOf}
 use Rattle.rules.specs.Reads.{layoutLetter}
 use Rattle.rules.specs.Writes.{fixText, noteText, entryTexts, headText, pointText}
 use Rattle.rules.specs.declared.Date.{Date}
@@ -22,10 +22,13 @@ use Rattle.rules.specs.declared.Layout.{Layout}
 use Rattle.rules.specs.declared.Family.{Family}
 use Rattle.rules.specs.declared.Family.the-variants as family
 use Rattle.rules.specs.declared.Fix.{Fix}
+use Rattle.rules.specs.declared.Listed.{Listed}
+use Rattle.rules.specs.declared.Planned.{Planned}
+use Rattle.rules.specs.declared.Planned.the-variants as planned
 use Rattle.rules.specs.declared.Head.{Head}
 use Rattle.rules.specs.declared.Point.{Point}
 use Rattle.rules.specs.declared.Flight.{Flight}
-use Rattle.trips.specs.Limits.{isTime, isDate, goodFix, goodNote, goodHead, goodPoint}
+use Rattle.trips.specs.Limits.{isTime, goodFixFields, goodPoint}
 
 -- every element keeps to P
 abbrev pub Each : {A : Type 0} → (A → Type 0) → List A → Type 0
@@ -34,7 +37,7 @@ Each P (a ∷ l) = P a × Each P l
 
 -- ---- 'Lines' and 'Fields': a line of each kind, without its CR LF
 
--- "Lengths below leave CR LF out"; "Valid characters"; in an H line the comma is one
+-- "Lengths below leave CR LF out"; "Valid characters (000, A6): hex 20 to 7D without 21, 24, 2A, 5C, 5E. Comma (2C) .. is valid in H lines only (h)."
 pub record Shaped (least most : ℕ) (inH : Bool) (l : List ℕ) : Type 0 where
   pub long : least ≤ length l
   pub short : length l ≤ most
@@ -47,10 +50,35 @@ pub record IsALine (l : List ℕ) : Type 0 where
   pub maker : codesAt l (byte 2) 3 ≡ true
   pub serial : codesAt l (byte 5) 3 ≡ true
 
--- "second line exactly 11"; "Line 2: H, FDTE at 2 to 5 as one field, DDMMYY at 6 to 11"
+-- how many days a month of a year has; from 1980 to 2079 a year that 4 divides is a leap year
+pub data Days (year : ℕ) : ℕ → ℕ → Type 0 where
+  january : Days year 1 31
+  february : (year % 4 ≡ 0 → ⊥) → Days year 2 28
+  february-leap : year % 4 ≡ 0 → Days year 2 29
+  march : Days year 3 31
+  april : Days year 4 30
+  may : Days year 5 31
+  june : Days year 6 30
+  july : Days year 7 31
+  august : Days year 8 31
+  september : Days year 9 30
+  october : Days year 10 31
+  november : Days year 11 30
+  december : Days year 12 31
+
+-- "Years 80 to 99 are 1980 to 1999, 00 to 79 are 2000 to 2079 (h). The day must exist in that month and year."
+pub record IsDay (d : Date) : Type 0 where
+  pub from : 1980 ≤ d .year
+  pub to : d .year ≤ 2079
+  pub days : ℕ
+  pub month : Days (d .year) (d .month) days
+  pub low : 1 ≤ d .day
+  pub high : d .day ≤ days
+
+-- "second line exactly 11"; "Line 2: H, FDTE at 2 to 5 as one field, DDMMYY at 6 to 11; a longer date line is refused (h)."
 pub record IsDateLine (d : Date) (l : List ℕ) : Type 0 where
   pub text : l ≡ code "H" ∷ code "F" ∷ code "D" ∷ code "T" ∷ code "E" ∷ dateText d
-  pub good : isDate d ≡ true
+  pub day : IsDay d
 
 -- "other H 5 to 255"; "Other H: F or O, 3 code characters, text."
 pub record IsHLine (l : List ℕ) : Type 0 where
@@ -59,24 +87,33 @@ pub record IsHLine (l : List ℕ) : Type 0 where
   pub source : isEither (getD l (byte 2) 0) (code "F") (code "O") ≡ true
   pub subject : codesAt l (byte 3) 3 ≡ true
 
--- "start SS, finish FF and a code CCC of 3 code characters"; "FF is not below SS"; a listed code has a width of its table
+-- what every row of the listed codes with this code says; of an unlisted code nothing. The table itself (`listed`, in the rules) can only be read.
+abbrev pub Listing : ℕ → (Listed → Type 0) → Type 0
+Listing x P = Each (λ r. r .code ≡ x → P r) listed
+
+-- how many bytes a column has
+abbrev pub widthOf : Entry → ℕ
+widthOf e = e .last - e .first + 1
+
+-- "start SS, finish FF and a code CCC of 3 code characters"; "FF is not below SS"; "Listed codes, .. with least and most width"; "An unlisted code may have any
+-- width"
 pub record IsEntry (start : ℕ) (e : Entry) : Type 0 where
   pub starts : e .first ≡ start
   pub ends : e .first ≤ e .last
   pub spelt : e .last ≤ 99
   pub word : isCodeWord (e .code) ≡ true
-  pub wide : widthFits (e .code) (e .last - e .first + 1) ≡ true
+  pub wide : Listing (e .code) (λ r. (r .least ≤ widthOf e) × (widthOf e ≤ r .most))
 
 -- "each next starts one past the last finish (h)"; "No code comes twice in one layout."
 abbrev pub Tiles : ℕ → List Entry → Type 0
 Tiles start [] = Unit {0}
 Tiles start (e ∷ es) = IsEntry start e × Each (λ x. x .code ≡ e .code → ⊥) es × Tiles (e .last + 1) es
 
--- the layout of these entries: they stand in the first of 13 slots, and the others are all zero
+-- the layout of these entries as the library's type has it: they stand in the first of 13 slots, and the others are all zero
 abbrev pub laid : List Entry → Layout
 laid es = record { count = length es; entries = es ++ replicate (13 - length es) unused }
 
--- "I, J 3 to 99"; "NN, then NN entries"; "The first entry starts at 36 (I) or 8 (J)"
+-- "I, J 3 to 99"; "NN, then NN entries of start SS, finish FF and a code CCC .. The length is 3 + 7 × NN. The first entry starts at 36 (I) or 8 (J)"
 pub record IsLayoutLine (f : Family) (layout : Layout) (l : List ℕ) : Type 0 where
   pub entries : List Entry
   pub tiles : Tiles (firstStart f) entries
@@ -84,11 +121,22 @@ pub record IsLayoutLine (f : Family) (layout : Layout) (l : List ℕ) : Type 0 w
   pub short : length l ≤ 99
   pub slots : layout ≡ laid entries
 
--- "C head 25 to 255"; "C head: declared date, time, flight date .., 4-digit task number, 2-digit number of turn points, text."
+-- "(000000 means not given; every other value must be a date ..)"
+abbrev pub IsPlanned : Planned → Type 0
+IsPlanned (planned.On d) = IsDay d
+IsPlanned planned.NotGiven = Unit {0}
+
+-- "C head 25 to 255"; "C head: declared date, time, flight date (000000 means not given; every other value must be a date, and the declared date always), 4-digit task
+-- number, 2-digit number of turn points, text."
 pub record IsHeadLine (h : Head) (l : List ℕ) : Type 0 where
   pub rest : List ℕ
   pub text : l ≡ headText h rest
-  pub good : goodHead h rest ≡ true
+  pub declared : IsDay (h .declared)
+  pub time : isTime (h .time) ≡ true
+  pub flight : IsPlanned (h .flight)
+  pub task : h .task ≤ 9999
+  pub turns : h .turns ≤ 99
+  pub shape : Shaped 25 255 false l
 
 -- "C point 18 to 255"; "C point: latitude, longitude, text."
 pub record IsPointLine (l : List ℕ) : Type 0 where
@@ -121,24 +169,47 @@ pub record IsFLine (t : ℕ) (l : List ℕ) : Type 0 where
   pub even : length pairs % 2 ≡ 0
   pub codes : Each (λ b. isCode b ≡ true) pairs
 
--- "B .. exactly what [its] layout gives"; "B: time 2 to 7; latitude ..; longitude ..; A or V, 25; pressure altitude ..; GNSS altitude ..; columns from 36."
+-- "Digit fields hold 0 to 9 only."
+abbrev pub IsDigit : ℕ → Type 0
+IsDigit b = (code "0" ≤ b) × (b ≤ code "9")
+
+-- "Their columns hold digits; FLP, DAE, DAN may have a minus first with at least one digit after it."
+pub data Holds (sign : Bool) : List ℕ → Type 0 where
+  digits : {t : List ℕ} → Each IsDigit t → Holds sign t
+  minus : {d : ℕ} {t : List ℕ} → sign ≡ true → IsDigit d → Each IsDigit t → Holds sign (code "-" ∷ d ∷ t)
+
+-- The columns of a line, one behind the other, each of its entry's bytes from SS to FF: "A line of that kind ends at the last FF". Valid characters, and the rule of a
+-- listed code.
+pub data Columns : List Entry → List ℕ → Type 0 where
+  none : Columns [] []
+  column : {e : Entry} {es : List Entry} {t : List ℕ} (c : List ℕ)
+      → length c ≡ widthOf e
+      → Each (λ b. isValid false b ≡ true) c
+      → Listing (e .code) (λ r. Holds (r .sign) c)
+      → Columns es t
+      → Columns (e ∷ es) (c ++ t)
+
+-- "B: time 2 to 7; latitude DDMMmmm and N or S, 8 to 15; longitude DDDMMmmm and E or W, 16 to 24; A or V, 25; pressure altitude 26 to 30; GNSS altitude 31 to 35;
+-- columns from 36."; "B .. exactly what [its] layout gives"
 pub record IsBLine (fixes : Layout) (f : Fix) (l : List ℕ) : Type 0 where
   pub tail : List ℕ
   pub text : l ≡ fixText f tail
-  pub good : goodFix f tail fixes ≡ true
+  pub fields : goodFixFields f ≡ true
+  pub columns : Columns (entriesOf fixes) tail
 
--- "K .. exactly what [its] layout gives"; "K: time 2 to 7, columns from 8."
+-- "K: time 2 to 7, columns from 8."; "K .. exactly what [its] layout gives"
 pub record IsKLine (notes : Layout) (t : ℕ) (l : List ℕ) : Type 0 where
   pub tail : List ℕ
   pub text : l ≡ noteText t tail
-  pub good : goodNote t tail notes ≡ true
+  pub time : isTime t ≡ true
+  pub columns : Columns (entriesOf notes) tail
 
 -- "L 1 to 99"
 pub record IsLLine (l : List ℕ) : Type 0 where
   pub letter : getD l 0 0 ≡ code "L"
   pub shape : Shaped 1 99 false l
 
--- "G 2 to 255"
+-- "G 2 to 255"; "The G code is carried and never judged."
 pub record IsGLine (l : List ℕ) : Type 0 where
   pub letter : getD l 0 0 ≡ code "G"
   pub shape : Shaped 2 255 false l
@@ -214,6 +285,7 @@ pub record Parts : Type 0 where
   pub seal : List (List ℕ)
   pub remarks : List (List ℕ)
 
+-- in their order
 abbrev pub linesIn : Parts → List (List ℕ)
 linesIn p = p .recorder ∷ p .day ∷ (p .headers ++ (p .fixLayout ++ (p .noteLayout ++ (p .body ++ (p .seal ++ p .remarks)))))
 
@@ -237,11 +309,12 @@ pub record Keeps (p : Parts) (date : Date) (fixes notes : Layout) (times : List 
 abbrev pub IsText : List ℕ → Type 0
 IsText l = Each (λ b. (b ≡ 13 → ⊥) × (b ≡ 10 → ⊥)) l
 
--- "Every line, the last one too, ends with CR LF."
+-- "Every line, the last one too, ends with CR LF.": the bytes of the lines
 unfoldable pub written : List (List ℕ) → List ℕ
 written [] = []
 written (l ∷ ls) = l ++ (13 ∷ 10 ∷ written ls)
 
+-- "One IGC file": it has lines, and they keep to all the rules above
 pub record Meets (file : List ℕ) : Type 0 where
   -- "A file has 1 to 16,777,216 bytes (h)."
   pub least : 1 ≤ length file
@@ -264,7 +337,7 @@ unfoldable pub beginning : ℕ → List (List ℕ) → ℕ
 beginning x [] = 0
 beginning x (l ∷ ls) = cond (eqb (getD l 0 0) x) 1 0 + beginning x ls
 
--- "the date, the I and J layouts, the count of lines, of B lines and of K lines"
+-- "the date, the I and J layouts, the count of lines, of B lines and of K lines": `fixes` is the layout of the B lines, `notes` that of the K lines
 abbrev pub flightOf : {file : List ℕ} → Meets file → Flight
 flightOf m = record {
   date = m .date;

@@ -29,11 +29,11 @@ isClean l = given (firstInvalid false l) true λ i. false
 
 -- ---- fields
 
--- a second of the day
+-- "Time: HHMMSS, 00 to 23, 00 to 59, 00 to 59, read as seconds of the day."
 abbrev pub isTime : ℕ → Bool
 isTime t = leb t 86399
 
--- a day that exists, in a year that two digits tell
+-- "Years 80 to 99 are 1980 to 1999, 00 to 79 are 2000 to 2079 (h). The day must exist in that month and year."
 unfoldable pub isDate : Date → Bool
 isDate d =
     need (leb 1980 (d .year)) false λ _.
@@ -43,16 +43,17 @@ isDate d =
     need (leb (d .day) days) false λ _.
     true
 
--- a date, or that it is not given
+-- "000000 means not given; every other value must be a date"
 unfoldable pub isPlanned : Planned → Bool
 isPlanned (planned.On d) = isDate d
 isPlanned planned.NotGiven = true
 
--- "So -9,999 to 99,999."
+-- "Altitude in metres: five digits, or a minus and four digits that are not all zero. So -9,999 to 99,999."
 abbrev pub isMetres : ℤ → Bool
 isMetres (pos n) = leb n 99999
 isMetres (negsuc n) = leb (n + 1) 9999
 
+-- the altitude as the library's type has it
 unfoldable pub isAltitude : Height → Bool
 isAltitude h = isMetres (h .metres)
 
@@ -82,12 +83,12 @@ goodHead h rest =
     need (leb (25 + length rest) 255) false λ _.
     isClean rest
 
--- the first byte in the line of the first column that breaks its rule, told from the line's tail alone, which begins at the first start
+-- "13 COLUMN: listed column against its rule; line, column's first byte", told from the line's tail alone, which begins at the first start
 unfoldable pub badTail : ℕ → List ℕ → Layout → Option ℕ
 badTail start tail layout =
     firstOf (λ (e : Entry). not (keepsRule (e .code) (part (e .first - start) (e .last + 1 - start) tail))) (λ (k : ℕ) (e : Entry). e .first) (entriesOf layout) 0
 
--- the columns of a B line (36) or a K line (8): they are what the layout gives
+-- the columns of a B line (36) or a K line (8), by a layout that is allowed: "A line of that kind ends at the last FF", valid characters, and no column against its rule
 unfoldable pub goodTail : ℕ → List ℕ → Layout → Bool
 goodTail start tail layout =
     need (allowed start layout) false λ _.
@@ -95,11 +96,13 @@ goodTail start tail layout =
     need (isClean tail) false λ _.
     given (badTail start tail layout) true λ first. false
 
+-- "K: time 2 to 7, columns from 8."
 unfoldable pub goodNote : ℕ → List ℕ → Layout → Bool
 goodNote t tail layout =
     need (isTime t) false λ _.
     goodTail 8 tail layout
 
+-- "B: time 2 to 7; latitude DDMMmmm and N or S, 8 to 15; longitude DDDMMmmm and E or W, 16 to 24; A or V, 25; pressure altitude 26 to 30; GNSS altitude 31 to 35"
 unfoldable pub goodFixFields : Fix → Bool
 goodFixFields f =
     need (isTime (f .time)) false λ _.
@@ -109,6 +112,7 @@ goodFixFields f =
     need (isAltitude (f .pressure)) false λ _.
     isAltitude (f .gnss)
 
+-- "columns from 36"
 unfoldable pub goodFix : Fix → List ℕ → Layout → Bool
 goodFix f tail layout =
     need (goodFixFields f) false λ _.

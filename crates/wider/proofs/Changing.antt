@@ -22,7 +22,7 @@ use Rattle.rules.specs.declared.State.{State}
 use Rattle.trips.proofs.Laws.{refuses-says, need-inv, then-inv}
 use Rattle.trips.proofs.Notes.{note-there}
 use Rattle.trips.proofs.Fixes.{fix-there}
-use Rattle.wider.specs.Wider.{WiderLine, isHead}
+use Rattle.wider.specs.Wider.{WiderLine, isFront}
 use Rattle.wider.specs.Before.{isB, isK, AsBefore}
 use Rattle.wider.proofs.Placed.{Sound}
 use Rattle.wider.proofs.OneLine.{Reading, fix-reading, note-reading, says-same, as-before}
@@ -160,7 +160,7 @@ pub record Telling (f : Family) : Type 0 where
   pub no-c : isC sort ≡ false
   pub no-b : isB sort ≡ false
   pub no-k : isK sort ≡ false
-  pub no-head : isHead sort ≡ false
+  pub no-head : isFront sort ≡ false
   pub leads : (s : ℕ) → stageAfter sort s ≡ leading 2 high next s
   pub rule : (l : List ℕ) (st : State) → ruled sort l st ≡ andThen (layoutLine (firstStart f) l) λ layout. says (into layout st)
 

@@ -1,17 +1,24 @@
 -- Demand 3: added columns change nothing old. What it is to add columns is said in specs/Wider, what it is to read as before in specs/Before. The rooms behind this face: one
--- line (OneLine), the lines one after the other (Simulated), what is kept whatever a file says (Kept), the file (WholeFile). Assumes nothing.
-use Prim.Native.Nat.{ℕ, _≤_}
+-- line (OneLine), the lines one after the other (Simulated), what is kept whatever a file says (Kept), the file (WholeFile); files with added columns (Instances), and
+-- files that are none (NotWider). Assumes nothing.
+use Prim.Native.Nat.{ℕ, _+_, _≤_}
 use mathlib.Core.List.{List}
 use mathlib.Core.Path.{_≡_}
+use native.Mathlib.Omega.{arith}
+use lib.Dec.{lit≤}
 use lib.ListN.{length}
 use Rattle.rules.specs.Refusals.{says}
-use Rattle.rules.specs.Split.{linesOf}
 use Rattle.rules.specs.Files.{verdict}
 use Rattle.rules.specs.declared.Flight.{Flight}
-use Rattle.laws.proofs.Splitting.{textsOf}
+use Rattle.rules.proofs.Computed.{everything, fileOf}
+use Rattle.rules.proofs.Damaged.{fiveLines, verdict-of-five}
+use Rattle.laws.proofs.Counted.{lines-counted}
 use Rattle.wider.specs.Wider.{WiderFile}
 use Rattle.wider.specs.Before.{putIn, ReadsAsBefore}
+use Rattle.wider.proofs.Kept.{lines-more}
 use Rattle.wider.proofs.WholeFile.{reads-as-before}
+use Rattle.wider.proofs.Instances.{told, enlBetween, between, othersMoved, before-and-moved, noColumns, withI, put-i, withJ, put-j, bothLines, bothWidened, both, put-in}
+use Rattle.wider.proofs.NotWider.{five, textChanged, text-changed, valueChanged, value-changed, leftOut, left-out, usedTwice, used-twice, ruleBroken, rule-broken, characterInvalid, character-invalid, wrongPlace, wrong-place}
 
 module _ (file file′ : List ℕ) (room room′ : ℕ) (f : Flight)
     -- take any accepted file
@@ -21,8 +28,25 @@ module _ (file file′ : List ℕ) (room room′ : ℕ) (f : Flight)
     (wider : WiderFile file file′)
     -- and every limit ("A file has 1 to 16,777,216 bytes")
     (limit : length file′ ≤ 16777216)
-    -- and the table's room still hold
-    (table : length (textsOf (linesOf file′)) ≤ room′) where
+    -- and the table's room, for the old lines and the I and J lines that are put in (`putIn wider`, 0 to 2), still hold
+    (fits : f .lines + putIn wider ≤ room′) where
   -- then the new file is accepted, and its first fix, its second and so on read as they did before in every old value and every old column, and so do its K lines
   pub widened : (f′ : Flight) × (verdict file′ room′ ≡ says f′) × ReadsAsBefore file file′ f f′ (putIn wider)
-  widened = reads-as-before file file′ room room′ f accepted wider limit table
+  widened = reads-as-before file file′ room room′ f accepted wider limit (omega (arith, lines-more wider, lines-counted file room f accepted))
+
+-- ---- there are such files, and not every file is one
+
+-- ENL put between FXA and SIU of document 01's file of five lines; ZZZ put first and the old columns in the other order; an I line put in; a J line put in; both changed
+pub instances : WiderFile fiveLines enlBetween × WiderFile fiveLines othersMoved × WiderFile noColumns withI × WiderFile noColumns withJ × WiderFile bothLines bothWidened
+instances = (between, before-and-moved, put-i, put-j, both)
+
+-- so of the first of these all that is claimed above holds
+pub enl-put-in : (f′ : Flight) × (verdict enlBetween 16 ≡ says f′) × ReadsAsBefore fiveLines enlBetween (five "I023638FXA3940SIU") f′ (putIn between)
+unfolding everything fileOf told
+enl-put-in = widened fiveLines enlBetween 16 16 (five "I023638FXA3940SIU") verdict-of-five between (lit≤ tt) (omega (arith, put-in .0))
+
+-- the text of an old column changed; the fix changed; an old column left out; a code used twice; a listed code's text against its rule; an invalid character; the J line
+-- put in before the I line
+pub no-instances : (WiderFile fiveLines textChanged → ⊥) × (WiderFile fiveLines valueChanged → ⊥) × (WiderFile fiveLines leftOut → ⊥) × (WiderFile fiveLines usedTwice → ⊥)
+    × (WiderFile fiveLines ruleBroken → ⊥) × (WiderFile fiveLines characterInvalid → ⊥) × (WiderFile fiveLines wrongPlace → ⊥)
+no-instances = (text-changed, value-changed, left-out, used-twice, rule-broken, character-invalid, wrong-place)

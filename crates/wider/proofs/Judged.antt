@@ -20,7 +20,7 @@ use Rattle.rules.specs.declared.Kind.the-variants as kind
 use Rattle.rules.specs.declared.Flight.{Flight}
 use Rattle.rules.specs.declared.State.{State}
 use Rattle.trips.proofs.Laws.{none-some, refuses-says, false-true, given-inv, need-inv, then-inv, and-inv}
-use Rattle.wider.specs.Wider.{isHead, isPlain}
+use Rattle.wider.specs.Wider.{isFront, isPlain}
 use Rattle.wider.specs.Before.{isB, isK}
 
 -- ---- a line that passes
@@ -195,7 +195,7 @@ unfolding orderOf fitsDeclaration
 order-alike k i j n s st h a = ap (λ o. need (fitsDeclaration (isC k) st) none (λ _. o)) (a .leads k h)
 
 -- a line that is no A and no H line comes after the H lines
-pub after-heads : (k : Kind) (s stage : ℕ) → isHead k ≡ false → stageAfter k s ≡ some stage → 2 ≤ s
+pub after-heads : (k : Kind) (s stage : ℕ) → isFront k ≡ false → stageAfter k s ≡ some stage → 2 ≤ s
 unfolding stageAfter
 after-heads kind.A s stage h e = absurd (false-true (sym h))
 after-heads kind.B s stage h e = leading-out 2 5 5 s stage e .0

@@ -1,17 +1,19 @@
 -- What added columns leave as it is, whatever a file says: the lines without columns; how many lines there are more; the old bits of the presence word. Assumes nothing.
-use Prim.Native.Nat.{ℕ, suc, _+_, _-_, _*_, _^_}
+use Prim.Native.Nat.{ℕ, suc, _+_, _-_, _*_, _^_, _<_}
 use mathlib.Core.Bool.{Bool, true, false, not, _&&_, cond}
 use mathlib.Core.List.{List, [], _∷_}
 use mathlib.Core.Option.{Option, none, some}
 use mathlib.Core.Path.{_≡_, refl, sym, ap, _∙_}
+use native.Mathlib.Nat.{zero-mul, mul-one, pow-suc}
 use native.Mathlib.Omega.{arith}
 use borrow.Author.Tests.{eqb-true}
-use lib.Dec.{eqb}
+use lib.Count.{ones, ones-cat}
+use lib.Dec.{eqb, lit<}
 use lib.ListN.{length, getD, take}
 use lib.Seq.{getD-take}
 use Rattle.rules.specs.Choice.{given}
 use Rattle.rules.specs.Listed.{listed}
-use Rattle.rules.specs.Layouts.{Span, entriesOf, spanOf, look, carries, wordFrom, presenceOf, presenceSaid}
+use Rattle.rules.specs.Layouts.{Span, entriesOf, spanOf, look, carries, bit, wordFrom, presenceOf, presenceSaid}
 use Rattle.rules.specs.Lines.{kindOf}
 use Rattle.rules.specs.Split.{Lines, end, broken, line}
 use Rattle.rules.specs.declared.Entry.{Entry}
@@ -23,8 +25,8 @@ use Rattle.trips.proofs.Laws.{none-some, false-true, given-inv}
 use Rattle.laws.proofs.Splitting.{textsOf}
 use Rattle.laws.proofs.Counted.{tally}
 use Rattle.laws.proofs.Counted as counted
-use Rattle.wider.specs.Wider.{Extends, widthIn, Body, done, same, fix, note, without, changed, put, FromJ, FromI, Wider, head, from}
-use Rattle.wider.specs.Before.{isB, isK, linesWith, addedFrom, MoreBits, putInJ, putInI, putIn}
+use Rattle.wider.specs.Wider.{Extends, widthIn, AfterLayouts, done, same, fix, note, without, changed, put, FromJ, FromI, Wider, head, from}
+use Rattle.wider.specs.Before.{isB, isK, linesWith, addedFrom, addedIn, MoreBits, putInJ, putInI, putIn}
 use Rattle.wider.proofs.Lists.{found-one}
 use Rattle.wider.proofs.Placed.{Sound}
 use Rattle.wider.proofs.Changing.{is-b, is-k, i-line, j-line, told-kind}
@@ -39,7 +41,7 @@ module _ (test : Kind → Bool) (ni : test kind.I ≡ false) (nj : test kind.J �
   skip : (t : List ℕ) (ls : Lines) (k : Kind) → kindOf (getD t 0 0) ≡ k → test k ≡ false → linesWith test (line t ls) ≡ linesWith test ls
   skip t ls k e n = rw (ap test e ∙ n)
 
-  body-others : {i i′ j j′ : Layout} {ls ls′ : Lines} → Body i i′ j j′ ls ls′ → linesWith test ls′ ≡ linesWith test ls
+  body-others : {i i′ j j′ : Layout} {ls ls′ : Lines} → AfterLayouts i i′ j j′ ls ls′ → linesWith test ls′ ≡ linesWith test ls
   body-others done = refl
   body-others (same {t = t} x b) = ap (λ (r : List (List ℕ)). cond (test (kindOf (getD t 0 0))) (t ∷ r) r) (body-others b)
   body-others (fix {t = t} {t′ = t′} {ls = ls} {ls′ = ls′} x w b) =
@@ -65,7 +67,7 @@ module _ (test : Kind → Bool) (ni : test kind.I ≡ false) (nj : test kind.J �
 
 -- ---- the count of lines
 
-body-count : {i i′ j j′ : Layout} {ls ls′ : Lines} → Body i i′ j j′ ls ls′ → length (textsOf ls′) ≡ length (textsOf ls)
+body-count : {i i′ j j′ : Layout} {ls ls′ : Lines} → AfterLayouts i i′ j j′ ls ls′ → length (textsOf ls′) ≡ length (textsOf ls)
 body-count done = refl
 body-count (same x b) = ap suc (body-count b)
 body-count (fix x w b) = ap suc (body-count b)
@@ -105,6 +107,35 @@ ks-tallied = tallied isK counted.isK (elim [ kind.A ↦ refl | kind.B ↦ refl |
 
 -- ---- the presence word
 
+-- the word from its highest bit down, and how many bits are set
+horner : Layout → List Listed → ℕ
+horner l [] = 0
+horner l (r ∷ rs) = horner l rs * 2 + bit l r
+
+set-bits : Layout → List Listed → ℕ
+set-bits l [] = 0
+set-bits l (r ∷ rs) = bit l r + set-bits l rs
+
+word-horner : (l : Layout) (rs : List Listed) (n : ℕ) → wordFrom l rs n ≡ horner l rs * 2 ^ n
+unfolding wordFrom horner
+word-horner l [] n = sym (zero-mul (2 ^ n))
+word-horner l (r ∷ rs) n = rw (word-horner l rs (suc n), pow-suc) (omega arith)
+
+small : (b : Bool) → (cond b 1 0 < 2) × (ones (cond b 1 0) ≡ cond b 1 0)
+unfolding ones
+small true = (lit< tt, refl)
+small false = (lit< tt, refl)
+
+ones-horner : (l : Layout) (rs : List Listed) → ones (horner l rs) ≡ set-bits l rs
+unfolding ones horner set-bits
+ones-horner l [] = refl
+ones-horner l (r ∷ rs) =
+    let b = small (carries l (r .code)) in
+    ones-cat 1 (horner l rs) (bit l r) (b .0) ∙ omega (arith, ones-horner l rs, b .1)
+
+count-bits : (l : Layout) → ones (wordFrom l listed 0) ≡ set-bits l listed
+count-bits l = ap ones (word-horner l listed 0 ∙ mul-one (horner l listed)) ∙ ones-horner l listed
+
 module _ (old new : Layout) (x : Extends old new) where
   -- what the old layout carries, the new one carries
   pub carried : (c : ℕ) → carries old c ≡ true → carries new c ≡ true
@@ -132,6 +163,18 @@ module _ (old new : Layout) (x : Extends old new) where
       go false true h e = omega arith
       go false false h e = omega arith
 
+  more-set : (rows : List Listed) → set-bits new rows ≡ set-bits old rows + addedIn old new rows
+  unfolding set-bits addedIn
+  more-set [] = refl
+  more-set (r ∷ rs) = go (carries old (r .code)) (carries new (r .code)) (carried (r .code)) (more-set rs)
+    where
+      go : (a b : Bool) → (a ≡ true → b ≡ true) → set-bits new rs ≡ set-bits old rs + addedIn old new rs
+          → cond b 1 0 + set-bits new rs ≡ (cond a 1 0 + set-bits old rs) + (cond (b && not a) 1 0 + addedIn old new rs)
+      go true true h e = omega arith
+      go true false h e = absurd (false-true (h refl))
+      go false true h e = omega arith
+      go false false h e = omega arith
+
   pub presence-more : Sound 36 old → Sound 36 new → MoreBits old new
   unfolding presenceSaid presenceOf
   presence-more s s′ = record {
@@ -140,4 +183,5 @@ module _ (old new : Layout) (x : Extends old new) where
     old-said = rw (s .right);
     new-said = rw (s′ .right);
     word = more-bits listed 0;
+    count = count-bits new ∙ more-set listed ∙ ap (λ n. n + addedIn old new listed) (sym (count-bits old));
   }

@@ -6,6 +6,6 @@ pub mod Changing
 pub mod Simulated
 pub mod Kept
 pub mod WholeFile
-pub mod Demand
 pub mod Instances
 pub mod NotWider
+pub mod Demand

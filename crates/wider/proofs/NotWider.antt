@@ -23,7 +23,7 @@ use Rattle.trips.proofs.Laws.{refuses-says}
 use Rattle.laws.proofs.Splitting.{textsOf}
 use Rattle.wider.specs.Wider.{WiderFile}
 use Rattle.wider.specs.Before.{fixLine, textSaid}
-use Rattle.wider.proofs.Demand.{widened}
+use Rattle.wider.proofs.WholeFile.{reads-as-before}
 use Rattle.wider.proofs.Instances.{told}
 
 -- ---- what such a file must be
@@ -34,12 +34,12 @@ five i = record { date = record { day = 15; month = 7; year = 2024 }; fixes = to
 
 module _ (file′ : List ℕ) (long : length file′ ≤ 16777216) (fits : length (textsOf (linesOf file′)) ≤ 16) (w : WiderFile fiveLines file′) where
   is-accepted : (n l b : ℕ) → verdict file′ 16 ≡ refuses n l b → ⊥
-  is-accepted n l b e = refuses-says (sym e ∙ widened fiveLines file′ 16 16 _ verdict-of-five w long fits .1)
+  is-accepted n l b e = refuses-says (sym e ∙ reads-as-before fiveLines file′ 16 16 _ verdict-of-five w long fits .1)
 
   -- its first fix is read as before
   first-fix : (f : Flight) → verdict file′ 16 ≡ says f → fixSaid (fixLine file′ 0) (f .fixes) ≡ fixSaid (fixLine fiveLines 0) fiveLayout
   first-fix f e =
-      let x = widened fiveLines file′ 16 16 _ verdict-of-five w long fits in
+      let x = reads-as-before fiveLines file′ 16 16 _ verdict-of-five w long fits in
       let a = x .2 .fixes 0 (lit< tt) in
       let i : x .0 ≡ f = cc (x .1) in
       subst (λ (g : Flight). fixSaid (fixLine file′ 0) (g .fixes) ≡ says (a .value)) i (a .after) ∙ sym (a .before)
@@ -48,7 +48,7 @@ module _ (file′ : List ℕ) (long : length file′ ≤ 16777216) (fits : lengt
   first-column : (f : Flight) (name : List ℕ) → verdict file′ 16 ≡ says f → carries fiveLayout (packedOf name) ≡ true
       → textSaid (fixLine file′ 0) (f .fixes) name ≡ textSaid (fixLine fiveLines 0) fiveLayout name
   first-column f name e c =
-      let x = widened fiveLines file′ 16 16 _ verdict-of-five w long fits in
+      let x = reads-as-before fiveLines file′ 16 16 _ verdict-of-five w long fits in
       let a = x .2 .fixes 0 (lit< tt) .text name c in
       let i : x .0 ≡ f = cc (x .1) in
       subst (λ (g : Flight). textSaid (fixLine file′ 0) (g .fixes) name ≡ says (a .0)) i (a .2) ∙ sym (a .1)

@@ -32,7 +32,7 @@ use Rattle.trips.proofs.Positions.{latitude-trip, longitude-trip}
 use Rattle.trips.proofs.Altitudes.{altitude-trip}
 use Rattle.trips.proofs.Notes.{note-there, note-trip}
 use Rattle.trips.proofs.Fixes.{fix-there, fix-trip}
-use Rattle.wider.specs.Wider.{Each, textIn, Meets, WiderLine}
+use Rattle.wider.specs.Wider.{Each, textIn, KeepsRules, WiderLine}
 use Rattle.wider.specs.Before.{textSaid, AsBefore}
 use Rattle.wider.proofs.Lists.{each-map, each-both, nothing-found, none-passes, found-one}
 use Rattle.wider.proofs.Placed.{Sound, own, columns-valid}
@@ -92,7 +92,7 @@ module _ (start : ℕ) (old new : Layout) (l l′ : List ℕ) (w : WiderLine sta
     unfolding carries
     new-meets = each-both _ _ _ (λ e look-e added-e. go e look-e added-e (look old (e .code)) refl) (entriesOf new) (own start new sound) (w .added)
       where
-        go : (e : Entry) → look new (e .code) ≡ some (spanOf e) → (carries old (e .code) ≡ false → Meets (e .code) (columnText l′ (spanOf e)))
+        go : (e : Entry) → look new (e .code) ≡ some (spanOf e) → (carries old (e .code) ≡ false → KeepsRules (e .code) (columnText l′ (spanOf e)))
             → (f : Option Span) → look old (e .code) ≡ f → (areValid (columnText l′ (spanOf e)) ≡ true) × (keepsRule (e .code) (columnText l′ (spanOf e)) ≡ true)
         go e a b none h = let m = b (rw h) in (valid-there _ (m .valid), m .rule)
         go e a b (some s) h =

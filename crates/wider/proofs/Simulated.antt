@@ -24,7 +24,7 @@ use Rattle.trips.proofs.Laws.{refuses-says, false-true, need-inv, then-inv}
 use Rattle.laws.proofs.Chains.{surely}
 use Rattle.laws.proofs.Splitting.{textsOf}
 use Rattle.laws.proofs.Counted.{OneMore, judge-counts}
-use Rattle.wider.specs.Wider.{Extends, isHead, isPlain, Body, done, same, fix, note, without, changed, put, FromJ, FromI, Wider, head, from}
+use Rattle.wider.specs.Wider.{Extends, isFront, isPlain, AfterLayouts, done, same, fix, note, without, changed, put, FromJ, FromI, Wider, head, from}
 use Rattle.wider.specs.Before.{isB, isK, linesWith, AsBefore}
 use Rattle.wider.proofs.Lists.{Pairs}
 use Rattle.wider.proofs.Placed.{Sound, sound-line, sound-empty}
@@ -59,7 +59,7 @@ passed-line room i i′ j j′ f ls ls′ ms st after t′ g n h r x y = record 
 
 -- ---- after the layout lines
 
-plain-is : (k : Kind) → isPlain k ≡ true → (isB k ≡ false) × (isK k ≡ false) × (isBody k ≡ true) × (isHead k ≡ false)
+plain-is : (k : Kind) → isPlain k ≡ true → (isB k ≡ false) × (isK k ≡ false) × (isBody k ≡ true) × (isFront k ≡ false)
 plain-is kind.A h = absurd (false-true h)
 plain-is kind.B h = absurd (false-true h)
 plain-is kind.C h = (refl, refl, refl, refl)
@@ -94,7 +94,7 @@ module _ (room room′ : ℕ) (f : Flight) where
       }
 
   module _ (i i′ j j′ : Layout) (si : Sound 36 i) (si′ : Sound 36 i′) (sj : Sound 8 j) (sj′ : Sound 8 j′) where
-    body : {ls ls′ : Lines} → Body i i′ j j′ ls ls′ → (st : State) (s n : ℕ) → st .flight .fixes ≡ i → st .flight .notes ≡ j → Alike (st .stage) s
+    body : {ls ls′ : Lines} → AfterLayouts i i′ j j′ ls ls′ → (st : State) (s n : ℕ) → st .flight .fixes ≡ i → st .flight .notes ≡ j → Alike (st .stage) s
         → n + length (textsOf ls′) ≤ room′ → run room st ls ≡ says f → Passed room′ (wide i′ j′ n (staged s st)) i i′ j j′ ls ls′ f
     body done st s n p q a m h = at-end i i′ j j′ st s n p q a h
     body (same {t = t} {ls = ls} {ls′ = ls′} x b) st s n p q a m h =
@@ -167,17 +167,17 @@ module _ (room room′ : ℕ) (f : Flight) (i i′ : Layout) (si : Sound 36 i) (
 abbrev NotHead : Lines → Type 0
 NotHead end = Unit {0}
 NotHead (broken n) = Unit {0}
-NotHead (line t ls) = isHead (kindOf (getD t 0 0)) ≡ false
+NotHead (line t ls) = isFront (kindOf (getD t 0 0)) ≡ false
 
-body-later : {i i′ j j′ : Layout} {ls ls′ : Lines} → Body i i′ j j′ ls ls′ → NotHead ls
+body-later : {i i′ j j′ : Layout} {ls ls′ : Lines} → AfterLayouts i i′ j j′ ls ls′ → NotHead ls
 body-later done = tt
 body-later (same {t = t} x b) = plain-is (kindOf (getD t 0 0)) x .3
-body-later (fix x w b) = ap isHead (ap kindOf x ∙ is-b)
-body-later (note x w b) = ap isHead (ap kindOf x ∙ is-k)
+body-later (fix x w b) = ap isFront (ap kindOf x ∙ is-b)
+body-later (note x w b) = ap isFront (ap kindOf x ∙ is-k)
 
 fromJ-later : {i i′ : Layout} {ls ls′ : Lines} → FromJ i i′ ls ls′ → NotHead ls
 fromJ-later (without b) = body-later b
-fromJ-later (changed {t = t} {old = j} e e′ x b) = ap isHead (told-kind j-line t j e)
+fromJ-later (changed {t = t} {old = j} e e′ x b) = ap isFront (told-kind j-line t j e)
 fromJ-later (put e′ b) = body-later b
 
 -- what is no A and no H line, and neither is the end, comes after the H lines
@@ -234,7 +234,7 @@ module _ (room room′ : ℕ) (f : Flight) where
       let g = told-after i-line t i e st (u .0) (u .1) in
       let k = told-kind i-line t i e in
       let k′ = told-kind i-line t′ i′ e′ in
-      let a = heads-over room (line t ls) st f (ap isHead k) h in
+      let a = heads-over room (line t ls) st f (ap isFront k) h in
       let new = told-passes i-line t′ i′ e′ st (y .points) a (y .stage) in
       let so = sound-line family.B t i e in
       let so′ = sound-line family.B t′ i′ e′ in
@@ -276,7 +276,7 @@ module _ (room room′ : ℕ) (f : Flight) where
 
 -- ---- the A line and the H lines
 
-early-next : (k : Kind) (t : List ℕ) (st after : State) → isHead k ≡ true → Judged k t st after → Early st → Early after × (isB k ≡ false) × (isK k ≡ false)
+early-next : (k : Kind) (t : List ℕ) (st after : State) → isFront k ≡ true → Judged k t st after → Early st → Early after × (isB k ≡ false) × (isK k ≡ false)
 unfolding ruled stageAfter
 early-next kind.A t st after x g y =
     let n = leading-out 0 0 1 (st .stage) (g .stage) (order-stage kind.A st (g .stage) (g .order)) .2 in

@@ -1,4 +1,4 @@
--- To read as before: the lines of a file by their kinds, one line by its layout against another by its, and all that two files have in common where one has more columns.
+-- Demand 3, to read as before: the lines of a file by their kinds, one line by its layout against another by its, and all that two files have in common where one has more columns.
 use Prim.Native.Nat.{ℕ, suc, _+_, _*_, _^_, _<_}
 use mathlib.Core.Bool.{Bool, true, false, not, _&&_, cond}
 use mathlib.Core.List.{List, [], _∷_}
@@ -21,12 +21,15 @@ use Rattle.wider.specs.Wider.{FromI, FromJ, Wider, without, changed, put
 
 -- ---- the lines by their kinds
 
+-- "B: time 2 to 7; .."
 abbrev pub isB : Kind → Bool
 isB = elim [ kind.A ↦ false | kind.B ↦ true | kind.C ↦ false | kind.D ↦ false | kind.E ↦ false | kind.F ↦ false | kind.G ↦ false | kind.H ↦ false | kind.I ↦ false | kind.J ↦ false | kind.K ↦ false | kind.L ↦ false | kind.Other ↦ false | kind.NoKind ↦ false ]
 
+-- "E: time, 3 code characters, text."
 abbrev pub isE : Kind → Bool
 isE = elim [ kind.A ↦ false | kind.B ↦ false | kind.C ↦ false | kind.D ↦ false | kind.E ↦ true | kind.F ↦ false | kind.G ↦ false | kind.H ↦ false | kind.I ↦ false | kind.J ↦ false | kind.K ↦ false | kind.L ↦ false | kind.Other ↦ false | kind.NoKind ↦ false ]
 
+-- "K: time 2 to 7, columns from 8."
 abbrev pub isK : Kind → Bool
 isK = elim [ kind.A ↦ false | kind.B ↦ false | kind.C ↦ false | kind.D ↦ false | kind.E ↦ false | kind.F ↦ false | kind.G ↦ false | kind.H ↦ false | kind.I ↦ false | kind.J ↦ false | kind.K ↦ true | kind.L ↦ false | kind.Other ↦ false | kind.NoKind ↦ false ]
 
@@ -64,13 +67,20 @@ unfoldable pub addedFrom : Layout → Layout → List Listed → ℕ → ℕ
 addedFrom old new [] n = 0
 addedFrom old new (r ∷ rs) n = cond (carries new (r .code) && not (carries old (r .code))) 1 0 * 2 ^ n + addedFrom old new rs (suc n)
 
--- Both layouts have a presence word, and the new one has the old bits and those of the listed codes added.
+-- and how many they are
+unfoldable pub addedIn : Layout → Layout → List Listed → ℕ
+addedIn old new [] = 0
+addedIn old new (r ∷ rs) = cond (carries new (r .code) && not (carries old (r .code))) 1 0 + addedIn old new rs
+
+-- "One u32 word tells which listed codes an I line carries, a bit for each number, with the count of those columns": both layouts have one, the new one has the old bits
+-- and those of the listed codes added, and counts the added columns beside the old.
 pub record MoreBits (old new : Layout) : Type 0 where
   pub before : Presence
   pub after : Presence
   pub old-said : presenceSaid old ≡ says before
   pub new-said : presenceSaid new ≡ says after
   pub word : after .word ≡ before .word + addedFrom old new listed 0
+  pub count : after .count ≡ before .count + addedIn old new listed
 
 -- ---- the file
 

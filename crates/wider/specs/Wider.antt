@@ -1,4 +1,4 @@
--- To add columns to the B lines or the K lines of a file: which lines may differ, and what each of them must still say.
+-- Demand 3, to add columns to the B lines or the K lines of a file: which lines may differ, and what each of them must still say.
 use Prim.Native.Nat.{ℕ, _+_, _-_}
 use Prim.Native.Char.{code}
 use mathlib.Core.Bool.{Bool, true, false}
@@ -32,8 +32,8 @@ Each P (x ∷ xs) = P x × Each P xs
 unfoldable pub widthIn : Layout → ℕ → Option ℕ
 widthIn layout x = given (look layout x) none λ s. some (s .last + 1 - s .first)
 
--- The new layout has every column of the old one, as wide as it was, "anywhere among the old columns, which may also move". Its other columns are the added ones:
--- "different codes, none yet in that layout", for no code comes twice in one layout (11).
+-- Demand 3: the new layout has every column of the old one, as wide as it was, at any place. Its other columns are the added ones; their codes are different, and none
+-- is in the old layout, since "No code comes twice in one layout."
 abbrev pub Extends : Layout → Layout → Type 0
 Extends old new = Each (λ (e : Entry). widthIn new (e .code) ≡ widthIn old (e .code)) (entriesOf old)
 
@@ -43,37 +43,37 @@ Extends old new = Each (λ (e : Entry). widthIn new (e .code) ≡ widthIn old (e
 unfoldable pub textIn : Layout → List ℕ → ℕ → Option (List ℕ)
 textIn layout l x = given (look layout x) none λ s. some (columnText l s)
 
--- "the added text meets its rules": its characters are valid in that line (8), and a listed code's rule is kept (13)
-pub record Meets (x : ℕ) (text : List ℕ) : Type 0 where
+-- Demand 3: the text of an added column has characters that are valid in that line (8), and keeps the rule of a listed code (13)
+pub record KeepsRules (x : ℕ) (text : List ℕ) : Type 0 where
   pub valid : characters false text ≡ says tt
   pub rule : keepsRule x text ≡ true
 
 -- Line l by the old layout, and l′ by the new one: the fields before the columns are as they were, l′ is as long as the new layout gives, every old column has its
--- old text, and every added one meets the rules.
+-- old text, and every added one keeps the rules.
 pub record WiderLine (start : ℕ) (old new : Layout) (l l′ : List ℕ) : Type 0 where
   pub fields : take (byte start) l′ ≡ take (byte start) l
   pub long : length l′ ≡ lineLength start new
   pub kept : Each (λ (e : Entry). textIn new l′ (e .code) ≡ textIn old l (e .code)) (entriesOf old)
-  pub added : Each (λ (e : Entry). carries old (e .code) ≡ false → Meets (e .code) (columnText l′ (spanOf e))) (entriesOf new)
+  pub added : Each (λ (e : Entry). carries old (e .code) ≡ false → KeepsRules (e .code) (columnText l′ (spanOf e))) (entriesOf new)
 
 -- ---- the lines of a file, in the order of their kinds
 
 -- "Line 1 is A, line 2 is H, then further H lines"
-abbrev pub isHead : Kind → Bool
-isHead = elim [ kind.A ↦ true | kind.B ↦ false | kind.C ↦ false | kind.D ↦ false | kind.E ↦ false | kind.F ↦ false | kind.G ↦ false | kind.H ↦ true | kind.I ↦ false | kind.J ↦ false | kind.K ↦ false | kind.L ↦ false | kind.Other ↦ false | kind.NoKind ↦ false ]
+abbrev pub isFront : Kind → Bool
+isFront = elim [ kind.A ↦ true | kind.B ↦ false | kind.C ↦ false | kind.D ↦ false | kind.E ↦ false | kind.F ↦ false | kind.G ↦ false | kind.H ↦ true | kind.I ↦ false | kind.J ↦ false | kind.K ↦ false | kind.L ↦ false | kind.Other ↦ false | kind.NoKind ↦ false ]
 
 -- the lines after the layout lines that have no columns
 abbrev pub isPlain : Kind → Bool
 isPlain = elim [ kind.A ↦ false | kind.B ↦ false | kind.C ↦ true | kind.D ↦ true | kind.E ↦ true | kind.F ↦ true | kind.G ↦ true | kind.H ↦ false | kind.I ↦ false | kind.J ↦ false | kind.K ↦ false | kind.L ↦ true | kind.Other ↦ true | kind.NoKind ↦ false ]
 
 -- After the layout lines: B lines are widened from layout i to i′, K lines from j to j′, the others stay.
-pub data Body (i i′ j j′ : Layout) : Lines → Lines → Type 0 where
-  done : Body i i′ j j′ end end
-  same : {t : List ℕ} {ls ls′ : Lines} → isPlain (kindOf (getD t 0 0)) ≡ true → Body i i′ j j′ ls ls′ → Body i i′ j j′ (line t ls) (line t ls′)
-  fix : {t t′ : List ℕ} {ls ls′ : Lines} → getD t 0 0 ≡ code "B" → WiderLine (firstStart family.B) i i′ t t′ → Body i i′ j j′ ls ls′
-      → Body i i′ j j′ (line t ls) (line t′ ls′)
-  note : {t t′ : List ℕ} {ls ls′ : Lines} → getD t 0 0 ≡ code "K" → WiderLine (firstStart family.K) j j′ t t′ → Body i i′ j j′ ls ls′
-      → Body i i′ j j′ (line t ls) (line t′ ls′)
+pub data AfterLayouts (i i′ j j′ : Layout) : Lines → Lines → Type 0 where
+  done : AfterLayouts i i′ j j′ end end
+  same : {t : List ℕ} {ls ls′ : Lines} → isPlain (kindOf (getD t 0 0)) ≡ true → AfterLayouts i i′ j j′ ls ls′ → AfterLayouts i i′ j j′ (line t ls) (line t ls′)
+  fix : {t t′ : List ℕ} {ls ls′ : Lines} → getD t 0 0 ≡ code "B" → WiderLine (firstStart family.B) i i′ t t′ → AfterLayouts i i′ j j′ ls ls′
+      → AfterLayouts i i′ j j′ (line t ls) (line t′ ls′)
+  note : {t t′ : List ℕ} {ls ls′ : Lines} → getD t 0 0 ≡ code "K" → WiderLine (firstStart family.K) j j′ t t′ → AfterLayouts i i′ j j′ ls ls′
+      → AfterLayouts i i′ j j′ (line t ls) (line t′ ls′)
 
 -- At the place of the I line, or of the J line: there is none before and after; or it is changed in place; or, where there was none, it is put in.
 pub data LayoutLine (f : Family) (Rest : Layout → Layout → Lines → Lines → Type 0) : Lines → Lines → Type 0 where
@@ -83,14 +83,14 @@ pub data LayoutLine (f : Family) (Rest : Layout → Layout → Lines → Lines �
   put : {t′ : List ℕ} {new : Layout} {ls ls′ : Lines} → layoutSaid f t′ ≡ says new → Rest emptyLayout new ls ls′ → LayoutLine f Rest ls (line t′ ls′)
 
 abbrev pub FromJ : Layout → Layout → Lines → Lines → Type 0
-FromJ i i′ = LayoutLine family.K (Body i i′)
+FromJ i i′ = LayoutLine family.K (AfterLayouts i i′)
 
 abbrev pub FromI : Lines → Lines → Type 0
 FromI = LayoutLine family.B FromJ
 
 -- The lines of a file, and those of one with added columns: the A line and the H lines stay; then "at most one I, then at most one J"; then the other lines.
 pub data Wider : Lines → Lines → Type 0 where
-  head : {t : List ℕ} {ls ls′ : Lines} → isHead (kindOf (getD t 0 0)) ≡ true → Wider ls ls′ → Wider (line t ls) (line t ls′)
+  head : {t : List ℕ} {ls ls′ : Lines} → isFront (kindOf (getD t 0 0)) ≡ true → Wider ls ls′ → Wider (line t ls) (line t ls′)
   from : {ls ls′ : Lines} → FromI ls ls′ → Wider ls ls′
 
 -- file′ is file with columns added

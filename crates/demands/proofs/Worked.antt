@@ -1,0 +1,206 @@
+-- The grammar by itself, with no check of a file: document 01's file of five lines is put together by hand; and what follows a G line in any file that meets it.
+-- Assumes nothing.
+use Prim.Native.Nat.{ℕ}
+use Prim.Native.Char.{code}
+use mathlib.Core.Bool.{Bool, true, not, _&&_}
+use mathlib.Core.List.{List, [], _∷_, _++_, append-assoc}
+use mathlib.Core.Logic.{_⊎_, inl, inr}
+use mathlib.Core.Path.{_≡_, refl, _∙_, ap, subst}
+use native.Mathlib.Omega.{arith}
+use borrow.Author.Tests.{eqb-false, not-true}
+use lib.Dec.{eqb, lit≤}
+use lib.IntN.{pos}
+use lib.ListN.{getD, drop}
+use Rattle.rules.specs.Choice.{bytes}
+use Rattle.rules.specs.Degrees.{isPosition}
+use Rattle.rules.specs.Layouts.{emptyLayout}
+use Rattle.rules.specs.Writes.{headText, pointText}
+use Rattle.rules.specs.declared.Entry.{Entry}
+use Rattle.rules.specs.declared.Layout.{Layout}
+use Rattle.rules.specs.declared.Family.{Family}
+use Rattle.rules.specs.declared.Family.the-variants as family
+use Rattle.rules.specs.declared.Fix.{Fix}
+use Rattle.rules.proofs.Computed.{everything, fileOf}
+use Rattle.rules.proofs.Damaged.{fiveLines, fiveLayout}
+use Rattle.trips.specs.Limits.{isAltitude, goodFixFields}
+use Rattle.trips.proofs.Laws.{and-inv}
+use Rattle.trips.proofs.Texts.{areValid}
+use Rattle.demands.specs.Grammar.{Each, IsText, july, AtMostOne, absent, given, Timed, fix, event, satellites, note, Untimed, differential, remark, other, Items, done, timed, untimed, Body, undeclared, declared, none, column, linesIn, Meets, written}
+use Rattle.demands.proofs.Laws.{each-map, each-join, each-cut, are-valid}
+use Rattle.demands.proofs.Rows.{width-exactly, rule-exactly}
+use Rattle.demands.proofs.Valued.{b-letter, k-letter}
+
+-- ---- the file of five lines
+
+-- neither CR nor LF, as a test
+isText : List ℕ → Bool
+isText [] = true
+isText (b ∷ l) = not (eqb b 13) && not (eqb b 10) && isText l
+
+text-there : (l : List ℕ) → isText l ≡ true → IsText l
+unfolding isText
+text-there [] e = tt
+text-there (b ∷ l) e =
+    let h = and-inv (not (eqb b 13) && not (eqb b 10)) (isText l) e in
+    let g = and-inv (not (eqb b 13)) (not (eqb b 10)) (h .0) in
+    ((eqb-false b 13 (not-true _ (g .0)), eqb-false b 10 (not-true _ (g .1))), text-there l (h .1))
+
+fxa : Entry
+fxa = record { first = 36; last = 38; code = 0x465841 }
+
+siu : Entry
+siu = record { first = 39; last = 40; code = 0x534955 }
+
+theFix : Fix
+theFix = record {
+  time = 43200;
+  lat = record { count = 3090000; letter = code "N" };
+  lon = record { count = 15000; letter = code "W" };
+  validity = code "A";
+  pressure = record { metres = pos 100 };
+  gnss = record { metres = pos 120 };
+}
+
+pub five-meet : Meets fiveLines
+unfolding everything fileOf written isText areValid fxa siu theFix goodFixFields isPosition isAltitude
+five-meet = record {
+  least = lit≤ tt;
+  most = lit≤ tt;
+  parts = record {
+    recorder = bytes "AXYZ001";
+    day = bytes "HFDTE150724";
+    headers = [];
+    fixLayout = bytes "I023638FXA3940SIU" ∷ [];
+    noteLayout = [];
+    body = bytes "B1200005130000N00015000WA001000012001208" ∷ [];
+    seal = bytes "GABC" ∷ [];
+    remarks = [];
+  };
+  bytes = refl;
+  texts = (
+    text-there (bytes "AXYZ001") refl,
+    (
+      text-there (bytes "HFDTE150724") refl,
+      (
+        text-there (bytes "I023638FXA3940SIU") refl,
+        (text-there (bytes "B1200005130000N00015000WA001000012001208") refl, (text-there (bytes "GABC") refl, tt)),
+      ),
+    ),
+  );
+  date = record { day = 15; month = 7; year = 2024 };
+  fixes = fiveLayout;
+  notes = emptyLayout;
+  times = 43200 ∷ [];
+  keeps = record {
+    recorder = record {
+      letter = refl;
+      shape = record { long = lit≤ tt; short = lit≤ tt; valid = are-valid (bytes "AXYZ001") refl };
+      maker = refl;
+      serial = refl;
+    };
+    day = record { text = refl; day = record { from = lit≤ tt; to = lit≤ tt; days = 31; month = july; low = lit≤ tt; high = lit≤ tt } };
+    headers = tt;
+    fixLayout = given (record {
+      entries = fxa ∷ siu ∷ [];
+      tiles = (
+        record { starts = refl; ends = lit≤ tt; spelt = lit≤ tt; word = refl; wide = width-exactly 0x465841 3 .0 refl },
+        ((λ e. omega arith), tt),
+        (record { starts = refl; ends = lit≤ tt; spelt = lit≤ tt; word = refl; wide = width-exactly 0x534955 2 .0 refl }, tt, tt),
+      );
+      text = refl;
+      short = lit≤ tt;
+      slots = refl;
+    });
+    noteLayout = absent;
+    body = undeclared (timed (fix theFix refl (record {
+      tail = bytes "01208";
+      text = refl;
+      fields = refl;
+      columns = column (bytes "012") refl (are-valid (bytes "012") refl) (rule-exactly 0x465841 (bytes "012") .0 refl)
+          (column (bytes "08") refl (are-valid (bytes "08") refl) (rule-exactly 0x534955 (bytes "08") .0 refl) none);
+    })) done);
+    order = tt;
+    seal = (record { letter = refl; shape = record { long = lit≤ tt; short = lit≤ tt; valid = are-valid (bytes "GABC") refl } }, tt);
+    sealed = lit≤ tt;
+    remarks = tt;
+  };
+}
+
+-- ---- "So a B after G is refused, as 000 A2.3.1 demands."
+
+-- a line of another kind than G
+abbrev NoG : List ℕ → Type 0
+NoG l = getD l 0 0 ≡ code "G" → ⊥
+
+-- a G line or an L line
+abbrev SealOrRemark : List ℕ → Type 0
+SealOrRemark l = (getD l 0 0 ≡ code "G") ⊎ (getD l 0 0 ≡ code "L")
+
+layout-no-g : (f : Family) {layout : Layout} {ls : List (List ℕ)} → AtMostOne f layout ls → Each NoG ls
+layout-no-g f absent = tt
+layout-no-g family.B (given w) = ((λ g. let e = ap (λ x. getD x 0 0) (w .text) in omega arith), tt)
+layout-no-g family.K (given w) = ((λ g. let e = ap (λ x. getD x 0 0) (w .text) in omega arith), tt)
+
+untimed-no-g : (l : List ℕ) → Untimed l → NoG l
+untimed-no-g l (differential w) g = omega (arith, w .letter)
+untimed-no-g l (remark w) g = omega (arith, w .letter)
+untimed-no-g l (other w) g = omega (arith, w .from)
+
+module _ {fixes notes : Layout} where
+  timed-no-g : {t : ℕ} (l : List ℕ) → Timed fixes notes t l → NoG l
+  timed-no-g l (fix f i w) g = let e = b-letter fixes f l w in omega arith
+  timed-no-g l (event w) g = let e = ap (λ x. getD x 0 0) (w .text) in omega arith
+  timed-no-g l (satellites w) g = let e = ap (λ x. getD x 0 0) (w .text) in omega arith
+  timed-no-g {t} l (note w) g = let e = k-letter notes t l w in omega arith
+
+  items-no-g : {ls : List (List ℕ)} {ts : List ℕ} → Items fixes notes ls ts → Each NoG ls
+  items-no-g done = tt
+  items-no-g (timed {l = l} w r) = (timed-no-g l w, items-no-g r)
+  items-no-g (untimed {l = l} w r) = (untimed-no-g l w, items-no-g r)
+
+  body-no-g : {ls : List (List ℕ)} {ts : List ℕ} → Body fixes notes ls ts → Each NoG ls
+  unfolding headText pointText
+  body-no-g (undeclared i) = items-no-g i
+  body-no-g (declared before hd points after h i no-b w ps c j) =
+      each-join NoG before (hd ∷ (points ++ after)) (items-no-g i) (
+        (λ g. let e = ap (λ x. getD x 0 0) (w .text) in omega arith),
+        each-join NoG points after (each-map points (λ l v g. let e = ap (λ x. getD x 0 0) (v .text) in omega arith) ps) (items-no-g j),
+      )
+
+-- where no line of the front is a G line, what stands behind a G line stands behind the front
+behind-front : (front back before : List (List ℕ)) (g : List ℕ) (after : List (List ℕ)) → Each NoG front → getD g 0 0 ≡ code "G"
+    → front ++ back ≡ before ++ (g ∷ after) → (between : List (List ℕ)) × (back ≡ between ++ (g ∷ after))
+behind-front [] back before g after n k e = (before, e)
+behind-front (l ∷ front) back [] g after n k e = absurd (n .0 (ap (λ x. getD (getD x 0 []) 0 0) e ∙ k))
+behind-front (l ∷ front) back (b ∷ before) g after n k e = behind-front front back before g after (n .1) k (ap (drop 1) e)
+
+-- behind a G line only G and L lines come
+after-g : {file : List ℕ} (m : Meets file) (before : List (List ℕ)) (g : List ℕ) (after : List (List ℕ)) → linesIn (m .parts) ≡ before ++ (g ∷ after)
+    → getD g 0 0 ≡ code "G" → Each SealOrRemark after
+after-g m before g after e k =
+    let p = m .parts in
+    let w = m .keeps in
+    let front : List (List ℕ) = p .recorder ∷ p .day ∷ (p .headers ++ (p .fixLayout ++ (p .noteLayout ++ p .body))) in
+    let back : List (List ℕ) = p .seal ++ p .remarks in
+    let n : Each NoG front = (
+      (λ z. omega (arith, w .recorder .letter)),
+      (
+        (λ z. let i = ap (λ x. getD x 0 0) (w .day .text) in omega arith),
+        each-join NoG (p .headers) _ (each-map (p .headers) (λ l h z. omega (arith, h .letter)) (w .headers))
+            (each-join NoG (p .fixLayout) _ (layout-no-g family.B (w .fixLayout))
+            (each-join NoG (p .noteLayout) (p .body) (layout-no-g family.K (w .noteLayout)) (body-no-g (w .body)))),
+      ),
+    ) in
+    let i : front ++ back ≡ linesIn p = simp append-assoc in
+    let s = behind-front front back before g after n k (i ∙ e) in
+    let b : Each SealOrRemark back =
+    each-join SealOrRemark (p .seal) (p .remarks) (each-map (p .seal) (λ l h. inl (h .letter)) (w .seal)) (each-map (p .remarks) (λ l h. inr (h .letter)) (w .remarks)) in
+    each-cut SealOrRemark (s .0) (g ∷ after) (subst (Each SealOrRemark) (s .1) b) .1 .1
+
+pub no-b-after-g : {file : List ℕ} (m : Meets file) (before : List (List ℕ)) (g : List ℕ) (after : List (List ℕ)) → linesIn (m .parts) ≡ before ++ (g ∷ after)
+    → getD g 0 0 ≡ code "G" → Each (λ l. getD l 0 0 ≡ code "B" → ⊥) after
+no-b-after-g m before g after e k = each-map after no-b (after-g m before g after e k)
+  where
+    no-b : (l : List ℕ) → SealOrRemark l → getD l 0 0 ≡ code "B" → ⊥
+    no-b l (inl i) b = omega arith
+    no-b l (inr i) b = omega arith
