@@ -2,7 +2,7 @@
 use Prim.Native.Nat.{ℕ, zero, suc, _+_, _-_, _/_, _%_, _^_, _≤_, _<_}
 use mathlib.Core.Bool.{Bool, true, false, cond}
 use mathlib.Core.List.{List, [], _∷_, _++_, map, append-assoc}
-use mathlib.Core.Path.{_≡_, refl, sym, _∙_, ap}
+use mathlib.Core.Path.{_≡_, refl, sym, _∙_, ap, ap₂}
 use native.Mathlib.Nat.{min-le-left, add-zero, zero-add, div-lt-iff-lt-mul, pow-suc}
 use native.Mathlib.Numerals.{add-one}
 use native.Mathlib.Omega.{arith}
@@ -29,18 +29,27 @@ sets-append l at (x ∷ a) b =
     let e : suc at + length a ≡ at + suc (length a) = omega arith in
     sets-append (set l at x) (suc at) a b ∙ ap (λ (m : ℕ). sets (sets (set l at x) (suc at) a) m b) e
 
+take-both : (n : ℕ) (s t : List ℕ) → take n (s ++ t) ≡ take n s ++ take (n - length s) t
+take-both n [] t =
+    let z : n - 0 ≡ n = omega arith in
+    rw (take-nil {A = ℕ} n, z)
+take-both zero (x ∷ s) t =
+    let z : 0 - suc (length s) ≡ 0 = omega arith in
+    rw z
+take-both (suc n) (x ∷ s) t =
+    let z : suc n - suc (length s) ≡ n - length s = omega arith in
+    rw z (ap (λ (l : List ℕ). x ∷ l) (take-both n s t))
+
 -- one piece after the other
 pub then : {out mid after s t : List ℕ} {at m r : ℕ} → Fills out at s m mid → Fills mid m t r after → Fills out at (s ++ t) r after
-then {out} {mid} {after} {s} {t} {at} {m} {r} a b = record {
-  is = λ h.
-      let room : at + length s + length t ≤ length out = omega (arith, length-append s t) in
-      let f = a .is (omega arith) in
-      let long : length mid ≡ length out = ap length (f .0) ∙ length-sets out at s in
-      let g = b .is (omega (arith, f .1)) in (
-        g .0 ∙ ap (λ (l : List ℕ). sets l m t) (f .0) ∙ ap (λ (k : ℕ). sets (sets out at s) k t) (f .1) ∙ sym (sets-append out at s t),
-        omega (arith, f .1, g .1, length-append s t),
-      );
-}
+then {out} {mid} {after} {s} {t} {at} {m} {r} a b =
+    let n = length out - at in
+    let long : length mid ≡ length out = ap length (a .bytes) ∙ length-sets out at (take n s) in
+    let left : length mid - m ≡ n - length s = omega (arith, long, a .next, length-take n s) in
+    let cut : take n (s ++ t) ≡ take n s ++ take (length mid - m) t = rw left (take-both n s t) in record {
+      bytes = b .bytes ∙ ap₂ (λ (l : List ℕ) (k : ℕ). sets l k (take (length mid - m) t)) (a .bytes) (a .next) ∙ rw (cut, sets-append out at (take n s) (take (length mid - m) t));
+      next = rw cut (omega (arith, b .next, a .next, length-append (take n s) (take (length mid - m) t)));
+    }
 
 -- the same where the first piece is a byte, a number or a letter behind a space, in the form that `search` finds
 pub byte-then : {out mid after t : List ℕ} {at b m r : ℕ} → Fills out at (b ∷ []) m mid → Fills mid m t r after → Fills out at (b ∷ t) r after
@@ -55,14 +64,24 @@ letter-then a b = then a b
 pub ruleset pieces = (then, byte-then, shown-then, letter-then)
 
 pub nothing : (out : List ℕ) (at : ℕ) → Fills out at [] at out
-nothing out at = record { is = λ h. (refl, omega arith) }
+nothing out at = record { bytes = rw (take-nil {A = ℕ} (length out - at)); next = rw (take-nil {A = ℕ} (length out - at)) (omega arith) }
+
+pub one-byte : (out : List ℕ) (at b : ℕ) → at < length out → Fills out at (b ∷ []) (at + 1) (set out at b)
+one-byte out at b h =
+    let all = take-all (length out - at) (b ∷ []) (omega arith) in
+    record { bytes = rw all; next = rw all }
+
+pub no-byte : (out : List ℕ) (at b : ℕ) → length out ≤ at → Fills out at (b ∷ []) at out
+no-byte out at b h =
+    let z : length out - at ≡ 0 = omega arith in
+    record { bytes = rw z; next = rw z (omega arith) }
 
 -- the pieces are a whole line
 pub whole : {out after text : List ℕ} {n r : ℕ} → length out ≡ n → length text ≤ n → Fills out 0 text r after → Shown text out r after
 whole {out} {after} {text} {n} {r} e h f =
     let room : 0 + length text ≤ length out = omega arith in
-    let g = rw zero-add at (f .is room) in
-    record { bytes = g .0 ∙ rw zero-add at (sets-eq text out 0 room); count = g .1 }
+    let all = take-all (length out - 0) text (omega arith) in
+    record { bytes = rw all at (f .bytes) ∙ rw zero-add at (sets-eq text out 0 room); count = rw (all, zero-add) at (f .next) }
 
 -- ---- digits
 

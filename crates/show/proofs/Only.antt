@@ -7,7 +7,7 @@ use Rattle.rules.specs.declared.Refusal.{Refusal}
 use Rattle.rules.specs.declared.Entry.{Entry}
 use Rattle.rules.specs.declared.Fix.{Fix}
 use Rattle.rules.specs.declared.Flight.{Flight}
-use Rattle.show.specs.Lines.{NumberOf, Shown, RefusalShown, FlightShown, FixShown, ColumnShown}
+use Rattle.show.specs.Lines.{NumberOf, Shown, Fills, RefusalShown, FlightShown, FixShown, ColumnShown}
 
 pub only-number-of : (reason : Reason) (r r′ : ℕ) → NumberOf reason r → NumberOf reason r′ → r ≡ r′
 only-number-of reason r r′ e e′ = e ∙ sym e′
@@ -15,6 +15,9 @@ only-number-of reason r r′ e e′ = e ∙ sym e′
 module _ (out : List ℕ) (r r′ : ℕ) (after after′ : List ℕ) where
   pub only-shown : {text : List ℕ} → Shown text out r after → Shown text out r′ after′ → (r ≡ r′) × (after ≡ after′)
   only-shown s s′ = (s .count ∙ sym (s′ .count), s .bytes ∙ sym (s′ .bytes))
+
+  pub only-fills : (at : ℕ) (text : List ℕ) → Fills out at text r after → Fills out at text r′ after′ → (r ≡ r′) × (after ≡ after′)
+  only-fills at text s s′ = (s .next ∙ sym (s′ .next), s .bytes ∙ sym (s′ .bytes))
 
   pub only-refusal-shown : (why : Refusal) → RefusalShown why out r after → RefusalShown why out r′ after′ → (r ≡ r′) × (after ≡ after′)
   only-refusal-shown why = only-shown

@@ -1,9 +1,9 @@
 -- The promises of the lines that the listing prints, each put into a lent buffer; and what the pieces of a line put there, one after the other.
-use Prim.Native.Nat.{ℕ, _+_, _≤_}
+use Prim.Native.Nat.{ℕ, _+_, _-_}
 use mathlib.Core.List.{List, [], _++_}
 use mathlib.Core.Path.{_≡_}
 use lib.Dec.{leb}
-use lib.ListN.{length, drop}
+use lib.ListN.{length, take, drop}
 use lib.Seq.{sets}
 use Rattle.rules.specs.Choice.{need, bytes}
 use Rattle.rules.specs.Refusals.{number}
@@ -41,9 +41,10 @@ columnLine l e = need (leb (e .code) 0xFFFFFF) [] λ _. columnShown l e
 abbrev pub ColumnShown : List ℕ → Entry → List ℕ → ℕ → List ℕ → Type 0
 ColumnShown l e out r after = Shown (columnLine l e) out r after
 
--- a piece of a line: the text stands in the buffer from a place on, where it has room, and the answer is the place behind it
+-- a piece of a line: as much of the text as has room stands in the buffer from a place on, and the answer is the place behind it
 pub record Fills (out : List ℕ) (at : ℕ) (text : List ℕ) (r : ℕ) (after : List ℕ) : Type 0 where
-  pub is : at + length text ≤ length out → (after ≡ sets out at text) × (r ≡ at + length text)
+  pub bytes : after ≡ sets out at (take (length out - at) text)
+  pub next : r ≡ at + length (take (length out - at) text)
 
 -- ---- the parts that the longer lines are put together from
 

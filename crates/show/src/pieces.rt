@@ -9,7 +9,7 @@ ghost use Rattle.rules.specs.Listing.{decimal, shown, shownLetter, shownMetres}
 ghost use Rattle.show.specs.Lines.{Fills};
 use rules::Height;
 
-// One byte.
+// One byte, where there is room for it.
 pub fn put_byte(out: &mut [u8], at: usize, b: u8) -> usize
     ensures { λ r. ⌜ Fills (now (out .entry)) at (b ∷ []) r (now (out .exit)) ⌝ }
 {
@@ -20,7 +20,7 @@ pub fn put_byte(out: &mut [u8], at: usize, b: u8) -> usize
     at
 }
 
-// A text.
+// A text, as far as there is room for it.
 pub fn put_text(out: &mut [u8], at: usize, text: &[u8]) -> usize
     ensures { λ r. ⌜ Fills (now (out .entry)) at (now (text .entry)) r (now (out .exit)) ⌝ }
 {

@@ -1,11 +1,8 @@
 -- `show::pieces::put_byte` meets its contract. Assumes nothing.
-use native.Mathlib.Omega.{arith}
 use borrow.Author.Needs.{needs}
+use Rattle.show.proofs.Laws.{one-byte, no-byte}
 use Rattle.show.proofs.pieces.put_byte.Statement.{statement}
 use Rattle.show.proofs.pieces.put_byte.Tie as tie
-
-returns-2 : tie.Need-returns-2
-returns-2 c = record { is = λ h. let z : ⊥ = omega arith in absurd z }
 
 pub put-byte-spec : {M : Type 1} → statement M
 put-byte-spec =
@@ -14,5 +11,5 @@ put-byte-spec =
     (λ c. search needs)
     (λ c. search needs)
     (λ c. search needs)
-    (λ c. search needs)
-    returns-2)
+    (λ c. search (one-byte, needs))
+    (λ c. search (no-byte, needs)))
