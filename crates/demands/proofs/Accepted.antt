@@ -30,7 +30,7 @@ use Rattle.demands.proofs.Leading.{letter, Part, Leads, first, second, 
 use Rattle.demands.proofs.Leading as part
 use Rattle.demands.proofs.LayoutLines.{told}
 use Rattle.demands.proofs.Passing.{Passes, done, next, passes-join, lines-passed, Accepts, accepted-passes}
-use Rattle.demands.proofs.Sections.{Fresh, passes-above, Section, split, above-end, section-passes, headers-there, headers-here, fixes-there, fixes-here, notes-there, notes-here, body-same, body-stage, body-there, body-here, seal-there, sealed, seal-here, remarks-there, remarked, remarks-here}
+use Rattle.demands.proofs.Sections.{Fresh, passes-above, Section, split, above-end, section-passes, headers-there, headers-here, fixes-there, fixes-here, extras-there, extras-here, body-same, body-stage, body-there, body-here, seal-there, sealed, seal-here, remarks-there, remarked, remarks-here}
 
 -- ---- the counts
 
@@ -115,7 +115,7 @@ record Kept (ls : List (List ℕ)) (s : State) : Type 0 where
   parts : Parts
   lines : ls ≡ linesIn parts
   times : List ℕ
-  keeps : Keeps parts (s .flight .date) (s .flight .fixes) (s .flight .notes) times
+  keeps : Keeps parts (s .flight .date) (s .flight .fixes) (s .flight .extras) times
 
 one-up : {n : ℕ} (k : ℕ) → n ≤ k → n ≤ suc k
 one-up k h = omega arith
@@ -137,14 +137,14 @@ kept {ls} {s} p h =
     let f = front-there p h in
     let hs = split part.header (omega arith) (passes-above (f .passes) sound-start) in
     let is = split part.fixLayout (omega arith) (hs .later) in
-    let js = split part.noteLayout (omega arith) (is .later) in
+    let js = split part.extraLayout (omega arith) (is .later) in
     let bs = split part.body (omega arith) (js .later) in
     let gs = split part.seal (omega arith) (bs .later) in
     let rs = split part.remarks (omega arith) (gs .later) in
     let z = above-end (rs .later) in
     let H = headers-there (hs .section) (omega arith) refl in
     let I = fixes-there (is .section) (H .same .1) (H .stage) in
-    let J = notes-there (js .section) (I .notes ∙ H .same .2) (I .low) (I .high) in
+    let J = extras-there (js .section) (I .extras ∙ H .same .2) (I .low) (I .high) in
     let B = body-same (bs .section) in
     let G = seal-there (gs .section) in
     let R = remarks-there (rs .section) in
@@ -152,15 +152,15 @@ kept {ls} {s} p h =
     let n = seal-needed (body-stage (bs .section) (J .low) (one-up 4 (J .high)) .1) (gs .section) (rs .section) (rw (z .1) at h) in
     let date : s .flight .date ≡ f .date = ap (λ x. x .flight .date) (z .1) ∙ R .1 .0 ∙ G .1 .0 ∙ B .0 ∙ J .date ∙ I .date ∙ H .same .0 in
     let fixes : s .flight .fixes ≡ is .state .flight .fixes = ap (λ x. x .flight .fixes) (z .1) ∙ R .1 .1 ∙ G .1 .1 ∙ B .1 ∙ J .fixes in
-    let notes : s .flight .notes ≡ js .state .flight .notes = ap (λ x. x .flight .notes) (z .1) ∙ R .1 .2 ∙ G .1 .2 ∙ B .2 in
-    let body = body-there (s .flight .fixes) (s .flight .notes) (bs .section) (J .fixes ∙ sym fixes, sym notes) (fresh .0) (fresh .1) (fresh .2) (n .1) in
+    let extras : s .flight .extras ≡ js .state .flight .extras = ap (λ x. x .flight .extras) (z .1) ∙ R .1 .2 ∙ G .1 .2 ∙ B .2 in
+    let body = body-there (s .flight .fixes) (s .flight .extras) (bs .section) (J .fixes ∙ sym fixes, sym extras) (fresh .0) (fresh .1) (fresh .2) (n .1) in
     record {
       parts = record {
         recorder = f .recorder;
         day = f .day;
         headers = hs .front;
         fixLayout = is .front;
-        noteLayout = js .front;
+        extraLayout = js .front;
         body = bs .front;
         seal = gs .front;
         remarks = rs .front;
@@ -178,7 +178,7 @@ kept {ls} {s} p h =
         day = subst (λ x. IsDateLine x (f .day)) (sym date) (f .is-date);
         headers = H .each;
         fixLayout = subst (λ x. AtMostOne family.B x (is .front)) (sym fixes) (I .one);
-        noteLayout = subst (λ x. AtMostOne family.K x (js .front)) (sym notes) (J .one);
+        extraLayout = subst (λ x. AtMostOne family.K x (js .front)) (sym extras) (J .one);
         body = body .lines;
         order = in-order (js .state .clock) (body .times) (body .order);
         seal = G .0;
@@ -190,17 +190,17 @@ kept {ls} {s} p h =
 -- ---- lines that are as the grammar says pass
 
 -- from a state on the lines pass, and the file may end, with this date and these layouts
-record Passed (st : State) (ls : List (List ℕ)) (date : Date) (fixes notes : Layout) : Type 0 where
+record Passed (st : State) (ls : List (List ℕ)) (date : Date) (fixes extras : Layout) : Type 0 where
   state : State
   passes : Passes st ls state
   whole : state .points ≡ 0
   sealed : 6 ≤ state .stage
   dated : state .flight .date ≡ date
   fixed : state .flight .fixes ≡ fixes
-  noted : state .flight .notes ≡ notes
+  noted : state .flight .extras ≡ extras
 
 -- behind lines that pass
-behind : {st m : State} {ls ks : List (List ℕ)} {date : Date} {fixes notes : Layout} → Passes st ls m → Passed m ks date fixes notes → Passed st (ls ++ ks) date fixes notes
+behind : {st m : State} {ls ks : List (List ℕ)} {date : Date} {fixes extras : Layout} → Passes st ls m → Passed m ks date fixes extras → Passed st (ls ++ ks) date fixes extras
 behind p r = record {
   state = r .state;
   passes = passes-join p (r .passes);
@@ -215,50 +215,50 @@ from-zero : (c : ℕ) (ts : List ℕ) → c ≡ 0 → InOrder ts → OrderFrom c
 from-zero c [] e h = tt
 from-zero c (t ∷ ts) e h = (inl (omega arith), h)
 
-module _ {p : Parts} {date : Date} {fixes notes : Layout} {times : List ℕ} (w : Keeps p date fixes notes times) where
-  remarks-on : (st : State) → st .flight .date ≡ date → st .flight .fixes ≡ fixes → st .flight .notes ≡ notes → st .points ≡ 0 → 6 ≤ st .stage → st .stage ≤ 6
-      → Passed st (p .remarks) date fixes notes
+module _ {p : Parts} {date : Date} {fixes extras : Layout} {times : List ℕ} (w : Keeps p date fixes extras times) where
+  remarks-on : (st : State) → st .flight .date ≡ date → st .flight .fixes ≡ fixes → st .flight .extras ≡ extras → st .points ≡ 0 → 6 ≤ st .stage → st .stage ≤ 6
+      → Passed st (p .remarks) date fixes extras
   remarks-on st d f n z a b =
       let r = remarks-here (p .remarks) st (w .remarks) a (one-up 6 b) z in
       let s = remarks-there (r .1) .1 in
       record { state = r .0; passes = section-passes (r .1); whole = r .2; sealed = r .3; dated = s .0 ∙ d; fixed = s .1 ∙ f; noted = s .2 ∙ n }
 
-  seal-on : (st : State) → st .flight .date ≡ date → st .flight .fixes ≡ fixes → st .flight .notes ≡ notes → st .points ≡ 0 → 2 ≤ st .stage → st .stage ≤ 5
-      → Passed st (p .seal ++ p .remarks) date fixes notes
+  seal-on : (st : State) → st .flight .date ≡ date → st .flight .fixes ≡ fixes → st .flight .extras ≡ extras → st .points ≡ 0 → 2 ≤ st .stage → st .stage ≤ 5
+      → Passed st (p .seal ++ p .remarks) date fixes extras
   seal-on st d f n z a b =
       let r = seal-here (p .seal) st (w .seal) a (one-up 5 b) z in
       let s = seal-there (r .1) .1 in
       behind (section-passes (r .1)) (remarks-on (r .0) (s .0 ∙ d) (s .1 ∙ f) (s .2 ∙ n) (r .2) (r .4 (w .sealed)) (r .3))
 
-  body-on : (st : State) → st .flight .date ≡ date → st .flight .fixes ≡ fixes → st .flight .notes ≡ notes → Fresh st → 2 ≤ st .stage → st .stage ≤ 4
-      → Passed st (p .body ++ (p .seal ++ p .remarks)) date fixes notes
+  body-on : (st : State) → st .flight .date ≡ date → st .flight .fixes ≡ fixes → st .flight .extras ≡ extras → Fresh st → 2 ≤ st .stage → st .stage ≤ 4
+      → Passed st (p .body ++ (p .seal ++ p .remarks)) date fixes extras
   body-on st d f n h a b =
-      let r = body-here fixes notes (told family.B (w .fixLayout), told family.K (w .noteLayout)) st (w .body) (f, n) h a (one-up 4 b) (from-zero (st .clock) times (h .3) (w .order)) in
+      let r = body-here fixes extras (told family.B (w .fixLayout), told family.K (w .extraLayout)) st (w .body) (f, n) h a (one-up 4 b) (from-zero (st .clock) times (h .3) (w .order)) in
       let s = body-same (r .1) in
       let t = body-stage (r .1) a (one-up 4 b) in
       behind (section-passes (r .1)) (seal-on (r .0) (s .0 ∙ d) (s .1 ∙ f) (s .2 ∙ n) (r .2) (t .0) (t .1))
 
-  notes-on : (st : State) → st .flight .date ≡ date → st .flight .fixes ≡ fixes → st .flight .notes ≡ emptyLayout → Fresh st → 2 ≤ st .stage → st .stage ≤ 3
-      → Passed st (p .noteLayout ++ (p .body ++ (p .seal ++ p .remarks))) date fixes notes
-  notes-on st d f n h a b =
-      let r = notes-here st (w .noteLayout) n a b (h .0) in
-      let s = notes-there (r .1) n a b in
+  extras-on : (st : State) → st .flight .date ≡ date → st .flight .fixes ≡ fixes → st .flight .extras ≡ emptyLayout → Fresh st → 2 ≤ st .stage → st .stage ≤ 3
+      → Passed st (p .extraLayout ++ (p .body ++ (p .seal ++ p .remarks))) date fixes extras
+  extras-on st d f n h a b =
+      let r = extras-here st (w .extraLayout) n a b (h .0) in
+      let s = extras-there (r .1) n a b in
       behind (section-passes (r .1)) (body-on (r .0) (s .date ∙ d) (s .fixes ∙ f) (r .2) (s .fresh h) (s .low) (s .high))
 
-  fixes-on : (st : State) → st .flight .date ≡ date → st .flight .fixes ≡ emptyLayout → st .flight .notes ≡ emptyLayout → Fresh st → st .stage ≡ 2
-      → Passed st (p .fixLayout ++ (p .noteLayout ++ (p .body ++ (p .seal ++ p .remarks)))) date fixes notes
+  fixes-on : (st : State) → st .flight .date ≡ date → st .flight .fixes ≡ emptyLayout → st .flight .extras ≡ emptyLayout → Fresh st → st .stage ≡ 2
+      → Passed st (p .fixLayout ++ (p .extraLayout ++ (p .body ++ (p .seal ++ p .remarks)))) date fixes extras
   fixes-on st d f n h a =
       let r = fixes-here st (w .fixLayout) f a (h .0) in
       let s = fixes-there (r .1) f a in
-      behind (section-passes (r .1)) (notes-on (r .0) (s .date ∙ d) (r .2) (s .notes ∙ n) (s .fresh h) (s .low) (s .high))
+      behind (section-passes (r .1)) (extras-on (r .0) (s .date ∙ d) (r .2) (s .extras ∙ n) (s .fresh h) (s .low) (s .high))
 
-  headers-on : Passed (opened date) (p .headers ++ (p .fixLayout ++ (p .noteLayout ++ (p .body ++ (p .seal ++ p .remarks))))) date fixes notes
+  headers-on : Passed (opened date) (p .headers ++ (p .fixLayout ++ (p .extraLayout ++ (p .body ++ (p .seal ++ p .remarks))))) date fixes extras
   headers-on =
       let r = headers-here (p .headers) (opened date) (w .headers) (omega arith) refl refl in
       let s = headers-there (r .1) (omega arith) refl in
       behind (section-passes (r .1)) (fixes-on (r .0) (s .same .0) (s .same .1) (s .same .2) (s .fresh (refl, refl, refl, refl)) (s .stage))
 
-  passed : Passed start (linesIn p) date fixes notes
+  passed : Passed start (linesIn p) date fixes extras
   passed =
       behind
       (next (leads-judge (p .recorder) start (first refl refl (w .recorder))) (next (leads-judge (p .day) (moved 1 start) (second date (omega arith) (omega arith) refl refl (w .day))) done))
@@ -267,14 +267,14 @@ module _ {p : Parts} {date : Date} {fixes notes : Layout} {times : List ℕ} (w 
 -- ---- the theorems
 
 -- the grammar's reading of a file whose lines pass
-flight-is : (ls : List (List ℕ)) (s : State) (date : Date) (fixes notes : Layout) → Passes start ls s → s .flight .date ≡ date → s .flight .fixes ≡ fixes
-    → s .flight .notes ≡ notes
-    → record { date = date; fixes = fixes; notes = notes; lines = length ls; bs = beginning (code "B") ls; ks = beginning (code "K") ls } ≡ s .flight
-flight-is ls s date fixes notes p d f n =
+flight-is : (ls : List (List ℕ)) (s : State) (date : Date) (fixes extras : Layout) → Passes start ls s → s .flight .date ≡ date → s .flight .fixes ≡ fixes
+    → s .flight .extras ≡ extras
+    → record { date = date; fixes = fixes; extras = extras; lines = length ls; bs = beginning (code "B") ls; ks = beginning (code "K") ls } ≡ s .flight
+flight-is ls s date fixes extras p d f n =
     let l : length ls ≡ s .flight .lines = omega (arith, lines-passed p) in
     let b : beginning (code "B") ls ≡ s .flight .bs = omega (arith, counts-passed p .0) in
     let k : beginning (code "K") ls ≡ s .flight .ks = omega (arith, counts-passed p .1) in
-    λ i. record { date = sym d i; fixes = sym f i; notes = sym n i; lines = l i; bs = b i; ks = k i }
+    λ i. record { date = sym d i; fixes = sym f i; extras = sym n i; lines = l i; bs = b i; ks = k i }
 
 module _ (file : List ℕ) (room : ℕ) (f : Flight) where
   accepted-meets : Accepts file room f → (m : Meets file) × (length (linesIn (m .parts)) ≤ room) × (flightOf m ≡ f)
@@ -288,7 +288,7 @@ module _ (file : List ℕ) (room : ℕ) (f : Flight) where
           texts = subst (Each IsText) (k .lines) (w .texts);
           date = w .state .flight .date;
           fixes = w .state .flight .fixes;
-          notes = w .state .flight .notes;
+          extras = w .state .flight .extras;
           times = k .times;
           keeps = k .keeps;
         },

@@ -15,9 +15,9 @@ use Rattle.rules.specs.Refusals.{says, refuses}
 use Rattle.rules.specs.Files.{verdict}
 use Rattle.rules.specs.Listed.{widthFits, keepsRule}
 use Rattle.rules.specs.Layouts.{isSaid, firstStart, allowed}
-use Rattle.rules.specs.Reads.{fixSaid, noteSaid, headSaid, pointSaid, layoutSaid}
-use Rattle.rules.specs.Writes.{fixText, noteText, headText, pointText, layoutText, isFix, isNote, isHead, isPoint}
-use Rattle.rules.specs.Promises.{FixWritten, NoteWritten, LayoutWritten, HeadWritten, PointWritten}
+use Rattle.rules.specs.Reads.{fixSaid, extraSaid, headSaid, pointSaid, layoutSaid}
+use Rattle.rules.specs.Writes.{fixText, extraText, headText, pointText, layoutText, isFix, isExtra, isHead, isPoint}
+use Rattle.rules.specs.Promises.{FixWritten, ExtraWritten, LayoutWritten, HeadWritten, PointWritten}
 use Rattle.rules.specs.declared.Date.{Date}
 use Rattle.rules.specs.declared.Layout.{Layout}
 use Rattle.rules.specs.declared.Family.{Family}
@@ -27,9 +27,9 @@ use Rattle.rules.specs.declared.Point.{Point}
 use Rattle.rules.specs.declared.Flight.{Flight}
 use Rattle.rules.specs.declared.Wrote.{Wrote}
 use Rattle.rules.proofs.Damaged.{fiveLines}
-use Rattle.trips.specs.Limits.{isDate, goodFix, goodNote, goodHead, goodPoint}
+use Rattle.trips.specs.Limits.{isDate, goodFix, goodExtra, goodHead, goodPoint}
 use Rattle.trips.proofs.Fixes.{fix-trip, fix-good}
-use Rattle.trips.proofs.Notes.{note-trip, note-good}
+use Rattle.trips.proofs.Extras.{extra-trip, extra-good}
 use Rattle.trips.proofs.Heads.{head-trip, head-good}
 use Rattle.trips.proofs.Points.{point-trip, point-good}
 use Rattle.demands.specs.Grammar.{Each, IsDay, Listing, Holds, IsLayoutLine, IsBLine, IsKLine, IsHeadLine, IsPointLine, linesIn, Meets, flightOf}
@@ -46,7 +46,7 @@ use Rattle.demands.proofs.Days.{day-exactly}
 use Rattle.demands.proofs.Rows.{width-exactly, rule-exactly}
 use Rattle.demands.proofs.Reading as reading
 use Rattle.demands.proofs.LayoutLines.{layout-exactly, layout-line-exactly}
-use Rattle.demands.proofs.Valued.{fix-reads, fix-read, note-reads, note-read, head-reads, head-read, point-reads, point-read}
+use Rattle.demands.proofs.Valued.{fix-reads, fix-read, extra-reads, extra-read, head-reads, head-read, point-reads, point-read}
 use Rattle.demands.proofs.Writers.{both-ways, trip-ways}
 use Rattle.demands.proofs.Worked as worked
 
@@ -57,7 +57,7 @@ module _ (file : List ℕ) (room : ℕ) where
   pub accepted-exactly : (isSaid (verdict file room) ≡ true) ↔ ((m : Meets file) × (length (linesIn (m .parts)) ≤ room))
   accepted-exactly = acceptance.accepted-exactly file room
 
-  -- and then the date, the layouts (`fixes` of the B lines, `notes` of the K lines) and the counts of the answer are the grammar's
+  -- and then the date, the layouts (`fixes` of the B lines, `extras` of the K lines) and the counts of the answer are the grammar's
   pub accepted-as : (f : Flight) → (verdict file room ≡ says f) ↔ ((m : Meets file) × (length (linesIn (m .parts)) ≤ room) × (flightOf m ≡ f))
   accepted-as f = acceptance.accepted-as file room f
 
@@ -116,8 +116,8 @@ module _ (i : Slotted) (l : List ℕ) where
   pub fixes-exactly : allowed 36 (i .layout) ≡ true → (f : Fix) → (fixSaid l (i .layout) ≡ says f) ↔ IsBLine (i .layout) f l
   fixes-exactly g f = (fix-read (i .layout) (g, i .slots) f l, fix-reads (i .layout) (g, i .slots) f l)
 
-  pub notes-exactly : allowed 8 (i .layout) ≡ true → (t : ℕ) → (noteSaid l (i .layout) ≡ says t) ↔ IsKLine (i .layout) t l
-  notes-exactly g t = (note-read (i .layout) (g, i .slots) t l, note-reads (i .layout) (g, i .slots) t l)
+  pub extras-exactly : allowed 8 (i .layout) ≡ true → (t : ℕ) → (extraSaid l (i .layout) ≡ says t) ↔ IsKLine (i .layout) t l
+  extras-exactly g t = (extra-read (i .layout) (g, i .slots) t l, extra-reads (i .layout) (g, i .slots) t l)
 
 -- I lines and J lines
 pub layouts-exactly : (family : Family) (layout : Layout) (l : List ℕ) → (layoutSaid family l ≡ says layout) ↔ IsLayoutLine family layout l
@@ -137,9 +137,9 @@ pub fixes-both-ways : (layout : Layout)
     → BothWays (ReadsAs (λ l. fixSaid l layout) 35) (λ v. fixText (v .0) (v .1)) (λ v. isFix (v .0) (v .1) layout) (λ v. goodFix (v .0) (v .1) layout)
 fixes-both-ways layout = trip-ways (λ f tail. isFix f tail layout) (fix-trip layout) (λ f tail. fix-good f tail layout)
 
-pub notes-both-ways : (layout : Layout)
-    → BothWays (ReadsAs (λ l. noteSaid l layout) 7) (λ v. noteText (v .0) (v .1)) (λ v. isNote (v .0) (v .1) layout) (λ v. goodNote (v .0) (v .1) layout)
-notes-both-ways layout = trip-ways (λ t tail. isNote t tail layout) (note-trip layout) (λ t tail. note-good t tail layout)
+pub extras-both-ways : (layout : Layout)
+    → BothWays (ReadsAs (λ l. extraSaid l layout) 7) (λ v. extraText (v .0) (v .1)) (λ v. isExtra (v .0) (v .1) layout) (λ v. goodExtra (v .0) (v .1) layout)
+extras-both-ways layout = trip-ways (λ t tail. isExtra t tail layout) (extra-trip layout) (λ t tail. extra-good t tail layout)
 
 pub heads-both-ways : BothWays (ReadsAs headSaid 25) (λ v. headText (v .0) (v .1)) (λ v. isHead (v .0) (v .1)) (λ v. goodHead (v .0) (v .1))
 heads-both-ways = trip-ways isHead head-trip head-good
@@ -157,8 +157,8 @@ module _ (place : ℕ) (out : List ℕ) (r : Wrote) (after : List ℕ) where
   pub fix-writer : (f : Fix) (tail : List ℕ) (layout : Layout) → FixWritten f tail layout place out r after → Ways (ReadsAs (λ l. fixSaid l layout) 35) (f, tail) place out r after
   fix-writer f tail layout = fixes-both-ways layout .writes (f, tail) place out r after
 
-  pub note-writer : (t : ℕ) (tail : List ℕ) (layout : Layout) → NoteWritten t tail layout place out r after → Ways (ReadsAs (λ l. noteSaid l layout) 7) (t, tail) place out r after
-  note-writer t tail layout = notes-both-ways layout .writes (t, tail) place out r after
+  pub extra-writer : (t : ℕ) (tail : List ℕ) (layout : Layout) → ExtraWritten t tail layout place out r after → Ways (ReadsAs (λ l. extraSaid l layout) 7) (t, tail) place out r after
+  extra-writer t tail layout = extras-both-ways layout .writes (t, tail) place out r after
 
   pub head-writer : (h : Head) (rest : List ℕ) → HeadWritten h rest place out r after → Ways (ReadsAs headSaid 25) (h, rest) place out r after
   head-writer h rest = heads-both-ways .writes (h, rest) place out r after

@@ -19,7 +19,7 @@ use Rattle.rules.specs.Fields.{timeAt, dateAt, latitudeAt, longitudeAt, altitud
 use Rattle.rules.specs.Listed.{codeAt, widthFits, keepsRule}
 use Rattle.rules.specs.Layouts.{unused, firstStart, withEntry, lineLength, spanOf, look, carries, placed, entryAt, entriesFrom, layoutFields, columnText, badColumn, columns}
 use Rattle.rules.specs.Lines.{kindOf, isSized, shaped, aLine, isDateMark, dateLine, hLine, layoutLine, plannedAt, headFields, headLine, pointLine, dLine, eLine, badPair, fLine, fixFields, shapedBy, bLine, kLine, lLine, gLine, otherLine}
-use Rattle.rules.specs.Order.{isKind, orderOf, moved, dated, withFixes, withNotes, counted, begun, pointed, onward, nextDay, back, isBack, passing, timed, ruled, judge}
+use Rattle.rules.specs.Order.{isKind, orderOf, moved, dated, withFixes, withExtras, counted, begun, pointed, onward, nextDay, back, isBack, passing, timed, ruled, judge}
 use Rattle.rules.specs.declared.Entry.{Entry}
 use Rattle.rules.specs.declared.Family.{Family}
 use Rattle.rules.specs.declared.Family.the-variants as family
@@ -276,15 +276,15 @@ k-line-agrees es l =
     agree-given 9 2 (timeAt l 1) _ _ λ t e.
     agree-last (columns l (laid es)) (λ v. t) (columnChecks l es) (columns-agree l es))
 
-k-agrees : (ls : List (List ℕ)) (l : List ℕ) (st : State) → st .clock ≡ orZero (lastTime ls) → st .flight .notes ≡ laid (entriesTold family.K ls)
+k-agrees : (ls : List (List ℕ)) (l : List ℕ) (st : State) → st .clock ≡ orZero (lastTime ls) → st .flight .extras ≡ laid (entriesTold family.K ls)
     → Agrees (ruled kind.K l st) (kindChecks kind.K ls l)
 unfolding ruled
 k-agrees ls l st c i =
     let es = entriesTold family.K ls in
     time-last (ruled kind.K l st) (sizeChecks family.K es l) (check 9 2 (isThere (timeAt l 1)) ∷ columnChecks l es) (timeCheck ls l)
-    (agree-then (kLine (st .flight .notes) l) (λ t. timed t (counted 0 1 st)) _ (timeCheck ls l ∷ [])
+    (agree-then (kLine (st .flight .extras) l) (λ t. timed t (counted 0 1 st)) _ (timeCheck ls l ∷ [])
     (subst (λ x. Agrees (kLine x l) (sizeChecks family.K es l ++ (check 9 2 (isThere (timeAt l 1)) ∷ columnChecks l es))) (sym i) (k-line-agrees es l)) λ t e.
-    on-time ls l t (counted 0 1 st) c (k-time (st .flight .notes) l t e))
+    on-time ls l t (counted 0 1 st) c (k-time (st .flight .extras) l t e))
 
 -- ---- I and J lines
 
@@ -420,8 +420,8 @@ module _ (ls : List (List ℕ)) (l : List ℕ) (st : State) (w : Stands ls st) w
       (agree-last (dateLine l) (λ d. dated d (moved stage st)) (dateChecks l) (date-agrees l))
       (agree-last (hLine l) (λ u. moved stage st) (headerChecks l) (header-agrees l))
   ruled-agrees kind.I stage i = agree-last (layoutLine 36 l) (λ x. withFixes x (moved stage st)) (layoutChecks family.B l) (layout-agrees family.B l)
-  ruled-agrees kind.J stage i = agree-last (layoutLine 8 l) (λ x. withNotes x (moved stage st)) (layoutChecks family.K l) (layout-agrees family.K l)
-  ruled-agrees kind.K stage i = k-agrees ls l (moved stage st) (w .clock) (w .notes)
+  ruled-agrees kind.J stage i = agree-last (layoutLine 8 l) (λ x. withExtras x (moved stage st)) (layoutChecks family.K l) (layout-agrees family.K l)
+  ruled-agrees kind.K stage i = k-agrees ls l (moved stage st) (w .clock) (w .extras)
   ruled-agrees kind.L stage i = agree-last (lLine l) (λ u. moved stage st) (shapeChecks 1 99 false l) (shape-agrees 1 99 false l)
   ruled-agrees kind.Other stage i = agree-last (otherLine l) (λ u. moved stage st) (shapeChecks 1 255 false l) (shape-agrees 1 255 false l)
   ruled-agrees kind.NoKind stage i = absurd (false-true i)

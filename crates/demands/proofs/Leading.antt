@@ -14,7 +14,7 @@ use Rattle.rules.specs.Choice.{on, leads}
 use Rattle.rules.specs.Refusals.{Said, says, andThen}
 use Rattle.rules.specs.Layouts.{isUnused, allPlaced, allowed}
 use Rattle.rules.specs.Lines.{kindOf, aLine, dateLine, hLine, layoutLine, headLine, pointLine, dLine, eLine, fLine, bLine, kLine, lLine, gLine, otherLine}
-use Rattle.rules.specs.Order.{start, leading, stageAfter, isC, isKind, fitsDeclaration, orderOf, moved, dated, withFixes, withNotes, counted, begun, pointed, clocked, onward, nextDay, back, passing, isBack, timed, ruled, judge}
+use Rattle.rules.specs.Order.{start, leading, stageAfter, isC, isKind, fitsDeclaration, orderOf, moved, dated, withFixes, withExtras, counted, begun, pointed, clocked, onward, nextDay, back, passing, isBack, timed, ruled, judge}
 use Rattle.rules.specs.declared.Date.{Date}
 use Rattle.rules.specs.declared.Layout.{Layout}
 use Rattle.rules.specs.declared.Family.the-variants as family
@@ -34,14 +34,14 @@ use Rattle.demands.proofs.LayoutLines.{layout-there, layout-said, layou
 
 -- the part of the file that a line leads to
 pub data Part : Type 0 where
-  recorder header fixLayout noteLayout body seal remarks : Part
+  recorder header fixLayout extraLayout body seal remarks : Part
 
 -- a line of the body may come, and the state after it
 pub data InBody (st : State) (l : List ℕ) : State → Type 0 where
   head : (h : Head) → st .points ≡ 0 → st .declared ≡ false → st .flight .bs ≡ 0 → IsHeadLine h l → InBody st l (begun h (moved 5 st))
   point : 1 ≤ st .points → IsPointLine l → InBody st l (pointed (moved 5 st))
   fix : (f : Fix) → st .points ≡ 0 → Follows (st .clock) (f .time) → IsTold 36 (st .flight .fixes) × IsBLine (st .flight .fixes) f l → InBody st l (clocked (f .time) (counted 1 0 (moved 5 st)))
-  note : (t : ℕ) → st .points ≡ 0 → Follows (st .clock) t → IsTold 8 (st .flight .notes) × IsKLine (st .flight .notes) t l → InBody st l (clocked t (counted 0 1 (moved 5 st)))
+  extra : (t : ℕ) → st .points ≡ 0 → Follows (st .clock) t → IsTold 8 (st .flight .extras) × IsKLine (st .flight .extras) t l → InBody st l (clocked t (counted 0 1 (moved 5 st)))
   event : (t : ℕ) → st .points ≡ 0 → Follows (st .clock) t → IsELine t l ⊎ IsFLine t l → InBody st l (clocked t (moved 5 st))
   quiet : st .points ≡ 0 → Untimed l → InBody st l (moved 5 st)
 
@@ -51,14 +51,14 @@ pub data Leads (st : State) (l : List ℕ) : Part → State → Type 0 where
   second : (d : Date) → 1 ≤ st .stage → st .stage ≤ 2 → st .points ≡ 0 → st .flight .lines + 1 ≡ 2 → IsDateLine d l → Leads st l header (dated d (moved 2 st))
   further : 1 ≤ st .stage → st .stage ≤ 2 → st .points ≡ 0 → (st .flight .lines + 1 ≡ 2 → ⊥) → IsHLine l → Leads st l header (moved 2 st)
   fixing : (layout : Layout) → st .stage ≡ 2 → st .points ≡ 0 → IsLayoutLine family.B layout l → Leads st l fixLayout (withFixes layout (moved 3 st))
-  noting : (layout : Layout) → 2 ≤ st .stage → st .stage ≤ 3 → st .points ≡ 0 → IsLayoutLine family.K layout l → Leads st l noteLayout (withNotes layout (moved 4 st))
+  noting : (layout : Layout) → 2 ≤ st .stage → st .stage ≤ 3 → st .points ≡ 0 → IsLayoutLine family.K layout l → Leads st l extraLayout (withExtras layout (moved 4 st))
   flying : {m : State} → 2 ≤ st .stage → st .stage ≤ 5 → InBody st l m → Leads st l body m
   sealing : 2 ≤ st .stage → st .stage ≤ 6 → st .points ≡ 0 → IsGLine l → Leads st l seal (moved 6 st)
   remarking : 6 ≤ st .stage → st .stage ≤ 7 → st .points ≡ 0 → IsLLine l → Leads st l remarks (moved 7 st)
 
 -- both layouts are ones that a line can tell
 abbrev pub Sound : State → Type 0
-Sound st = IsTold 36 (st .flight .fixes) × IsTold 8 (st .flight .notes)
+Sound st = IsTold 36 (st .flight .fixes) × IsTold 8 (st .flight .extras)
 
 pub sound-start : Sound start
 unfolding allowed allPlaced leads isUnused
@@ -287,12 +287,12 @@ module _ (l : List ℕ) (st m : State) where
       (fixLayout, to stage 3 (λ x. withFixes (r .0) (moved x st)) (s .2) (r .2) (fixing (r .0) (omega arith) (plain-fits st f) (layout-there family.B (r .0) l k (r .1))))
   by-kind kind.J stage g k f o e =
       let s = lead-inv 2 3 4 (st .stage) stage o in
-      let r = says-inv (layoutLine 8 l) (λ j. withNotes j (moved stage st)) m e in
-      (noteLayout, to stage 4 (λ x. withNotes (r .0) (moved x st)) (s .2) (r .2) (noting (r .0) (s .0) (s .1) (plain-fits st f) (layout-there family.K (r .0) l k (r .1))))
+      let r = says-inv (layoutLine 8 l) (λ j. withExtras j (moved stage st)) m e in
+      (extraLayout, to stage 4 (λ x. withExtras (r .0) (moved x st)) (s .2) (r .2) (noting (r .0) (s .0) (s .1) (plain-fits st f) (layout-there family.K (r .0) l k (r .1))))
   by-kind kind.K stage g k f o e = to-body stage (λ x. ruled kind.K l x ≡ says m) o e λ e.
-      let r = then-inv (kLine (st .flight .notes) l) m _ e in
+      let r = then-inv (kLine (st .flight .extras) l) m _ e in
       let t = timed-there (r .0) (counted 0 1 (moved 5 st)) m (r .2) in
-      rw (← t .1) (note (r .0) (plain-fits st f) (t .0) (g .1, k-there (st .flight .notes) (r .0) l (g .1) k (r .1)))
+      rw (← t .1) (extra (r .0) (plain-fits st f) (t .0) (g .1, k-there (st .flight .extras) (r .0) l (g .1) k (r .1)))
   by-kind kind.L stage g k f o e = l-led stage (leb (st .stage) 5) k (plain-fits st f) o e
   by-kind kind.Other stage g k f o e = to-body stage (λ x. ruled kind.Other l x ≡ says m) o e λ e.
       let r = says-inv (otherLine l) (λ u. moved 5 st) m e in
@@ -333,8 +333,8 @@ body-judge l st p q (point h w) =
 body-judge l st p q (fix f z t w) =
     let s = b-said (st .flight .fixes) f l w in
     letter-said l st _ 66 kind.B 5 (omega arith) refl refl (s .0) (fits-plain st z) (lead 2 5 5 (st .stage) p q) (rw (s .1) (timed-said (f .time) (counted 1 0 (moved 5 st)) t))
-body-judge l st p q (note n z t w) =
-    let s = k-said (st .flight .notes) n l w in
+body-judge l st p q (extra n z t w) =
+    let s = k-said (st .flight .extras) n l w in
     letter-said l st _ 75 kind.K 5 (omega arith) refl refl (s .0) (fits-plain st z) (lead 2 5 5 (st .stage) p q) (rw (s .1) (timed-said n (counted 0 1 (moved 5 st)) t))
 body-judge l st p q (event n z t (inl w)) =
     let s = e-said l n w in
@@ -375,7 +375,7 @@ body-sound : (l : List ℕ) (st : State) {m : State} → InBody st l m → Sound
 body-sound l st (head h z d b w) g = g
 body-sound l st (point h w) g = g
 body-sound l st (fix f z t w) g = g
-body-sound l st (note n z t w) g = g
+body-sound l st (extra n z t w) g = g
 body-sound l st (event n z t w) g = g
 body-sound l st (quiet z w) g = g
 

@@ -24,7 +24,7 @@ use Rattle.demands.proofs.Laws.{each-join}
 use Rattle.demands.proofs.Carried.{e-said, f-said}
 use Rattle.demands.proofs.Valued.{b-said, k-said, head-said, point-said}
 use Rattle.demands.proofs.LayoutLines.{layout-said}
-use Rattle.demands.proofs.Leading.{Part, InBody, head, point, fix, note, event, quiet, Leads, first, second, further, fixing, noting, flying, sealing, remarking, judge-leads}
+use Rattle.demands.proofs.Leading.{Part, InBody, head, point, fix, extra, event, quiet, Leads, first, second, further, fixing, noting, flying, sealing, remarking, judge-leads}
 use Rattle.demands.proofs.Passing.{Passes, done, next}
 use Rattle.demands.proofs.Standing.{head-points, only-without, or-true, open-left, Stands, stands-start, stands-next}
 use Rattle.demands.proofs.Faulty.{judge-passes, passes-judge}
@@ -119,28 +119,28 @@ module _ (x : ℕ) (l : List ℕ) where
 record Tells (ls : List (List ℕ)) (st : State) : Type 0 where
   declaration : (st .points ≡ 0) ⊎ Opened ls (st .points)
   fixes : AtMostOne family.B (st .flight .fixes) (those (code "I") ls)
-  notes : AtMostOne family.K (st .flight .notes) (those (code "J") ls)
+  extras : AtMostOne family.K (st .flight .extras) (those (code "J") ls)
 
 tells-start : Tells [] start
 unfolding those
-tells-start = record { declaration = inl refl; fixes = absent; notes = absent }
+tells-start = record { declaration = inl refl; fixes = absent; extras = absent }
 
 module _ (ls : List (List ℕ)) (l : List ℕ) (st : State) (w : Stands ls st) (t : Tells ls st) where
   fixes-same : (b : ℕ) → getD l 0 0 ≡ b → eqb b (code "I") ≡ false → AtMostOne family.B (st .flight .fixes) (those (code "I") (ls ++ (l ∷ [])))
   fixes-same b k n = rw (those-same (code "I") l ls (rw k n)) (t .fixes)
 
-  notes-same : (b : ℕ) → getD l 0 0 ≡ b → eqb b (code "J") ≡ false → AtMostOne family.K (st .flight .notes) (those (code "J") (ls ++ (l ∷ [])))
-  notes-same b k n = rw (those-same (code "J") l ls (rw k n)) (t .notes)
+  extras-same : (b : ℕ) → getD l 0 0 ≡ b → eqb b (code "J") ≡ false → AtMostOne family.K (st .flight .extras) (those (code "J") (ls ++ (l ∷ [])))
+  extras-same b k n = rw (those-same (code "J") l ls (rw k n)) (t .extras)
 
   quiet-tells : Untimed l → st .points ≡ 0 → Tells (ls ++ (l ∷ [])) (moved 5 st)
-  quiet-tells (differential v) z = record { declaration = inl z; fixes = fixes-same 68 (v .letter) refl; notes = notes-same 68 (v .letter) refl }
-  quiet-tells (remark v) z = record { declaration = inl z; fixes = fixes-same 76 (v .letter) refl; notes = notes-same 76 (v .letter) refl }
+  quiet-tells (differential v) z = record { declaration = inl z; fixes = fixes-same 68 (v .letter) refl; extras = extras-same 68 (v .letter) refl }
+  quiet-tells (remark v) z = record { declaration = inl z; fixes = fixes-same 76 (v .letter) refl; extras = extras-same 76 (v .letter) refl }
   quiet-tells (other v) z =
       let b = getD l 0 0 in
       record {
         declaration = inl z;
         fixes = fixes-same b refl (ne-eqb b 73 (λ e. omega (arith, v .from)));
-        notes = notes-same b refl (ne-eqb b 74 (λ e. omega (arith, v .from)));
+        extras = extras-same b refl (ne-eqb b 74 (λ e. omega (arith, v .from)));
       }
 
   event-letter : (n : ℕ) → IsELine n l ⊎ IsFLine n l → (eqb (getD l 0 0) (code "I") ≡ false) × (eqb (getD l 0 0) (code "J") ≡ false)
@@ -160,39 +160,39 @@ module _ (ls : List (List ℕ)) (l : List ℕ) (st : State) (w : Stands ls st) (
   body-tells (head h z d b v) =
       let k = head-said h l v .0 in
       let n : beginning (code "C") ls ≡ 0 = eqb-true _ _ (not-false _ (sym (w .declared) ∙ d)) in
-      record { declaration = inr (opened-head ls l h v n); fixes = fixes-same 67 k refl; notes = notes-same 67 k refl }
+      record { declaration = inr (opened-head ls l h v n); fixes = fixes-same 67 k refl; extras = extras-same 67 k refl }
   body-tells (point h v) =
       let k = point-said l v .0 in
-      record { declaration = point-tells v h (t .declaration); fixes = fixes-same 67 k refl; notes = notes-same 67 k refl }
+      record { declaration = point-tells v h (t .declaration); fixes = fixes-same 67 k refl; extras = extras-same 67 k refl }
   body-tells (fix f z q v) =
       let k = b-said (st .flight .fixes) f l v .0 in
-      record { declaration = inl z; fixes = fixes-same 66 k refl; notes = notes-same 66 k refl }
-  body-tells (note n z q v) =
-      let k = k-said (st .flight .notes) n l v .0 in
-      record { declaration = inl z; fixes = fixes-same 75 k refl; notes = notes-same 75 k refl }
+      record { declaration = inl z; fixes = fixes-same 66 k refl; extras = extras-same 66 k refl }
+  body-tells (extra n z q v) =
+      let k = k-said (st .flight .extras) n l v .0 in
+      record { declaration = inl z; fixes = fixes-same 75 k refl; extras = extras-same 75 k refl }
   body-tells (event n z q v) =
       let k = event-letter n v in
-      record { declaration = inl z; fixes = fixes-same (getD l 0 0) refl (k .0); notes = notes-same (getD l 0 0) refl (k .1) }
+      record { declaration = inl z; fixes = fixes-same (getD l 0 0) refl (k .0); extras = extras-same (getD l 0 0) refl (k .1) }
   body-tells (quiet z v) = quiet-tells v z
 
   tells-next : {p : Part} {m : State} → Leads st l p m → Tells (ls ++ (l ∷ [])) m
   unfolding isOf bytes
-  tells-next (first z p v) = record { declaration = inl p; fixes = fixes-same 65 (v .letter) refl; notes = notes-same 65 (v .letter) refl }
+  tells-next (first z p v) = record { declaration = inl p; fixes = fixes-same 65 (v .letter) refl; extras = extras-same 65 (v .letter) refl }
   tells-next (second d a b p n v) =
       let k : getD l 0 0 ≡ code "H" = ap (λ x. getD x 0 0) (v .text) in
-      record { declaration = inl p; fixes = fixes-same 72 k refl; notes = notes-same 72 k refl }
-  tells-next (further a b p n v) = record { declaration = inl p; fixes = fixes-same 72 (v .letter) refl; notes = notes-same 72 (v .letter) refl }
+      record { declaration = inl p; fixes = fixes-same 72 k refl; extras = extras-same 72 k refl }
+  tells-next (further a b p n v) = record { declaration = inl p; fixes = fixes-same 72 (v .letter) refl; extras = extras-same 72 (v .letter) refl }
   tells-next (fixing i a p v) =
       let k = layout-said family.B i l v .0 in
       let n = only-without (bytes "AH") (code "I") ls refl (sym (w .staged .headers) ∙ rw a) in
-      record { declaration = inl p; fixes = rw (those-first (code "I") l ls k n) (given v); notes = notes-same 73 k refl }
+      record { declaration = inl p; fixes = rw (those-first (code "I") l ls k n) (given v); extras = extras-same 73 k refl }
   tells-next (noting j a b p v) =
       let k = layout-said family.K j l v .0 in
       let n = only-without (bytes "AHI") (code "J") ls refl (sym (w .staged .layouts) ∙ le-leb _ _ b) in
-      record { declaration = inl p; fixes = fixes-same 74 k refl; notes = rw (those-first (code "J") l ls k n) (given v) }
+      record { declaration = inl p; fixes = fixes-same 74 k refl; extras = rw (those-first (code "J") l ls k n) (given v) }
   tells-next (flying a b v) = body-tells v
-  tells-next (sealing a b p v) = record { declaration = inl p; fixes = fixes-same 71 (v .letter) refl; notes = notes-same 71 (v .letter) refl }
-  tells-next (remarking a b p v) = record { declaration = inl p; fixes = fixes-same 76 (v .letter) refl; notes = notes-same 76 (v .letter) refl }
+  tells-next (sealing a b p v) = record { declaration = inl p; fixes = fixes-same 71 (v .letter) refl; extras = extras-same 71 (v .letter) refl }
+  tells-next (remarking a b p v) = record { declaration = inl p; fixes = fixes-same 76 (v .letter) refl; extras = extras-same 76 (v .letter) refl }
 
 -- ---- lines that pass
 
@@ -255,7 +255,7 @@ behind-meant ls st w =
     record {
       declaration = (λ e. opened ls st w .0 (leb-true 1 (st .points) (ap (leb 1) (v .points) ∙ sym (open-left ls) ∙ e)), open-there ls);
       fixes = subst (λ x. AtMostOne family.B x (those (code "I") ls)) (v .fixes) (w .tells .fixes);
-      notes = subst (λ x. AtMostOne family.K x (those (code "J") ls)) (v .notes) (w .tells .notes);
+      extras = subst (λ x. AtMostOne family.K x (those (code "J") ls)) (v .extras) (w .tells .extras);
       times = λ t now e. rw e (follows t now);
     }
 

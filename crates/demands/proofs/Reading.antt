@@ -26,13 +26,13 @@ use Rattle.laws.proofs.Splitting.{textsOf, steps, lengths-total}
 use Rattle.laws.proofs.Splitting as splitting
 use Rattle.laws.proofs.Counted.{accepted-whole, goodIn, entry-put, entry-kept, line-by-number}
 use Rattle.trips.proofs.Fixes.{fix-there}
-use Rattle.trips.proofs.Notes.{note-there}
+use Rattle.trips.proofs.Extras.{extra-there}
 use Rattle.demands.specs.Grammar.{Each, IsLayoutLine, IsBLine, IsKLine, AtMostOne, absent, given, Timed, Untimed, differential, remark, other, Items, done, timed, untimed, Body, undeclared, Parts, linesIn, Keeps, Meets, written}
 use Rattle.demands.specs.Grammar as grammar
-use Rattle.demands.specs.Readings.{ReadsFix, ReadsNote, ReadsLine, NoC, ReadsDeclaration, nowhere, declared, total, Steps, Readable}
+use Rattle.demands.specs.Readings.{ReadsFix, ReadsExtra, ReadsLine, NoC, ReadsDeclaration, nowhere, declared, total, Steps, Readable}
 use Rattle.demands.proofs.Laws.{each-map, each-join, shape-there}
 use Rattle.demands.proofs.Carried.{e-said, f-said}
-use Rattle.demands.proofs.Valued.{IsTold, fix-reads, note-reads, head-reads, point-reads, b-letter, k-letter, head-said, point-said}
+use Rattle.demands.proofs.Valued.{IsTold, fix-reads, extra-reads, head-reads, point-reads, b-letter, k-letter, head-said, point-said}
 use Rattle.demands.proofs.LayoutLines.{layout-said, told}
 use Rattle.demands.proofs.Passing.{before, lines-written}
 use Rattle.demands.proofs.Accepted.{accepted-as}
@@ -87,11 +87,11 @@ module _ (layout : Layout) (l : List ℕ) where
         columns = columns-read family.B layout l (omega arith) (i .0) (i .1) (omega (arith, s .long, s .short)) (rw (eq-eqb _ _ (t .kind), e));
       }
 
-  pub reads-note : IsTold 8 layout → (t : ℕ) → IsKLine layout t l → ReadsNote layout l
+  pub reads-extra : IsTold 8 layout → (t : ℕ) → IsKLine layout t l → ReadsExtra layout l
   unfolding shapedBy lineSaid
-  reads-note i n w =
-      let e = note-reads layout i n l w in
-      let t = note-there layout l n e in
+  reads-extra i n w =
+      let e = extra-reads layout i n l w in
+      let t = extra-there layout l n e in
       let s = shape-there (lineLength 8 layout) (lineLength 8 layout) false l tt (t .shape) in
       let k : eqb (getD l 0 0) (code "B") ≡ false = ne-eqb (getD l 0 0) (code "B") (λ z. omega (arith, t .kind)) in
       record {
@@ -125,46 +125,46 @@ one-aside f (given {layout = i} {l = l} w) = (layout-aside f i l w, tt)
 
 -- ---- the lines of a body
 
-aside-reads : (fixes notes : Layout) (l : List ℕ) → Aside l → ReadsLine fixes notes l
-aside-reads fixes notes l h = record { b = λ z. absurd (h .0 z); k = λ z. absurd (h .1 z) }
+aside-reads : (fixes extras : Layout) (l : List ℕ) → Aside l → ReadsLine fixes extras l
+aside-reads fixes extras l h = record { b = λ z. absurd (h .0 z); k = λ z. absurd (h .1 z) }
 
-module _ (fixes notes : Layout) (fix-told : IsTold 36 fixes) (note-told : IsTold 8 notes) where
+module _ (fixes extras : Layout) (fix-told : IsTold 36 fixes) (extra-told : IsTold 8 extras) where
   -- each line is read as it may be, and is no C line
   abbrev Item : List ℕ → Type 0
-  Item l = ReadsLine fixes notes l × NoC l
+  Item l = ReadsLine fixes extras l × NoC l
 
-  timed-item : {t : ℕ} (l : List ℕ) → Timed fixes notes t l → Item l
+  timed-item : {t : ℕ} (l : List ℕ) → Timed fixes extras t l → Item l
   timed-item l (grammar.fix f i w) =
       let k = b-letter fixes f l w in
       (record { b = λ z. reads-fix fixes l fix-told f w; k = λ z. absurd (omega arith) }, λ z. omega arith)
-  timed-item {t} l (grammar.event w) = let h = aside 69 l (e-said l t w .0) (omega arith) (omega arith) (omega arith) in (aside-reads fixes notes l h, h .2)
-  timed-item {t} l (grammar.satellites w) = let h = aside 70 l (f-said l t w .0) (omega arith) (omega arith) (omega arith) in (aside-reads fixes notes l h, h .2)
-  timed-item {t} l (grammar.note w) =
-      let k = k-letter notes t l w in
-      (record { b = λ z. absurd (omega arith); k = λ z. reads-note notes l note-told t w }, λ z. omega arith)
+  timed-item {t} l (grammar.event w) = let h = aside 69 l (e-said l t w .0) (omega arith) (omega arith) (omega arith) in (aside-reads fixes extras l h, h .2)
+  timed-item {t} l (grammar.satellites w) = let h = aside 70 l (f-said l t w .0) (omega arith) (omega arith) (omega arith) in (aside-reads fixes extras l h, h .2)
+  timed-item {t} l (grammar.extra w) =
+      let k = k-letter extras t l w in
+      (record { b = λ z. absurd (omega arith); k = λ z. reads-extra extras l extra-told t w }, λ z. omega arith)
 
-  items-read : {ls : List (List ℕ)} {ts : List ℕ} → Items fixes notes ls ts → Each Item ls
+  items-read : {ls : List (List ℕ)} {ts : List ℕ} → Items fixes extras ls ts → Each Item ls
   items-read done = tt
   items-read (timed {l = l} w r) = (timed-item l w, items-read r)
-  items-read (untimed {l = l} w r) = let h = untimed-aside w in ((aside-reads fixes notes l h, h .2), items-read r)
+  items-read (untimed {l = l} w r) = let h = untimed-aside w in ((aside-reads fixes extras l h, h .2), items-read r)
 
   -- C lines are neither
-  c-reads : (l : List ℕ) → getD l 0 0 ≡ code "C" → ReadsLine fixes notes l
+  c-reads : (l : List ℕ) → getD l 0 0 ≡ code "C" → ReadsLine fixes extras l
   c-reads l e = record { b = λ z. absurd (omega arith); k = λ z. absurd (omega arith) }
 
-  lines-of : (ls : List (List ℕ)) → Each Item ls → Each (ReadsLine fixes notes) ls
+  lines-of : (ls : List (List ℕ)) → Each Item ls → Each (ReadsLine fixes extras) ls
   lines-of ls h = each-map ls (λ l x. x .0) h
 
-  body-reads : {ls : List (List ℕ)} {ts : List ℕ} → Body fixes notes ls ts → Each (ReadsLine fixes notes) ls
+  body-reads : {ls : List (List ℕ)} {ts : List ℕ} → Body fixes extras ls ts → Each (ReadsLine fixes extras) ls
   body-reads (undeclared {ls = ls} i) = lines-of ls (items-read i)
   body-reads (grammar.declared pre hd points after h i no-b w ps c j) =
-      each-join (ReadsLine fixes notes) pre (hd ∷ (points ++ after)) (lines-of pre (items-read i)) (
+      each-join (ReadsLine fixes extras) pre (hd ∷ (points ++ after)) (lines-of pre (items-read i)) (
         c-reads hd (head-said h hd w .0),
-        each-join (ReadsLine fixes notes) points after (each-map points (λ l v. c-reads l (point-said l v .0)) ps) (lines-of after (items-read j)),
+        each-join (ReadsLine fixes extras) points after (each-map points (λ l v. c-reads l (point-said l v .0)) ps) (lines-of after (items-read j)),
       )
 
   -- the declaration of a body, between lines that are no C lines
-  body-declares : {ls : List (List ℕ)} {ts : List ℕ} (a z : List (List ℕ)) → Each NoC a → Each NoC z → Body fixes notes ls ts → ReadsDeclaration (a ++ (ls ++ z))
+  body-declares : {ls : List (List ℕ)} {ts : List ℕ} (a z : List (List ℕ)) → Each NoC a → Each NoC z → Body fixes extras ls ts → ReadsDeclaration (a ++ (ls ++ z))
   body-declares a z p q (undeclared {ls = ls} i) = nowhere (each-join NoC a (ls ++ z) p (each-join NoC ls z (each-map ls (λ l x. x .1) (items-read i)) q))
   body-declares a z p q (grammar.declared pre hd points after h i no-b w ps c j) =
       declared (a ++ pre) hd points (after ++ z) h
@@ -178,9 +178,9 @@ module _ (fixes notes : Layout) (fix-told : IsTold 36 fixes) (note-told : IsTold
 
 -- ---- the lines before the body, and those behind it
 
-module _ {p : Parts} {date : Date} {fixes notes : Layout} {times : List ℕ} (w : Keeps p date fixes notes times) where
+module _ {p : Parts} {date : Date} {fixes extras : Layout} {times : List ℕ} (w : Keeps p date fixes extras times) where
   abbrev front : List (List ℕ)
-  front = p .recorder ∷ p .day ∷ (p .headers ++ (p .fixLayout ++ p .noteLayout))
+  front = p .recorder ∷ p .day ∷ (p .headers ++ (p .fixLayout ++ p .extraLayout))
 
   abbrev back : List (List ℕ)
   back = p .seal ++ p .remarks
@@ -193,9 +193,9 @@ module _ {p : Parts} {date : Date} {fixes notes : Layout} {times : List ℕ} (w 
     aside 65 (p .recorder) (w .recorder .letter) (omega arith) (omega arith) (omega arith),
     (
       aside 72 (p .day) (ap (λ x. getD x 0 0) (w .day .text)) (omega arith) (omega arith) (omega arith),
-      each-join Aside (p .headers) (p .fixLayout ++ p .noteLayout)
+      each-join Aside (p .headers) (p .fixLayout ++ p .extraLayout)
           (each-map (p .headers) (λ l h. aside 72 l (h .letter) (omega arith) (omega arith) (omega arith)) (w .headers))
-          (each-join Aside (p .fixLayout) (p .noteLayout) (one-aside family.B (w .fixLayout)) (one-aside family.K (w .noteLayout))),
+          (each-join Aside (p .fixLayout) (p .extraLayout) (one-aside family.B (w .fixLayout)) (one-aside family.K (w .extraLayout))),
     ),
   )
 
@@ -205,18 +205,18 @@ module _ {p : Parts} {date : Date} {fixes notes : Layout} {times : List ℕ} (w 
       (each-map (p .seal) (λ l h. aside 71 l (h .letter) (omega arith) (omega arith) (omega arith)) (w .seal))
       (each-map (p .remarks) (λ l h. aside 76 l (h .letter) (omega arith) (omega arith) (omega arith)) (w .remarks))
 
-  keeps-reads : Each (ReadsLine fixes notes) (linesIn p)
+  keeps-reads : Each (ReadsLine fixes extras) (linesIn p)
   keeps-reads =
-      subst (Each (ReadsLine fixes notes)) (sym in-three)
-      (each-join (ReadsLine fixes notes) front (p .body ++ back) (each-map front (aside-reads fixes notes) front-aside)
-      (each-join (ReadsLine fixes notes) (p .body) back
-      (body-reads fixes notes (told family.B (w .fixLayout)) (told family.K (w .noteLayout)) (w .body))
-      (each-map back (aside-reads fixes notes) back-aside)))
+      subst (Each (ReadsLine fixes extras)) (sym in-three)
+      (each-join (ReadsLine fixes extras) front (p .body ++ back) (each-map front (aside-reads fixes extras) front-aside)
+      (each-join (ReadsLine fixes extras) (p .body) back
+      (body-reads fixes extras (told family.B (w .fixLayout)) (told family.K (w .extraLayout)) (w .body))
+      (each-map back (aside-reads fixes extras) back-aside)))
 
   keeps-declares : ReadsDeclaration (linesIn p)
   keeps-declares =
       subst ReadsDeclaration (sym in-three)
-      (body-declares fixes notes (told family.B (w .fixLayout)) (told family.K (w .noteLayout)) front back
+      (body-declares fixes extras (told family.B (w .fixLayout)) (told family.K (w .extraLayout)) front back
       (each-map front (λ l h. h .2) front-aside)
       (each-map back (λ l h. h .2) back-aside)
       (w .body))
@@ -248,6 +248,6 @@ readable file table f e =
           let k : i + 1 - 1 ≡ i = omega arith in
           line-by-number file table (i + 1) (omega arith) (omega arith) .bytes ∙ ap (λ x. getD x (i + 1 - 1) []) t ∙ ap (λ x. getD ls x []) k;
       stepping = steps-over file ls 0 (subst (splitting.Steps file 0) c (steps file));
-      reads = subst (λ (x : Flight). Each (ReadsLine (x .fixes) (x .notes)) ls) (w .2) (keeps-reads (m .keeps));
+      reads = subst (λ (x : Flight). Each (ReadsLine (x .fixes) (x .extras)) ls) (w .2) (keeps-reads (m .keeps));
       declaration = keeps-declares (m .keeps);
     }

@@ -10,7 +10,7 @@ use borrow.Author.Tests.{leb-true, leb-false}
 use lib.Dec.{leb}
 use lib.ListN.{length, getD}
 use Rattle.rules.specs.Layouts.{emptyLayout}
-use Rattle.rules.specs.Order.{moved, withFixes, withNotes, counted, begun, pointed, clocked}
+use Rattle.rules.specs.Order.{moved, withFixes, withExtras, counted, begun, pointed, clocked}
 use Rattle.rules.specs.declared.Layout.{Layout}
 use Rattle.rules.specs.declared.Family.the-variants as family
 use Rattle.rules.specs.declared.Fix.{Fix}
@@ -21,7 +21,7 @@ use Rattle.demands.specs.Grammar.{Each, Follows, OrderFrom, IsHLine, IsB
 use Rattle.demands.specs.Grammar as grammar
 use Rattle.demands.proofs.Carried.{e-said, f-said}
 use Rattle.demands.proofs.Valued.{IsTold, b-letter, k-letter}
-use Rattle.demands.proofs.Leading.{Part, recorder, header, fixLayout, noteLayout, body, seal, remarks, InBody, head, point, fix, note, event, quiet, Leads, first, second, further, fixing, noting, flying, sealing, remarking, Sound, judge-leads, leads-judge, stays-sound}
+use Rattle.demands.proofs.Leading.{Part, recorder, header, fixLayout, extraLayout, body, seal, remarks, InBody, head, point, fix, extra, event, quiet, Leads, first, second, further, fixing, noting, flying, sealing, remarking, Sound, judge-leads, leads-judge, stays-sound}
 use Rattle.demands.proofs.Passing.{Passes}
 use Rattle.demands.proofs.Passing as passing
 
@@ -31,20 +31,20 @@ abbrev pub rank : Part → ℕ
 rank recorder = 1
 rank header = 2
 rank fixLayout = 3
-rank noteLayout = 4
+rank extraLayout = 4
 rank body = 5
 rank seal = 6
 rank remarks = 7
 
 part-of : ℕ → Part
-part-of n = getD (recorder ∷ recorder ∷ header ∷ fixLayout ∷ noteLayout ∷ body ∷ seal ∷ remarks ∷ []) n recorder
+part-of n = getD (recorder ∷ recorder ∷ header ∷ fixLayout ∷ extraLayout ∷ body ∷ seal ∷ remarks ∷ []) n recorder
 
 part-back : (p : Part) → part-of (rank p) ≡ p
 unfolding part-of
 part-back recorder = refl
 part-back header = refl
 part-back fixLayout = refl
-part-back noteLayout = refl
+part-back extraLayout = refl
 part-back body = refl
 part-back seal = refl
 part-back remarks = refl
@@ -56,7 +56,7 @@ body-ranks : {st : State} {l : List ℕ} {m : State} → InBody st l m → m .st
 body-ranks (head h z d b w) = refl
 body-ranks (point h w) = refl
 body-ranks (fix f z t w) = refl
-body-ranks (note n z t w) = refl
+body-ranks (extra n z t w) = refl
 body-ranks (event n z t w) = refl
 body-ranks (quiet z w) = refl
 
@@ -120,7 +120,7 @@ above-end none = (refl, refl)
 above-end (more recorder g w a) = absurd (omega arith)
 above-end (more header g w a) = absurd (omega arith)
 above-end (more fixLayout g w a) = absurd (omega arith)
-above-end (more noteLayout g w a) = absurd (omega arith)
+above-end (more extraLayout g w a) = absurd (omega arith)
 above-end (more body g w a) = absurd (omega arith)
 above-end (more seal g w a) = absurd (omega arith)
 above-end (more remarks g w a) = absurd (omega arith)
@@ -132,7 +132,7 @@ section-passes (also {st = st} {l = l} w r) = passing.next (leads-judge l st w) 
 -- ---- what the lines of a part leave as it was
 
 abbrev pub Same : State → State → Type 0
-Same st m = (m .flight .date ≡ st .flight .date) × (m .flight .fixes ≡ st .flight .fixes) × (m .flight .notes ≡ st .flight .notes)
+Same st m = (m .flight .date ≡ st .flight .date) × (m .flight .fixes ≡ st .flight .fixes) × (m .flight .extras ≡ st .flight .extras)
 
 -- no declaration, no B line and no time so far
 abbrev pub Fresh : State → Type 0
@@ -164,14 +164,14 @@ headers-here (l ∷ hs) st h n e p =
 pub record FixLayoutThere (st : State) (ls : List (List ℕ)) (m : State) : Type 0 where
   pub one : AtMostOne family.B (m .flight .fixes) ls
   pub date : m .flight .date ≡ st .flight .date
-  pub notes : m .flight .notes ≡ st .flight .notes
+  pub extras : m .flight .extras ≡ st .flight .extras
   pub fresh : Fresh st → Fresh m
   pub low : 2 ≤ m .stage
   pub high : m .stage ≤ 3
 
 pub fixes-there : {st m : State} {ls : List (List ℕ)} → Section fixLayout st ls m → st .flight .fixes ≡ emptyLayout → st .stage ≡ 2 → FixLayoutThere st ls m
-fixes-there empty e s = record { one = rw e absent; date = refl; notes = refl; fresh = λ f. f; low = omega arith; high = omega arith }
-fixes-there (also (fixing i a p w) empty) e s = record { one = given w; date = refl; notes = refl; fresh = λ f. f; low = omega arith; high = omega arith }
+fixes-there empty e s = record { one = rw e absent; date = refl; extras = refl; fresh = λ f. f; low = omega arith; high = omega arith }
+fixes-there (also (fixing i a p w) empty) e s = record { one = given w; date = refl; extras = refl; fresh = λ f. f; low = omega arith; high = omega arith }
 fixes-there (also (fixing i a p w) (also (fixing j b q v) r)) e s = absurd (omega arith)
 
 pub fixes-here : {layout : Layout} {ls : List (List ℕ)} (st : State) → AtMostOne family.B layout ls → st .flight .fixes ≡ emptyLayout → st .stage ≡ 2 → st .points ≡ 0
@@ -179,24 +179,24 @@ pub fixes-here : {layout : Layout} {ls : List (List ℕ)} (st : State) → AtMos
 fixes-here st absent e s p = (st, empty, e)
 fixes-here st (given {layout = i} w) e s p = (withFixes i (moved 3 st), also (fixing i s p w) empty, refl)
 
-pub record NoteLayoutThere (st : State) (ls : List (List ℕ)) (m : State) : Type 0 where
-  pub one : AtMostOne family.K (m .flight .notes) ls
+pub record ExtraLayoutThere (st : State) (ls : List (List ℕ)) (m : State) : Type 0 where
+  pub one : AtMostOne family.K (m .flight .extras) ls
   pub date : m .flight .date ≡ st .flight .date
   pub fixes : m .flight .fixes ≡ st .flight .fixes
   pub fresh : Fresh st → Fresh m
   pub low : 2 ≤ m .stage
   pub high : m .stage ≤ 4
 
-pub notes-there : {st m : State} {ls : List (List ℕ)} → Section noteLayout st ls m → st .flight .notes ≡ emptyLayout → 2 ≤ st .stage → st .stage ≤ 3
-    → NoteLayoutThere st ls m
-notes-there empty e a b = record { one = rw e absent; date = refl; fixes = refl; fresh = λ f. f; low = a; high = omega arith }
-notes-there (also (noting j x y p w) empty) e a b = record { one = given w; date = refl; fixes = refl; fresh = λ f. f; low = omega arith; high = omega arith }
-notes-there (also (noting j x y p w) (also (noting i u v q z) r)) e a b = absurd (omega arith)
+pub extras-there : {st m : State} {ls : List (List ℕ)} → Section extraLayout st ls m → st .flight .extras ≡ emptyLayout → 2 ≤ st .stage → st .stage ≤ 3
+    → ExtraLayoutThere st ls m
+extras-there empty e a b = record { one = rw e absent; date = refl; fixes = refl; fresh = λ f. f; low = a; high = omega arith }
+extras-there (also (noting j x y p w) empty) e a b = record { one = given w; date = refl; fixes = refl; fresh = λ f. f; low = omega arith; high = omega arith }
+extras-there (also (noting j x y p w) (also (noting i u v q z) r)) e a b = absurd (omega arith)
 
-pub notes-here : {layout : Layout} {ls : List (List ℕ)} (st : State) → AtMostOne family.K layout ls → st .flight .notes ≡ emptyLayout → 2 ≤ st .stage → st .stage ≤ 3
-    → st .points ≡ 0 → (m : State) × Section noteLayout st ls m × (m .flight .notes ≡ layout)
-notes-here st absent e a b p = (st, empty, e)
-notes-here st (given {layout = j} w) e a b p = (withNotes j (moved 4 st), also (noting j a b p w) empty, refl)
+pub extras-here : {layout : Layout} {ls : List (List ℕ)} (st : State) → AtMostOne family.K layout ls → st .flight .extras ≡ emptyLayout → 2 ≤ st .stage → st .stage ≤ 3
+    → st .points ≡ 0 → (m : State) × Section extraLayout st ls m × (m .flight .extras ≡ layout)
+extras-here st absent e a b p = (st, empty, e)
+extras-here st (given {layout = j} w) e a b p = (withExtras j (moved 4 st), also (noting j a b p w) empty, refl)
 
 -- ---- the body
 
@@ -204,7 +204,7 @@ step-same : {st : State} {l : List ℕ} {m : State} → InBody st l m → Same s
 step-same (head h z d b w) = (refl, refl, refl)
 step-same (point h w) = (refl, refl, refl)
 step-same (fix f z t w) = (refl, refl, refl)
-step-same (note n z t w) = (refl, refl, refl)
+step-same (extra n z t w) = (refl, refl, refl)
 step-same (event n z t w) = (refl, refl, refl)
 step-same (quiet z w) = (refl, refl, refl)
 
@@ -239,30 +239,30 @@ untimed-told c l ls f r = record { times = r .times; lines = f (r .times) (r .li
 abbrev Closed : State → Type 0
 Closed st = st .declared ≡ false → st .flight .bs ≡ 0 → ⊥
 
-module _ (fixes notes : Layout) where
+module _ (fixes extras : Layout) where
   -- the layouts of the grammar are those of the state
   abbrev Laid : State → Type 0
-  Laid st = (st .flight .fixes ≡ fixes) × (st .flight .notes ≡ notes)
+  Laid st = (st .flight .fixes ≡ fixes) × (st .flight .extras ≡ extras)
 
-  fix-line : (st : State) (f : Fix) (l : List ℕ) → Laid st → IsBLine (st .flight .fixes) f l → Timed fixes notes (f .time) l
+  fix-line : (st : State) (f : Fix) (l : List ℕ) → Laid st → IsBLine (st .flight .fixes) f l → Timed fixes extras (f .time) l
   fix-line st f l e w = grammar.fix f refl (rw (e .0) at w)
 
-  note-line : (st : State) (t : ℕ) (l : List ℕ) → Laid st → IsKLine (st .flight .notes) t l → Timed fixes notes t l
-  note-line st t l e w = grammar.note (rw (e .1) at w)
+  extra-line : (st : State) (t : ℕ) (l : List ℕ) → Laid st → IsKLine (st .flight .extras) t l → Timed fixes extras t l
+  extra-line st t l e w = grammar.extra (rw (e .1) at w)
 
-  event-line : (t : ℕ) (l : List ℕ) → IsELine t l ⊎ IsFLine t l → Timed fixes notes t l
+  event-line : (t : ℕ) (l : List ℕ) → IsELine t l ⊎ IsFLine t l → Timed fixes extras t l
   event-line t l (inl w) = grammar.event w
   event-line t l (inr w) = grammar.satellites w
 
   -- where no declaration can begin, the lines are items
-  items-there : {st m : State} {ls : List (List ℕ)} → Section body st ls m → Laid st → st .points ≡ 0 → Closed st → Told (Items fixes notes) (st .clock) ls
+  items-there : {st m : State} {ls : List (List ℕ)} → Section body st ls m → Laid st → st .points ≡ 0 → Closed st → Told (Items fixes extras) (st .clock) ls
   items-there empty e p c = record { times = []; lines = grammar.done; order = tt }
   items-there (also (flying a b (head h z d n w)) r) e p c = absurd (c d n)
   items-there (also (flying a b (point h w)) r) e p c = absurd (omega arith)
   items-there (also {st = st} {l = l} {ls = ls} (flying a b (fix f z t w)) r) e p c =
       timed-told (st .clock) (f .time) l ls t (λ ts. grammar.timed (fix-line st f l e (w .1))) (items-there r e p (λ d n. omega arith))
-  items-there (also {st = st} {l = l} {ls = ls} (flying a b (note n z t w)) r) e p c =
-      timed-told (st .clock) n l ls t (λ ts. grammar.timed (note-line st n l e (w .1))) (items-there r e p (λ d i. c d (omega arith)))
+  items-there (also {st = st} {l = l} {ls = ls} (flying a b (extra n z t w)) r) e p c =
+      timed-told (st .clock) n l ls t (λ ts. grammar.timed (extra-line st n l e (w .1))) (items-there r e p (λ d i. c d (omega arith)))
   items-there (also {st = st} {l = l} {ls = ls} (flying a b (event n z t w)) r) e p c =
       timed-told (st .clock) n l ls t (λ ts. grammar.timed (event-line n l w)) (items-there r e p c)
   items-there (also {st = st} {l = l} {ls = ls} (flying a b (quiet z w)) r) e p c =
@@ -314,17 +314,17 @@ module _ (fixes notes : Layout) where
         clock = x .clock;
       }
   points-there (suc p) (also (flying a b (fix f z t w)) r) e n = absurd (omega arith)
-  points-there (suc p) (also (flying a b (note i z t w)) r) e n = absurd (omega arith)
+  points-there (suc p) (also (flying a b (extra i z t w)) r) e n = absurd (omega arith)
   points-there (suc p) (also (flying a b (event i z t w)) r) e n = absurd (omega arith)
   points-there (suc p) (also (flying a b (quiet z w)) r) e n = absurd (omega arith)
 
   -- a line that is no B line, before a body
-  body-timed : {t : ℕ} {l : List ℕ} {ls : List (List ℕ)} → Timed fixes notes t l → (getD l 0 0 ≡ code "B" → ⊥) → (ts : List ℕ) → Body fixes notes ls ts
-      → Body fixes notes (l ∷ ls) (t ∷ ts)
+  body-timed : {t : ℕ} {l : List ℕ} {ls : List (List ℕ)} → Timed fixes extras t l → (getD l 0 0 ≡ code "B" → ⊥) → (ts : List ℕ) → Body fixes extras ls ts
+      → Body fixes extras (l ∷ ls) (t ∷ ts)
   body-timed w n ts (undeclared i) = undeclared (grammar.timed w i)
   body-timed {l = l} w n ts (declared before hd points after h i no-b hl ps c j) = declared (l ∷ before) hd points after h (grammar.timed w i) (n, no-b) hl ps c j
 
-  body-untimed : {l : List ℕ} {ls : List (List ℕ)} → Untimed l → (ts : List ℕ) → Body fixes notes ls ts → Body fixes notes (l ∷ ls) ts
+  body-untimed : {l : List ℕ} {ls : List (List ℕ)} → Untimed l → (ts : List ℕ) → Body fixes extras ls ts → Body fixes extras (l ∷ ls) ts
   body-untimed w ts (undeclared i) = undeclared (grammar.untimed w i)
   body-untimed {l = l} w ts (declared before hd points after h i no-b hl ps c j) =
       declared (l ∷ before) hd points after h (grammar.untimed w i) (untimed-not-b w, no-b) hl ps c j
@@ -333,12 +333,12 @@ module _ (fixes notes : Layout) where
   event-not-b {t} {l} (inl w) e = omega (arith, e-said l t w .0)
   event-not-b {t} {l} (inr w) e = omega (arith, f-said l t w .0)
 
-  items-body : {c : ℕ} {ls : List (List ℕ)} → Told (Items fixes notes) c ls → Told (Body fixes notes) c ls
+  items-body : {c : ℕ} {ls : List (List ℕ)} → Told (Items fixes extras) c ls → Told (Body fixes extras) c ls
   items-body r = record { times = r .times; lines = undeclared (r .lines); order = r .order }
 
   -- the declaration, from its head on
   declaration : (h : Head) (l : List ℕ) (s : State) {m : State} {ls : List (List ℕ)} → IsHeadLine h l → PointsThere (h .turns + 4) s ls m → Laid s
-      → s .declared ≡ true → Told (Body fixes notes) (s .clock) (l ∷ ls)
+      → s .declared ≡ true → Told (Body fixes extras) (s .clock) (l ∷ ls)
   declaration h l s w x e d =
       let i = items-there (x .section) (x .laid e) (x .none-left) (λ q n. false-true (sym q ∙ x .begun ∙ d)) in
       record {
@@ -348,15 +348,15 @@ module _ (fixes notes : Layout) where
       }
 
   pub body-there : {st m : State} {ls : List (List ℕ)} → Section body st ls m → Laid st → st .points ≡ 0 → st .declared ≡ false → st .flight .bs ≡ 0 → m .points ≡ 0
-      → Told (Body fixes notes) (st .clock) ls
+      → Told (Body fixes extras) (st .clock) ls
   body-there empty e p d n z = record { times = []; lines = undeclared grammar.done; order = tt }
   body-there (also {st = st} {l = l} (flying a b (head h x y i w)) r) e p d n z =
       declaration h l (begun h (moved 5 st)) w (points-there (h .turns + 4) r refl z) e refl
   body-there (also (flying a b (point h w)) r) e p d n z = absurd (omega arith)
   body-there (also {st = st} {l = l} {ls = ls} (flying a b (fix f x t w)) r) e p d n z =
       items-body (timed-told (st .clock) (f .time) l ls t (λ ts. grammar.timed (fix-line st f l e (w .1))) (items-there r e p (λ q i. omega arith)))
-  body-there (also {st = st} {l = l} {ls = ls} (flying a b (note i x t w)) r) e p d n z =
-      timed-told (st .clock) i l ls t (body-timed (note-line st i l e (w .1)) (λ q. omega (arith, k-letter _ i l (w .1)))) (body-there r e p d (omega arith) z)
+  body-there (also {st = st} {l = l} {ls = ls} (flying a b (extra i x t w)) r) e p d n z =
+      timed-told (st .clock) i l ls t (body-timed (extra-line st i l e (w .1)) (λ q. omega (arith, k-letter _ i l (w .1)))) (body-there r e p d (omega arith) z)
   body-there (also {st = st} {l = l} {ls = ls} (flying a b (event i x t w)) r) e p d n z =
       timed-told (st .clock) i l ls t (body-timed (event-line i l w) (event-not-b w)) (body-there r e p d n z)
   body-there (also {st = st} {l = l} {ls = ls} (flying a b (quiet x w)) r) e p d n z =
@@ -375,9 +375,9 @@ module _ (fixes notes : Layout) where
 
   -- lines can tell both layouts
   abbrev Told-both : Type 0
-  Told-both = IsTold 36 fixes × IsTold 8 notes
+  Told-both = IsTold 36 fixes × IsTold 8 extras
 
-  timed-here : Told-both → (us : List ℕ) (ls : List (List ℕ)) (st : State) {t : ℕ} (l : List ℕ) → Timed fixes notes t l → Laid st → 2 ≤ st .stage → st .stage ≤ 5 → st .points ≡ 0
+  timed-here : Told-both → (us : List ℕ) (ls : List (List ℕ)) (st : State) {t : ℕ} (l : List ℕ) → Timed fixes extras t l → Laid st → 2 ≤ st .stage → st .stage ≤ 5 → st .points ≡ 0
       → Follows (st .clock) t
       → ((m : State) → m .clock ≡ t → Laid m → m .stage ≡ 5 → m .points ≡ 0 → ItemsHere us ls m) → ItemsHere us (l ∷ ls) st
   timed-here g us ls st l (grammar.fix f i w) e a b p t k =
@@ -391,12 +391,12 @@ module _ (fixes notes : Layout) where
         begun = r .begun;
         bs = λ n. absurd (n .0 (b-letter _ f l w));
       }
-  timed-here g us ls st {t} l (grammar.note w) e a b p q k =
-      let v : IsKLine (st .flight .notes) t l = rw (e .1) w in
+  timed-here g us ls st {t} l (grammar.extra w) e a b p q k =
+      let v : IsKLine (st .flight .extras) t l = rw (e .1) w in
       let r = k (clocked t (counted 0 1 (moved 5 st))) refl e refl p in
       record {
         state = r .state;
-        section = also {st = st} (flying a b (note t p q (rw (e .1) (g .1), v))) (r .section);
+        section = also {st = st} (flying a b (extra t p q (rw (e .1) (g .1), v))) (r .section);
         order = r .order;
         points = r .points;
         begun = r .begun;
@@ -423,7 +423,7 @@ module _ (fixes notes : Layout) where
         bs = λ n. r .bs (n .1);
       }
 
-  items-here : Told-both → {ls : List (List ℕ)} {ts : List ℕ} (us : List ℕ) (st : State) (c : ℕ) → Items fixes notes ls ts → st .clock ≡ c → Laid st → 2 ≤ st .stage → st .stage ≤ 5
+  items-here : Told-both → {ls : List (List ℕ)} {ts : List ℕ} (us : List ℕ) (st : State) (c : ℕ) → Items fixes extras ls ts → st .clock ≡ c → Laid st → 2 ≤ st .stage → st .stage ≤ 5
       → st .points ≡ 0 → OrderFrom c (ts ++ us) → ItemsHere us ls st
   items-here g us st c grammar.done i e a b p o = record {
     state = st;
@@ -458,7 +458,7 @@ module _ (fixes notes : Layout) where
   section-join empty q = q
   section-join (also w r) q = also w (section-join r q)
 
-  pub body-here : Told-both → {ls : List (List ℕ)} {ts : List ℕ} (st : State) → Body fixes notes ls ts → Laid st → Fresh st → 2 ≤ st .stage → st .stage ≤ 5
+  pub body-here : Told-both → {ls : List (List ℕ)} {ts : List ℕ} (st : State) → Body fixes extras ls ts → Laid st → Fresh st → 2 ≤ st .stage → st .stage ≤ 5
       → OrderFrom (st .clock) ts → (m : State) × Section body st ls m × (m .points ≡ 0)
   body-here g st (undeclared i) e f a b o =
       let r = items-here g [] st (st .clock) i refl e a b (f .0) (rw append-nil o) in

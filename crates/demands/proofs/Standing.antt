@@ -19,7 +19,7 @@ use Rattle.rules.specs.Listed.{codeAt}
 use Rattle.rules.specs.Layouts.{firstStart, emptyLayout, withEntry, entryAt, entriesFrom, layoutFields, columns}
 use Rattle.rules.specs.Lines.{shaped, layoutLine, fixFields, shapedBy, bLine, kLine}
 use Rattle.rules.specs.Reads.{layoutLetter}
-use Rattle.rules.specs.Order.{start, moved, withFixes, withNotes, counted, begun, pointed, clocked}
+use Rattle.rules.specs.Order.{start, moved, withFixes, withExtras, counted, begun, pointed, clocked}
 use Rattle.rules.specs.declared.Entry.{Entry}
 use Rattle.rules.specs.declared.Layout.{Layout}
 use Rattle.rules.specs.declared.Family.{Family}
@@ -37,7 +37,7 @@ use Rattle.demands.proofs.Carried.{e-inv, e-said, f-inv, f-said}
 use Rattle.demands.proofs.Valued.{b-said, k-said, head-reads, head-said, point-said}
 use Rattle.demands.proofs.Entries.{placed-there, withAll, all-laid}
 use Rattle.demands.proofs.LayoutLines.{layout-said}
-use Rattle.demands.proofs.Leading.{Part, InBody, head, point, fix, note, event, quiet, Leads, first, second, further, fixing, noting, flying, sealing, remarking, Sound, sound-start, stays-sound}
+use Rattle.demands.proofs.Leading.{Part, InBody, head, point, fix, extra, event, quiet, Leads, first, second, further, fixing, noting, flying, sealing, remarking, Sound, sound-start, stays-sound}
 
 -- ---- what a line tells of itself
 
@@ -339,7 +339,7 @@ pub record Stands (ls : List (List ℕ)) (st : State) : Type 0 where
   pub points : st .points ≡ toCome ls
   pub clock : st .clock ≡ orZero (lastTime ls)
   pub fixes : st .flight .fixes ≡ laid (entriesTold family.B ls)
-  pub notes : st .flight .notes ≡ laid (entriesTold family.K ls)
+  pub extras : st .flight .extras ≡ laid (entriesTold family.K ls)
 
 pub stands-start : Stands [] start
 unfolding beginning toCome lastTime entriesTold
@@ -352,7 +352,7 @@ stands-start = record {
   points = refl;
   clock = refl;
   fixes = refl;
-  notes = refl;
+  extras = refl;
 }
 
 -- ---- and they tell it of the state after the next line
@@ -405,7 +405,7 @@ module _ (ls : List (List ℕ)) (l : List ℕ) where
       points = points-same (st .points) (rw k (a .no-c)) z (w .points);
       clock = clock-same (st .clock) (rw k (a .no-time)) (w .clock);
       fixes = entries-same family.B (st .flight .fixes) (rw k (a .no-i)) (w .fixes);
-      notes = entries-same family.K (st .flight .notes) (rw k (a .no-j)) (w .notes);
+      extras = entries-same family.K (st .flight .extras) (rw k (a .no-j)) (w .extras);
     }
 
     -- E and F
@@ -420,7 +420,7 @@ module _ (ls : List (List ℕ)) (l : List ℕ) where
       points = points-same (st .points) (rw k nc) z (w .points);
       clock = clock-here t (rw k y) e;
       fixes = entries-same family.B (st .flight .fixes) (rw k ni) (w .fixes);
-      notes = entries-same family.K (st .flight .notes) (rw k nj) (w .notes);
+      extras = entries-same family.K (st .flight .extras) (rw k nj) (w .extras);
     }
 
     fix-stands : (t : ℕ) → getD l 0 0 ≡ code "B" → timeAt l 1 ≡ some t → st .points ≡ 0 → Staged 5 (ls ++ (l ∷ []))
@@ -435,13 +435,13 @@ module _ (ls : List (List ℕ)) (l : List ℕ) where
       points = points-same (st .points) (rw k) z (w .points);
       clock = clock-here t (rw k) e;
       fixes = entries-same family.B (st .flight .fixes) (rw k) (w .fixes);
-      notes = entries-same family.K (st .flight .notes) (rw k) (w .notes);
+      extras = entries-same family.K (st .flight .extras) (rw k) (w .extras);
     }
 
-    note-stands : (t : ℕ) → getD l 0 0 ≡ code "K" → timeAt l 1 ≡ some t → st .points ≡ 0 → Staged 5 (ls ++ (l ∷ []))
+    extra-stands : (t : ℕ) → getD l 0 0 ≡ code "K" → timeAt l 1 ≡ some t → st .points ≡ 0 → Staged 5 (ls ++ (l ∷ []))
         → Stands (ls ++ (l ∷ [])) (clocked t (counted 0 1 (moved 5 st)))
     unfolding isOf bytes
-    note-stands t k e z s = record {
+    extra-stands t k e z s = record {
       sound = w .sound;
       staged = s;
       lines = lines-more (st .flight .lines) (w .lines);
@@ -450,7 +450,7 @@ module _ (ls : List (List ℕ)) (l : List ℕ) where
       points = points-same (st .points) (rw k) z (w .points);
       clock = clock-here t (rw k) e;
       fixes = entries-same family.B (st .flight .fixes) (rw k) (w .fixes);
-      notes = entries-same family.K (st .flight .notes) (rw k) (w .notes);
+      extras = entries-same family.K (st .flight .extras) (rw k) (w .extras);
     }
 
     head-stands : (h : Head) → IsHeadLine h l → getD l 0 0 ≡ code "C" → st .declared ≡ false → Staged 5 (ls ++ (l ∷ []))
@@ -467,7 +467,7 @@ module _ (ls : List (List ℕ)) (l : List ℕ) where
           points = sym (come-head l ls k n ∙ head-points h l v);
           clock = clock-same (st .clock) (rw k) (w .clock);
           fixes = entries-same family.B (st .flight .fixes) (rw k) (w .fixes);
-          notes = entries-same family.K (st .flight .notes) (rw k) (w .notes);
+          extras = entries-same family.K (st .flight .extras) (rw k) (w .extras);
         }
 
     point-stands : getD l 0 0 ≡ code "C" → 1 ≤ st .points → Staged 5 (ls ++ (l ∷ [])) → Stands (ls ++ (l ∷ [])) (pointed (moved 5 st))
@@ -484,7 +484,7 @@ module _ (ls : List (List ℕ)) (l : List ℕ) where
           points = ap (λ x. x - 1) p ∙ sym (come-point l ls (omega arith));
           clock = clock-same (st .clock) (rw k) (w .clock);
           fixes = entries-same family.B (st .flight .fixes) (rw k) (w .fixes);
-          notes = entries-same family.K (st .flight .notes) (rw k) (w .notes);
+          extras = entries-same family.K (st .flight .extras) (rw k) (w .extras);
         }
       where
         begun-there : 1 ≤ beginning (code "C") ls
@@ -507,11 +507,11 @@ module _ (ls : List (List ℕ)) (l : List ℕ) where
           points = points-same (st .points) (rw k) z (w .points);
           clock = clock-same (st .clock) (rw k) (w .clock);
           fixes = entries-here family.B x v (only-without (bytes "AH") (code "I") ls refl (sym (w .staged .headers) ∙ rw e));
-          notes = entries-same family.K (st .flight .notes) (rw k) (w .notes);
+          extras = entries-same family.K (st .flight .extras) (rw k) (w .extras);
         }
 
-    noting-stands : (x : Layout) → IsLayoutLine family.K x l → Sound (withNotes x (moved 4 st)) → 2 ≤ st .stage → st .stage ≤ 3 → st .points ≡ 0
-        → Stands (ls ++ (l ∷ [])) (withNotes x (moved 4 st))
+    noting-stands : (x : Layout) → IsLayoutLine family.K x l → Sound (withExtras x (moved 4 st)) → 2 ≤ st .stage → st .stage ≤ 3 → st .points ≡ 0
+        → Stands (ls ++ (l ∷ [])) (withExtras x (moved 4 st))
     unfolding isOf bytes
     noting-stands x v g p q z =
         let k = layout-said family.K x l v .0 in
@@ -524,7 +524,7 @@ module _ (ls : List (List ℕ)) (l : List ℕ) where
           points = points-same (st .points) (rw k) z (w .points);
           clock = clock-same (st .clock) (rw k) (w .clock);
           fixes = entries-same family.B (st .flight .fixes) (rw k) (w .fixes);
-          notes = entries-here family.K x v (only-without (bytes "AHI") (code "J") ls refl (sym (w .staged .layouts) ∙ le-leb _ _ q));
+          extras = entries-here family.K x v (only-without (bytes "AHI") (code "J") ls refl (sym (w .staged .layouts) ∙ le-leb _ _ q));
         }
 
 -- M to Z
@@ -577,9 +577,9 @@ module _ (ls : List (List ℕ)) (l : List ℕ) (st : State) (w : Stands ls st) w
   body-stands p q (fix f z t v) =
       let s = b-said (st .flight .fixes) f l v in
       fix-stands ls l st w (f .time) (s .0) (b-time (st .flight .fixes) l f (s .1)) z (body-staged (st .stage) ls l (w .staged) 66 p q (s .0) refl refl refl)
-  body-stands p q (note n z t v) =
-      let s = k-said (st .flight .notes) n l v in
-      note-stands ls l st w n (s .0) (k-time (st .flight .notes) l n (s .1)) z (body-staged (st .stage) ls l (w .staged) 75 p q (s .0) refl refl refl)
+  body-stands p q (extra n z t v) =
+      let s = k-said (st .flight .extras) n l v in
+      extra-stands ls l st w n (s .0) (k-time (st .flight .extras) l n (s .1)) z (body-staged (st .stage) ls l (w .staged) 75 p q (s .0) refl refl refl)
   body-stands p q (event n z t v) = events-stand n p q z v
   body-stands p q (quiet z v) = quiet-stands p q z v
 
@@ -604,7 +604,7 @@ module _ (ls : List (List ℕ)) (l : List ℕ) (st : State) (w : Stands ls st) w
         points = s .points;
         clock = s .clock;
         fixes = s .fixes;
-        notes = s .notes;
+        extras = s .extras;
       }
   stands-next (further a b p n v) = header-stands a b p (v .letter)
   stands-next (fixing i a p v) = fixing-stands ls l st w i v (stays-sound l st (fixing i a p v) (w .sound)) a p

@@ -13,18 +13,18 @@ use Rattle.rules.specs.Refusals.{says}
 use Rattle.rules.specs.Chars.{isValid}
 use Rattle.rules.specs.Layouts.{entriesOf, allowed}
 use Rattle.rules.specs.Lines.{headLine, pointLine, bLine, kLine}
-use Rattle.rules.specs.Reads.{fixSaid, noteSaid, headSaid, pointSaid}
-use Rattle.rules.specs.Writes.{fixText, noteText}
+use Rattle.rules.specs.Reads.{fixSaid, extraSaid, headSaid, pointSaid}
+use Rattle.rules.specs.Writes.{fixText, extraText}
 use Rattle.rules.specs.declared.Layout.{Layout}
 use Rattle.rules.specs.declared.Fix.{Fix}
 use Rattle.rules.specs.declared.Head.{Head}
 use Rattle.rules.specs.declared.Point.{Point}
-use Rattle.trips.specs.Limits.{isTime, isClean, goodFixFields, goodFix, goodNote, goodHeadFields, goodHead}
+use Rattle.trips.specs.Limits.{isTime, isClean, goodFixFields, goodFix, goodExtra, goodHeadFields, goodHead}
 use Rattle.trips.proofs.Laws.{false-true, refuses-says, need-inv}
 use Rattle.trips.proofs.Texts.{clean-valid}
 use Rattle.trips.proofs.LineTrip.{line-limits}
 use Rattle.trips.proofs.Fixes.{fix-trip}
-use Rattle.trips.proofs.Notes.{note-trip}
+use Rattle.trips.proofs.Extras.{extra-trip}
 use Rattle.trips.proofs.Heads.{head-trip, head-within}
 use Rattle.trips.proofs.Heads as heads
 use Rattle.trips.proofs.Points.{point-trip}
@@ -48,10 +48,10 @@ fix-limits layout t f tail =
       λ h. rw (h .0) (x .1 (h .1)),
     )
 
-pub note-limits : (layout : Layout) → IsTold 8 layout → (t : ℕ) (tail : List ℕ)
-    → (goodNote t tail layout ≡ true) ↔ ((isTime t ≡ true) × Columns (entriesOf layout) tail)
-unfolding goodNote
-note-limits layout t n tail =
+pub extra-limits : (layout : Layout) → IsTold 8 layout → (t : ℕ) (tail : List ℕ)
+    → (goodExtra t tail layout ≡ true) ↔ ((isTime t ≡ true) × Columns (entriesOf layout) tail)
+unfolding goodExtra
+extra-limits layout t n tail =
     let x = tail-exactly 8 tail layout (omega arith) (t .0) (t .1) in (
       λ e. let w = need-inv (isTime n) false true _ false-true e in (w .0, x .0 (w .1)),
       λ h. rw (h .0) (x .1 (h .1)),
@@ -62,18 +62,18 @@ note-limits layout t n tail =
 pub fix-reads : (layout : Layout) → IsTold 36 layout → (f : Fix) (l : List ℕ) → IsBLine layout f l → fixSaid l layout ≡ says f
 fix-reads layout t f l w = ap (λ x. fixSaid x layout) (w .text) ∙ fix-trip layout .here f (w .tail) (fix-limits layout t f (w .tail) .1 (w .fields, w .columns))
 
-pub note-reads : (layout : Layout) → IsTold 8 layout → (t : ℕ) (l : List ℕ) → IsKLine layout t l → noteSaid l layout ≡ says t
-note-reads layout i t l w = ap (λ x. noteSaid x layout) (w .text) ∙ note-trip layout .here t (w .tail) (note-limits layout i t (w .tail) .1 (w .time, w .columns))
+pub extra-reads : (layout : Layout) → IsTold 8 layout → (t : ℕ) (l : List ℕ) → IsKLine layout t l → extraSaid l layout ≡ says t
+extra-reads layout i t l w = ap (λ x. extraSaid x layout) (w .text) ∙ extra-trip layout .here t (w .tail) (extra-limits layout i t (w .tail) .1 (w .time, w .columns))
 
 pub fix-read : (layout : Layout) → IsTold 36 layout → (f : Fix) (l : List ℕ) → fixSaid l layout ≡ says f → IsBLine layout f l
 fix-read layout t f l e =
     let g = fix-limits layout t f (drop 35 l) .0 (line-limits (fix-trip layout) l f e) in
     record { tail = drop 35 l; text = fix-trip layout .there l f e; fields = g .0; columns = g .1 }
 
-pub note-read : (layout : Layout) → IsTold 8 layout → (t : ℕ) (l : List ℕ) → noteSaid l layout ≡ says t → IsKLine layout t l
-note-read layout i t l e =
-    let g = note-limits layout i t (drop 7 l) .0 (line-limits (note-trip layout) l t e) in
-    record { tail = drop 7 l; text = note-trip layout .there l t e; time = g .0; columns = g .1 }
+pub extra-read : (layout : Layout) → IsTold 8 layout → (t : ℕ) (l : List ℕ) → extraSaid l layout ≡ says t → IsKLine layout t l
+extra-read layout i t l e =
+    let g = extra-limits layout i t (drop 7 l) .0 (line-limits (extra-trip layout) l t e) in
+    record { tail = drop 7 l; text = extra-trip layout .there l t e; time = g .0; columns = g .1 }
 
 pub head-reads : (h : Head) (l : List ℕ) → IsHeadLine h l → headSaid l ≡ says h
 unfolding goodHead
@@ -131,17 +131,17 @@ b-said layout f l w =
     (eqb-true _ _ (a .0), need-inv (allowed 36 layout) _ (says f) _ refuses-says (a .1) .1)
 
 pub k-there : (layout : Layout) (t : ℕ) (l : List ℕ) → IsTold 8 layout → getD l 0 0 ≡ code "K" → kLine layout l ≡ says t → IsKLine layout t l
-unfolding noteSaid
-k-there layout t l i k e = note-read layout i t l (rw (eq-eqb _ _ k, i .0) e)
+unfolding extraSaid
+k-there layout t l i k e = extra-read layout i t l (rw (eq-eqb _ _ k, i .0) e)
 
 pub k-letter : (layout : Layout) (t : ℕ) (l : List ℕ) → IsKLine layout t l → getD l 0 0 ≡ code "K"
-unfolding noteText
+unfolding extraText
 k-letter layout t l w = ap (λ x. getD x 0 0) (w .text)
 
 pub k-said : (layout : Layout) (t : ℕ) (l : List ℕ) → IsTold 8 layout × IsKLine layout t l → (getD l 0 0 ≡ code "K") × (kLine layout l ≡ says t)
-unfolding noteSaid
+unfolding extraSaid
 k-said layout t l w =
-    let a = need-inv (eqb (getD l 0 0) (code "K")) _ (says t) _ refuses-says (note-reads layout (w .0) t l (w .1)) in
+    let a = need-inv (eqb (getD l 0 0) (code "K")) _ (says t) _ refuses-says (extra-reads layout (w .0) t l (w .1)) in
     (eqb-true _ _ (a .0), need-inv (allowed 8 layout) _ (says t) _ refuses-says (a .1) .1)
 
 pub head-there : (h : Head) (l : List ℕ) → getD l 0 0 ≡ code "C" → headLine l ≡ says h → IsHeadLine h l

@@ -25,7 +25,7 @@ use Rattle.rules.proofs.Damaged.{fiveLines, fiveLayout}
 use Rattle.trips.specs.Limits.{isAltitude, goodFixFields}
 use Rattle.trips.proofs.Laws.{and-inv}
 use Rattle.trips.proofs.Texts.{areValid}
-use Rattle.demands.specs.Grammar.{Each, IsText, july, AtMostOne, absent, given, Timed, fix, event, satellites, note, Untimed, differential, remark, other, Items, done, timed, untimed, Body, undeclared, declared, none, column, linesIn, Meets, written}
+use Rattle.demands.specs.Grammar.{Each, IsText, july, AtMostOne, absent, given, Timed, fix, event, satellites, extra, Untimed, differential, remark, other, Items, done, timed, untimed, Body, undeclared, declared, none, column, linesIn, Meets, written}
 use Rattle.demands.proofs.Laws.{each-map, each-join, each-cut, are-valid}
 use Rattle.demands.proofs.Rows.{width-exactly, rule-exactly}
 use Rattle.demands.proofs.Valued.{b-letter, k-letter}
@@ -71,7 +71,7 @@ five-meet = record {
     day = bytes "HFDTE150724";
     headers = [];
     fixLayout = bytes "I023638FXA3940SIU" ∷ [];
-    noteLayout = [];
+    extraLayout = [];
     body = bytes "B1200005130000N00015000WA001000012001208" ∷ [];
     seal = bytes "GABC" ∷ [];
     remarks = [];
@@ -89,7 +89,7 @@ five-meet = record {
   );
   date = record { day = 15; month = 7; year = 2024 };
   fixes = fiveLayout;
-  notes = emptyLayout;
+  extras = emptyLayout;
   times = 43200 ∷ [];
   keeps = record {
     recorder = record {
@@ -111,7 +111,7 @@ five-meet = record {
       short = lit≤ tt;
       slots = refl;
     });
-    noteLayout = absent;
+    extraLayout = absent;
     body = undeclared (timed (fix theFix refl (record {
       tail = bytes "01208";
       text = refl;
@@ -146,19 +146,19 @@ untimed-no-g l (differential w) g = omega (arith, w .letter)
 untimed-no-g l (remark w) g = omega (arith, w .letter)
 untimed-no-g l (other w) g = omega (arith, w .from)
 
-module _ {fixes notes : Layout} where
-  timed-no-g : {t : ℕ} (l : List ℕ) → Timed fixes notes t l → NoG l
+module _ {fixes extras : Layout} where
+  timed-no-g : {t : ℕ} (l : List ℕ) → Timed fixes extras t l → NoG l
   timed-no-g l (fix f i w) g = let e = b-letter fixes f l w in omega arith
   timed-no-g l (event w) g = let e = ap (λ x. getD x 0 0) (w .text) in omega arith
   timed-no-g l (satellites w) g = let e = ap (λ x. getD x 0 0) (w .text) in omega arith
-  timed-no-g {t} l (note w) g = let e = k-letter notes t l w in omega arith
+  timed-no-g {t} l (extra w) g = let e = k-letter extras t l w in omega arith
 
-  items-no-g : {ls : List (List ℕ)} {ts : List ℕ} → Items fixes notes ls ts → Each NoG ls
+  items-no-g : {ls : List (List ℕ)} {ts : List ℕ} → Items fixes extras ls ts → Each NoG ls
   items-no-g done = tt
   items-no-g (timed {l = l} w r) = (timed-no-g l w, items-no-g r)
   items-no-g (untimed {l = l} w r) = (untimed-no-g l w, items-no-g r)
 
-  body-no-g : {ls : List (List ℕ)} {ts : List ℕ} → Body fixes notes ls ts → Each NoG ls
+  body-no-g : {ls : List (List ℕ)} {ts : List ℕ} → Body fixes extras ls ts → Each NoG ls
   unfolding headText pointText
   body-no-g (undeclared i) = items-no-g i
   body-no-g (declared before hd points after h i no-b w ps c j) =
@@ -180,7 +180,7 @@ after-g : {file : List ℕ} (m : Meets file) (before : List (List ℕ)) (g : Lis
 after-g m before g after e k =
     let p = m .parts in
     let w = m .keeps in
-    let front : List (List ℕ) = p .recorder ∷ p .day ∷ (p .headers ++ (p .fixLayout ++ (p .noteLayout ++ p .body))) in
+    let front : List (List ℕ) = p .recorder ∷ p .day ∷ (p .headers ++ (p .fixLayout ++ (p .extraLayout ++ p .body))) in
     let back : List (List ℕ) = p .seal ++ p .remarks in
     let n : Each NoG front = (
       (λ z. omega (arith, w .recorder .letter)),
@@ -188,7 +188,7 @@ after-g m before g after e k =
         (λ z. let i = ap (λ x. getD x 0 0) (w .day .text) in omega arith),
         each-join NoG (p .headers) _ (each-map (p .headers) (λ l h z. omega (arith, h .letter)) (w .headers))
             (each-join NoG (p .fixLayout) _ (layout-no-g family.B (w .fixLayout))
-            (each-join NoG (p .noteLayout) (p .body) (layout-no-g family.K (w .noteLayout)) (body-no-g (w .body)))),
+            (each-join NoG (p .extraLayout) (p .body) (layout-no-g family.K (w .extraLayout)) (body-no-g (w .body)))),
       ),
     ) in
     let i : front ++ back ≡ linesIn p = simp append-assoc in

@@ -155,6 +155,6 @@ pub record Meant (ls : List (List ℕ)) : Type 0 where
   pub declaration : (isOpen ls ≡ true) ↔ Open ls
   -- "at most one I", "at most one J", and their entries
   pub fixes : AtMostOne family.B (laid (entriesTold family.B ls)) (those (code "I") ls)
-  pub notes : AtMostOne family.K (laid (entriesTold family.K ls)) (those (code "J") ls)
+  pub extras : AtMostOne family.K (laid (entriesTold family.K ls)) (those (code "J") ls)
   -- from the last time on, a time is in order where it follows it
   pub times : (t now : ℕ) → lastTime ls ≡ some t → (isInTime (lastTime ls) now ≡ true) ↔ Follows t now

@@ -15,7 +15,7 @@ use Rattle.rules.specs.Numbers.{digitsOf}
 use Rattle.rules.specs.Listed.{isCodeWord, listed}
 use Rattle.rules.specs.Layouts.{unused, emptyLayout, firstStart, entriesOf}
 use Rattle.rules.specs.Reads.{layoutLetter}
-use Rattle.rules.specs.Writes.{fixText, noteText, entryTexts, headText, pointText}
+use Rattle.rules.specs.Writes.{fixText, extraText, entryTexts, headText, pointText}
 use Rattle.rules.specs.declared.Date.{Date}
 use Rattle.rules.specs.declared.Entry.{Entry}
 use Rattle.rules.specs.declared.Layout.{Layout}
@@ -198,11 +198,11 @@ pub record IsBLine (fixes : Layout) (f : Fix) (l : List ℕ) : Type 0 where
   pub columns : Columns (entriesOf fixes) tail
 
 -- "K: time 2 to 7, columns from 8."; "K .. exactly what [its] layout gives"
-pub record IsKLine (notes : Layout) (t : ℕ) (l : List ℕ) : Type 0 where
+pub record IsKLine (extras : Layout) (t : ℕ) (l : List ℕ) : Type 0 where
   pub tail : List ℕ
-  pub text : l ≡ noteText t tail
+  pub text : l ≡ extraText t tail
   pub time : isTime t ≡ true
-  pub columns : Columns (entriesOf notes) tail
+  pub columns : Columns (entriesOf extras) tail
 
 -- "L 1 to 99"
 pub record IsLLine (l : List ℕ) : Type 0 where
@@ -244,11 +244,11 @@ pub data AtMostOne (f : Family) : Layout → List (List ℕ) → Type 0 where
   given : {layout : Layout} {l : List ℕ} → IsLayoutLine f layout l → AtMostOne f layout (l ∷ [])
 
 -- a line of the body with a time t
-pub data Timed (fixes notes : Layout) (t : ℕ) (l : List ℕ) : Type 0 where
-  fix : (f : Fix) → f .time ≡ t → IsBLine fixes f l → Timed fixes notes t l
-  event : IsELine t l → Timed fixes notes t l
-  satellites : IsFLine t l → Timed fixes notes t l
-  note : IsKLine notes t l → Timed fixes notes t l
+pub data Timed (fixes extras : Layout) (t : ℕ) (l : List ℕ) : Type 0 where
+  fix : (f : Fix) → f .time ≡ t → IsBLine fixes f l → Timed fixes extras t l
+  event : IsELine t l → Timed fixes extras t l
+  satellites : IsFLine t l → Timed fixes extras t l
+  extra : IsKLine extras t l → Timed fixes extras t l
 
 -- a line of the body with no time
 pub data Untimed (l : List ℕ) : Type 0 where
@@ -257,22 +257,22 @@ pub data Untimed (l : List ℕ) : Type 0 where
   other : IsOtherLine l → Untimed l
 
 -- "D, E, F, B, K, L and other" in any order, and their times in the order of the lines
-pub data Items (fixes notes : Layout) : List (List ℕ) → List ℕ → Type 0 where
-  done : Items fixes notes [] []
-  timed : {l : List ℕ} {ls : List (List ℕ)} {t : ℕ} {ts : List ℕ} → Timed fixes notes t l → Items fixes notes ls ts → Items fixes notes (l ∷ ls) (t ∷ ts)
-  untimed : {l : List ℕ} {ls : List (List ℕ)} {ts : List ℕ} → Untimed l → Items fixes notes ls ts → Items fixes notes (l ∷ ls) ts
+pub data Items (fixes extras : Layout) : List (List ℕ) → List ℕ → Type 0 where
+  done : Items fixes extras [] []
+  timed : {l : List ℕ} {ls : List (List ℕ)} {t : ℕ} {ts : List ℕ} → Timed fixes extras t l → Items fixes extras ls ts → Items fixes extras (l ∷ ls) (t ∷ ts)
+  untimed : {l : List ℕ} {ls : List (List ℕ)} {ts : List ℕ} → Untimed l → Items fixes extras ls ts → Items fixes extras (l ∷ ls) ts
 
 -- "At most one declaration (h), begun before the first B: a C head, then at once its point lines, as many as its turn points plus 4"
-pub data Body (fixes notes : Layout) : List (List ℕ) → List ℕ → Type 0 where
-  undeclared : {ls : List (List ℕ)} {ts : List ℕ} → Items fixes notes ls ts → Body fixes notes ls ts
+pub data Body (fixes extras : Layout) : List (List ℕ) → List ℕ → Type 0 where
+  undeclared : {ls : List (List ℕ)} {ts : List ℕ} → Items fixes extras ls ts → Body fixes extras ls ts
   declared : {ts us : List ℕ} (before : List (List ℕ)) (head : List ℕ) (points after : List (List ℕ)) (h : Head)
-      → Items fixes notes before ts
+      → Items fixes extras before ts
       → Each (λ l. getD l 0 0 ≡ code "B" → ⊥) before
       → IsHeadLine h head
       → Each IsPointLine points
       → length points ≡ h .turns + 4
-      → Items fixes notes after us
-      → Body fixes notes (before ++ (head ∷ (points ++ after))) (ts ++ us)
+      → Items fixes extras after us
+      → Body fixes extras (before ++ (head ∷ (points ++ after))) (ts ++ us)
 
 -- the lines of a file, part by part
 pub record Parts : Type 0 where
@@ -280,24 +280,24 @@ pub record Parts : Type 0 where
   pub day : List ℕ
   pub headers : List (List ℕ)
   pub fixLayout : List (List ℕ)
-  pub noteLayout : List (List ℕ)
+  pub extraLayout : List (List ℕ)
   pub body : List (List ℕ)
   pub seal : List (List ℕ)
   pub remarks : List (List ℕ)
 
 -- in their order
 abbrev pub linesIn : Parts → List (List ℕ)
-linesIn p = p .recorder ∷ p .day ∷ (p .headers ++ (p .fixLayout ++ (p .noteLayout ++ (p .body ++ (p .seal ++ p .remarks)))))
+linesIn p = p .recorder ∷ p .day ∷ (p .headers ++ (p .fixLayout ++ (p .extraLayout ++ (p .body ++ (p .seal ++ p .remarks)))))
 
 -- "Line 1 is A, line 2 is H, then further H lines, then at most one I, then at most one J. After these come C, D, E, F, B, K, L and other, with no further A, H,
 -- I, J." "Then one or more G lines. After the first G only G or L; after an L that follows a G, only L." "At least one G is needed (h)."
-pub record Keeps (p : Parts) (date : Date) (fixes notes : Layout) (times : List ℕ) : Type 0 where
+pub record Keeps (p : Parts) (date : Date) (fixes extras : Layout) (times : List ℕ) : Type 0 where
   pub recorder : IsALine (p .recorder)
   pub day : IsDateLine date (p .day)
   pub headers : Each IsHLine (p .headers)
   pub fixLayout : AtMostOne family.B fixes (p .fixLayout)
-  pub noteLayout : AtMostOne family.K notes (p .noteLayout)
-  pub body : Body fixes notes (p .body) times
+  pub extraLayout : AtMostOne family.K extras (p .extraLayout)
+  pub body : Body fixes extras (p .body) times
   pub order : InOrder times
   pub seal : Each IsGLine (p .seal)
   pub sealed : 1 ≤ length (p .seal)
@@ -326,9 +326,9 @@ pub record Meets (file : List ℕ) : Type 0 where
   -- and they keep to the rules, with this date, these layouts and these times
   pub date : Date
   pub fixes : Layout
-  pub notes : Layout
+  pub extras : Layout
   pub times : List ℕ
-  pub keeps : Keeps parts date fixes notes times
+  pub keeps : Keeps parts date fixes extras times
 
 -- ---- what the file says
 
@@ -337,12 +337,12 @@ unfoldable pub beginning : ℕ → List (List ℕ) → ℕ
 beginning x [] = 0
 beginning x (l ∷ ls) = cond (eqb (getD l 0 0) x) 1 0 + beginning x ls
 
--- "the date, the I and J layouts, the count of lines, of B lines and of K lines": `fixes` is the layout of the B lines, `notes` that of the K lines
+-- "the date, the I and J layouts, the count of lines, of B lines and of K lines": `fixes` is the layout of the B lines, `extras` that of the K lines
 abbrev pub flightOf : {file : List ℕ} → Meets file → Flight
 flightOf m = record {
   date = m .date;
   fixes = m .fixes;
-  notes = m .notes;
+  extras = m .extras;
   lines = length (linesIn (m .parts));
   bs = beginning (code "B") (linesIn (m .parts));
   ks = beginning (code "K") (linesIn (m .parts));

@@ -13,7 +13,7 @@ use Rattle.rules.specs.Listed.{codeText}
 use Rattle.rules.specs.Layouts.{spanOf, entriesOf, firstStart, columnText}
 use Rattle.rules.specs.Split.{boundsOf, lineText, stepAt}
 use Rattle.rules.specs.Files.{tableAfter}
-use Rattle.rules.specs.Reads.{fixSaid, noteSaid, headSaid, pointSaid, columnSaid, columnRest, numberSaid}
+use Rattle.rules.specs.Reads.{fixSaid, extraSaid, headSaid, pointSaid, columnSaid, columnRest, numberSaid}
 use Rattle.rules.specs.declared.Reason.the-variants.{Absent, NotNumber}
 use Rattle.rules.specs.declared.Signed.{Signed}
 use Rattle.rules.specs.declared.Entry.{Entry}
@@ -72,16 +72,16 @@ pub record ReadsFix (layout : Layout) (l : List ℕ) : Type 0 where
   pub columns : ReadsColumns family.B layout l
 
 -- a K line, by the J layout, as the time whose line it is
-pub record ReadsNote (layout : Layout) (l : List ℕ) : Type 0 where
+pub record ReadsExtra (layout : Layout) (l : List ℕ) : Type 0 where
   pub time : ℕ
   pub is : IsKLine layout time l
-  pub reads : noteSaid l layout ≡ says time
+  pub reads : extraSaid l layout ≡ says time
   pub columns : ReadsColumns family.K layout l
 
 -- whichever of them the line is
-pub record ReadsLine (fixes notes : Layout) (l : List ℕ) : Type 0 where
+pub record ReadsLine (fixes extras : Layout) (l : List ℕ) : Type 0 where
   pub b : getD l 0 0 ≡ code "B" → ReadsFix fixes l
-  pub k : getD l 0 0 ≡ code "K" → ReadsNote notes l
+  pub k : getD l 0 0 ≡ code "K" → ReadsExtra extras l
 
 -- a C point line reads as the point whose line it is
 pub record ReadsPoint (l : List ℕ) : Type 0 where
@@ -141,5 +141,5 @@ pub record Readable (file table : List ℕ) (f : Flight) : Type 0 where
   pub numbered : (n : ℕ) → n < length lines → lineText file (boundsOf file (tableAfter file table) (n + 1)) ≡ getD lines n []
   -- stepping from place 0 gives exactly the lines in their order, and then none
   pub stepping : Steps file 0 lines
-  pub reads : Each (ReadsLine (f .fixes) (f .notes)) lines
+  pub reads : Each (ReadsLine (f .fixes) (f .extras)) lines
   pub declaration : ReadsDeclaration lines

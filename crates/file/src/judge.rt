@@ -133,13 +133,13 @@ fn judge_fixes(line: &[u8], st: State) -> Judged
     after_outcome(outcome, order::with_fixes(layout, st))
 }
 
-fn judge_notes(line: &[u8], st: State) -> Judged
+fn judge_extras(line: &[u8], st: State) -> Judged
     ensures { λ r. ⌜ JudgedTold (ruled kind.J (now (line .entry)) st) r ⌝ }
 {
     let read = layout::layout_line(Family::K, line);
     let outcome = read.outcome;
     let layout = read.layout;
-    after_outcome(outcome, order::with_notes(layout, st))
+    after_outcome(outcome, order::with_extras(layout, st))
 }
 
 // A C line: a point where points are still to come, else the head of a declaration.
@@ -161,13 +161,13 @@ fn judge_fix(line: &[u8], st: State) -> Judged
     after_fix(line::fix_line(line, layout), order::fix_counted(st))
 }
 
-fn judge_note(line: &[u8], st: State) -> Judged
+fn judge_extra(line: &[u8], st: State) -> Judged
     requires { ⌜ st .flight .ks ≤ 16777216 ⌝ }
     ensures { λ r. ⌜ JudgedTold (ruled kind.K (now (line .entry)) st) r ⌝ }
 {
     let flight = st.flight;
-    let layout = flight.notes;
-    after_time(line::note_line(line, layout), order::note_counted(st))
+    let layout = flight.extras;
+    after_time(line::extra_line(line, layout), order::extra_counted(st))
 }
 
 // A line by the rules of its kind: 7 to 14. The state counts it already.
@@ -185,8 +185,8 @@ fn ruled_line(k: Kind, line: &[u8], st: State) -> Judged
         Kind::G => after_outcome(shape::shaped(line, 2, 255, false), st),
         Kind::H => judge_header(line, st),
         Kind::I => judge_fixes(line, st),
-        Kind::J => judge_notes(line, st),
-        Kind::K => judge_note(line, st),
+        Kind::J => judge_extras(line, st),
+        Kind::K => judge_extra(line, st),
         Kind::L => after_outcome(shape::shaped(line, 1, 99, false), st),
         Kind::Other => after_outcome(shape::shaped(line, 1, 255, false), st),
         Kind::NoKind => refused_at(Reason::Kind, 1),

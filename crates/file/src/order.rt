@@ -2,7 +2,7 @@
 ghost use Prim.Native.Nat.{_≤_};
 ghost use mathlib.Core.Path.{_≡_};
 ghost use Rattle.rules.specs.Layouts.{emptyLayout};
-ghost use Rattle.rules.specs.Order.{leading, stageAfter, isC, isKind, fitsDeclaration, orderOf, noFlight, start, moved, dated, withFixes, withNotes, counted, begun, pointed, clocked, passing, isBack};
+ghost use Rattle.rules.specs.Order.{leading, stageAfter, isC, isKind, fitsDeclaration, orderOf, noFlight, start, moved, dated, withFixes, withExtras, counted, begun, pointed, clocked, passing, isBack};
 ghost use Rattle.rules.specs.declared.Kind.the-variants as kind;
 ghost use Rattle.file.specs.Judges.{leadingTold};
 use rules::Date;
@@ -48,7 +48,7 @@ fn leads_to(low: u8, high: u8, next: u8, stage: u8) -> Leading
     Leading::To(next)
 }
 
-fn note_after(stage: u8) -> Leading
+fn extra_after(stage: u8) -> Leading
     ensures { λ r. ⌜ leadingTold r ≡ stageAfter kind.L stage ⌝ }
 {
     if stage <= IN_BODY {
@@ -66,7 +66,7 @@ fn stage_after(k: Kind, stage: u8) -> Leading
         Kind::I => leads_to(AFTER_H, AFTER_H, AFTER_I, stage),
         Kind::J => leads_to(AFTER_H, AFTER_I, AFTER_J, stage),
         Kind::G => leads_to(AFTER_H, AFTER_G, AFTER_G, stage),
-        Kind::L => note_after(stage),
+        Kind::L => extra_after(stage),
         Kind::NoKind => Leading::Nowhere,
         Kind::B | Kind::C | Kind::D | Kind::E | Kind::F | Kind::K | Kind::Other => {
             leads_to(AFTER_H, IN_BODY, IN_BODY, stage)
@@ -157,7 +157,7 @@ pub(crate) fn no_flight() -> Flight
     Flight {
         date,
         fixes: empty_layout(),
-        notes: empty_layout(),
+        extras: empty_layout(),
         lines: 0,
         bs: 0,
         ks: 0,
@@ -212,11 +212,11 @@ pub(crate) fn with_fixes(layout: Layout, st: State) -> State
 }
 
 // The state with the layout of the K lines.
-pub(crate) fn with_notes(layout: Layout, st: State) -> State
-    ensures { λ r. ⌜ r ≡ withNotes layout st ⌝ }
+pub(crate) fn with_extras(layout: Layout, st: State) -> State
+    ensures { λ r. ⌜ r ≡ withExtras layout st ⌝ }
 {
     let mut flight = st.flight;
-    flight.notes = layout;
+    flight.extras = layout;
     let mut next = st;
     next.flight = flight;
     next
@@ -234,7 +234,7 @@ pub(crate) fn fix_counted(st: State) -> State
 }
 
 // The state with one K line more.
-pub(crate) fn note_counted(st: State) -> State
+pub(crate) fn extra_counted(st: State) -> State
     requires { ⌜ st .flight .ks ≤ 16777216 ⌝ }
     ensures { λ r. ⌜ r ≡ counted 0 1 st ⌝ }
 {

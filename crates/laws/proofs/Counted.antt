@@ -71,7 +71,7 @@ ruled-counts kind.H l st =
 ruled-counts kind.I l st = keeps st (layoutLine 36 l) _ (λ v. (refl, refl, refl))
 ruled-counts kind.J l st = keeps st (layoutLine 8 l) _ (λ v. (refl, refl, refl))
 ruled-counts kind.K l st =
-    sure-then _ (kLine (st .flight .notes) l) _ λ t.
+    sure-then _ (kLine (st .flight .extras) l) _ λ t.
     timed-counts kind.K t (counted 0 1 st) st (record { lines = omega arith; bs = refl; ks = refl })
 ruled-counts kind.L l st = keeps st (lLine l) _ (λ v. (refl, refl, refl))
 ruled-counts kind.Other l st = keeps st (otherLine l) _ (λ v. (refl, refl, refl))

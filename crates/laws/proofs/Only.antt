@@ -6,8 +6,8 @@ use mathlib.Core.Path.{_≡_, sym, _∙_}
 use Rattle.rules.specs.Refusals.{Said}
 use Rattle.rules.specs.Layouts.{LayoutTold, firstStart, allowed}
 use Rattle.rules.specs.Files.{CheckedTold}
-use Rattle.rules.specs.Writes.{fixText, isFix, noteText, isNote, layoutText, headText, isHead, pointText, isPoint}
-use Rattle.rules.specs.Promises.{DigitsRead, WholeRead, DigitsPut, DigitTest, CodeTest, ValidTest, InvalidFound, CodesTest, ByteAt, EitherTest, TimeAt, DateAt, LatitudeAt, LongitudeAt, AltitudeAt, TimePut, DatePut, LatitudePut, LongitudePut, AltitudePut, DegreesGiven, ListedAt, AllowedTest, LengthGiven, LookGiven, PresenceGiven, ColumnTest, KindGiven, ColumnsChecked, ShapeChecked, RecorderChecked, DateLineChecked, HeaderChecked, LayoutChecked, HeadChecked, PointChecked, DifferentialChecked, EventChecked, SatellitesChecked, FixChecked, NoteChecked, FixGiven, NoteGiven, EventGiven, SatellitesGiven, DateGiven, LayoutGiven, HeadGiven, HeadRest, PointGiven, PointRest, ColumnGiven, ColumnRest, NumberGiven, FileChecked, LineGiven, LineRest, Written, FixWritten, NoteWritten, LayoutWritten, HeadWritten, PointWritten}
+use Rattle.rules.specs.Writes.{fixText, isFix, extraText, isExtra, layoutText, headText, isHead, pointText, isPoint}
+use Rattle.rules.specs.Promises.{DigitsRead, WholeRead, DigitsPut, DigitTest, CodeTest, ValidTest, InvalidFound, CodesTest, ByteAt, EitherTest, TimeAt, DateAt, LatitudeAt, LongitudeAt, AltitudeAt, TimePut, DatePut, LatitudePut, LongitudePut, AltitudePut, DegreesGiven, ListedAt, AllowedTest, LengthGiven, LookGiven, PresenceGiven, ColumnTest, KindGiven, ColumnsChecked, ShapeChecked, RecorderChecked, DateLineChecked, HeaderChecked, LayoutChecked, HeadChecked, PointChecked, DifferentialChecked, EventChecked, SatellitesChecked, FixChecked, ExtraChecked, FixGiven, ExtraGiven, EventGiven, SatellitesGiven, DateGiven, LayoutGiven, HeadGiven, HeadRest, PointGiven, PointRest, ColumnGiven, ColumnRest, NumberGiven, FileChecked, LineGiven, LineRest, Written, FixWritten, ExtraWritten, LayoutWritten, HeadWritten, PointWritten}
 use Rattle.rules.specs.declared.Date.{Date}
 use Rattle.rules.specs.declared.Position.{Position}
 use Rattle.rules.specs.declared.Height.{Height}
@@ -182,16 +182,16 @@ only-satellites-checked l = alike timed-one
 pub only-fix-checked : (l : List ℕ) (layout : Layout) → Only (FixChecked l layout)
 only-fix-checked l layout = alike fix-one
 
-pub only-note-checked : (l : List ℕ) (layout : Layout) → Only (NoteChecked l layout)
-only-note-checked l layout = alike timed-one
+pub only-extra-checked : (l : List ℕ) (layout : Layout) → Only (ExtraChecked l layout)
+only-extra-checked l layout = alike timed-one
 
 -- ---- lines: the readers
 
 pub only-fix-given : (l : List ℕ) (layout : Layout) → Only (FixGiven l layout)
 only-fix-given l layout = alike fix-one
 
-pub only-note-given : (l : List ℕ) (layout : Layout) → Only (NoteGiven l layout)
-only-note-given l layout = alike timed-one
+pub only-extra-given : (l : List ℕ) (layout : Layout) → Only (ExtraGiven l layout)
+only-extra-given l layout = alike timed-one
 
 pub only-event-given : (l : List ℕ) → Only (EventGiven l)
 only-event-given l = alike timed-one
@@ -245,8 +245,8 @@ only-written good text place out r r′ after after′ e e′ = (alike wrote-one
 pub only-fix-written : (f : Fix) (tail : List ℕ) (layout : Layout) (place : ℕ) (out : List ℕ) → OnlyBoth (FixWritten f tail layout place out)
 only-fix-written f tail layout place out = only-written (isFix f tail layout) (fixText f tail) place out
 
-pub only-note-written : (t : ℕ) (tail : List ℕ) (layout : Layout) (place : ℕ) (out : List ℕ) → OnlyBoth (NoteWritten t tail layout place out)
-only-note-written t tail layout place out = only-written (isNote t tail layout) (noteText t tail) place out
+pub only-extra-written : (t : ℕ) (tail : List ℕ) (layout : Layout) (place : ℕ) (out : List ℕ) → OnlyBoth (ExtraWritten t tail layout place out)
+only-extra-written t tail layout place out = only-written (isExtra t tail layout) (extraText t tail) place out
 
 pub only-layout-written : (f : Family) (l : Layout) (place : ℕ) (out : List ℕ) → OnlyBoth (LayoutWritten f l place out)
 only-layout-written f l place out = only-written (allowed (firstStart f) l) (layoutText f l) place out

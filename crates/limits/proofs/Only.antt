@@ -6,7 +6,7 @@ use Rattle.rules.specs.declared.Fix.{Fix}
 use Rattle.rules.specs.declared.Head.{Head}
 use Rattle.rules.specs.declared.Point.{Point}
 use Rattle.laws.proofs.Only.{Only, same}
-use Rattle.limits.specs.Tests.{PointTest, HeadTest, FixTest, NoteTest}
+use Rattle.limits.specs.Tests.{PointTest, HeadTest, FixTest, ExtraTest}
 
 pub only-point-test : (p : Point) (rest : List ℕ) → Only (PointTest p rest)
 only-point-test p rest = same
@@ -17,5 +17,5 @@ only-head-test h rest = same
 pub only-fix-test : (f : Fix) (tail : List ℕ) (layout : Layout) → Only (FixTest f tail layout)
 only-fix-test f tail layout = same
 
-pub only-note-test : (t : ℕ) (tail : List ℕ) (layout : Layout) → Only (NoteTest t tail layout)
-only-note-test t tail layout = same
+pub only-extra-test : (t : ℕ) (tail : List ℕ) (layout : Layout) → Only (ExtraTest t tail layout)
+only-extra-test t tail layout = same

@@ -7,7 +7,7 @@ use Rattle.rules.specs.declared.Layout.{Layout}
 use Rattle.rules.specs.declared.Fix.{Fix}
 use Rattle.rules.specs.declared.Head.{Head}
 use Rattle.rules.specs.declared.Point.{Point}
-use Rattle.trips.specs.Limits.{goodPoint, goodHead, goodFix, goodNote}
+use Rattle.trips.specs.Limits.{goodPoint, goodHead, goodFix, goodExtra}
 
 abbrev pub PointTest : Point → List ℕ → Bool → Type 0
 PointTest p rest r = r ≡ goodPoint p rest
@@ -18,5 +18,5 @@ HeadTest h rest r = r ≡ goodHead h rest
 abbrev pub FixTest : Fix → List ℕ → Layout → Bool → Type 0
 FixTest f tail layout r = r ≡ goodFix f tail layout
 
-abbrev pub NoteTest : ℕ → List ℕ → Layout → Bool → Type 0
-NoteTest t tail layout r = r ≡ goodNote t tail layout
+abbrev pub ExtraTest : ℕ → List ℕ → Layout → Bool → Type 0
+ExtraTest t tail layout r = r ≡ goodExtra t tail layout

@@ -3,7 +3,7 @@ mod fields;
 mod lines;
 mod tails;
 
+pub use lines::good_extra;
 pub use lines::good_fix;
 pub use lines::good_head;
-pub use lines::good_note;
 pub use lines::good_point;

@@ -1,7 +1,7 @@
 // The values of a line, with the text behind its fields.
 ghost use mathlib.Core.Path.{_≡_};
 ghost use Rattle.trips.specs.Limits.{goodHeadFields, goodFixFields};
-ghost use Rattle.limits.specs.Tests.{PointTest, HeadTest, FixTest, NoteTest};
+ghost use Rattle.limits.specs.Tests.{PointTest, HeadTest, FixTest, ExtraTest};
 use crate::fields::is_altitude;
 use crate::fields::is_clean;
 use crate::fields::is_date;
@@ -97,8 +97,8 @@ pub fn good_fix(f: Fix, tail: &[u8], l: Layout) -> bool
 }
 
 // Whether some K line with this layout reads as the time, with this tail.
-pub fn good_note(t: u32, tail: &[u8], l: Layout) -> bool
-    ensures { λ r. ⌜ NoteTest t (now (tail .entry)) l r ⌝ }
+pub fn good_extra(t: u32, tail: &[u8], l: Layout) -> bool
+    ensures { λ r. ⌜ ExtraTest t (now (tail .entry)) l r ⌝ }
 {
     if 86399 < t {
         return false;

@@ -7,7 +7,7 @@ ghost use Rattle.rules.specs.Lines.{isDateMark, plannedAt, headFields, badPair,
 ghost use Rattle.rules.specs.Layouts.{firstStart, columns};
 ghost use Rattle.rules.specs.Refusals.{outcomeTold, andThen, says};
 ghost use Rattle.rules.specs.Reads.{headTold, fixTold};
-ghost use Rattle.rules.specs.Promises.{RecorderChecked, DateLineChecked, HeaderChecked, HeadChecked, PointChecked, DifferentialChecked, EventChecked, SatellitesChecked, FixChecked, NoteChecked, foundTold};
+ghost use Rattle.rules.specs.Promises.{RecorderChecked, DateLineChecked, HeaderChecked, HeadChecked, PointChecked, DifferentialChecked, EventChecked, SatellitesChecked, FixChecked, ExtraChecked, foundTold};
 ghost use Rattle.line.specs.Parts.{formAt, plannedTold};
 use rules::Altitude;
 use rules::DateRead;
@@ -328,8 +328,8 @@ pub fn fix_line(line: &[u8], layout: Layout) -> FixRead
 }
 
 // A K line by a J layout: its time. Refusals: LENGTH, CHARACTER, FORM at 2, COLUMN. Defined for every layout value.
-pub fn note_line(line: &[u8], layout: Layout) -> TimeRead
-    ensures { λ r. ⌜ NoteChecked (now (line .entry)) layout r ⌝ }
+pub fn extra_line(line: &[u8], layout: Layout) -> TimeRead
+    ensures { λ r. ⌜ ExtraChecked (now (line .entry)) layout r ⌝ }
 {
     if let Outcome::Refused(r) = shaped_by(Family::K, layout, line) {
         return TimeRead::Refused(r);

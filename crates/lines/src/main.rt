@@ -66,7 +66,7 @@ fn print_layout(family: Family, line: &[u8]) {
 }
 
 // What the readers of a line's kind say of it; an H line is read as a date line and as another, a C line as a head and as a point.
-fn print_line(line: &[u8], fixes: Layout, notes: Layout) {
+fn print_line(line: &[u8], fixes: Layout, extras: Layout) {
     match file::kind_of(chars::byte(line, 0)) {
         Kind::A => print_outcome(line::recorder(line)),
         Kind::B => print_fix(line, fixes),
@@ -84,7 +84,7 @@ fn print_line(line: &[u8], fixes: Layout, notes: Layout) {
         }
         Kind::I => print_layout(Family::B, line),
         Kind::J => print_layout(Family::K, line),
-        Kind::K => print_time(read::note(line, notes)),
+        Kind::K => print_time(read::extra(line, extras)),
         Kind::L => print_outcome(shape::shaped(line, 1, 99, false)),
         Kind::Other => print_outcome(shape::shaped(line, 1, 255, false)),
         Kind::NoKind => print_time(read::event(line)),
@@ -104,14 +104,14 @@ fn next_layout(family: Family, line: &[u8], old: Layout) -> Layout {
 fn main() {
     let n = os::arg_count();
     let mut fixes = layout::empty_layout();
-    let mut notes = layout::empty_layout();
+    let mut extras = layout::empty_layout();
     let mut i = 1;
     while i < n {
         let mut word = io::buffer();
         let k = os::arg(i, &mut word);
-        print_line(&word[..k], fixes, notes);
+        print_line(&word[..k], fixes, extras);
         fixes = next_layout(Family::B, &word[..k], fixes);
-        notes = next_layout(Family::K, &word[..k], notes);
+        extras = next_layout(Family::K, &word[..k], extras);
         i += 1;
     }
 }

@@ -2,7 +2,7 @@
 ghost use mathlib.Core.Path.{_≡_};
 ghost use Rattle.rules.specs.Refusals.{outcomeTold};
 ghost use Rattle.rules.specs.Reads.{lineSaid, layoutLetter};
-ghost use Rattle.rules.specs.Promises.{EventGiven, SatellitesGiven, DateGiven, HeadGiven, HeadRest, PointGiven, PointRest, FixGiven, NoteGiven, ColumnGiven, ColumnRest, NumberGiven, LayoutGiven};
+ghost use Rattle.rules.specs.Promises.{EventGiven, SatellitesGiven, DateGiven, HeadGiven, HeadRest, PointGiven, PointRest, FixGiven, ExtraGiven, ColumnGiven, ColumnRest, NumberGiven, LayoutGiven};
 use layout::Spot;
 use rules::ColumnRead;
 use rules::DateRead;
@@ -136,9 +136,9 @@ pub fn fix(line: &[u8], layout: Layout) -> FixRead
     line::fix_line(line, layout)
 }
 
-// The time of a K line by its J layout. BAD_VALUE for another kind or a layout that is not allowed; then what `line::note_line` refuses.
-pub fn note(line: &[u8], layout: Layout) -> TimeRead
-    ensures { λ r. ⌜ NoteGiven (now (line .entry)) layout r ⌝ }
+// The time of a K line by its J layout. BAD_VALUE for another kind or a layout that is not allowed; then what `line::extra_line` refuses.
+pub fn extra(line: &[u8], layout: Layout) -> TimeRead
+    ensures { λ r. ⌜ ExtraGiven (now (line .entry)) layout r ⌝ }
 {
     if chars::byte(line, 0) != b'K' {
         return TimeRead::Refused(Refusal {
@@ -154,7 +154,7 @@ pub fn note(line: &[u8], layout: Layout) -> TimeRead
             byte: 0,
         });
     }
-    line::note_line(line, layout)
+    line::extra_line(line, layout)
 }
 
 // Whether a B or a K line is one that its layout allows. BAD_VALUE for another kind or layout; then what its check refuses.
@@ -167,7 +167,7 @@ fn by_layout(line: &[u8], layout: Layout) -> Outcome
             FixRead::Refused(r) => Outcome::Refused(r),
         };
     }
-    match note(line, layout) {
+    match extra(line, layout) {
         TimeRead::Secs(_) => Outcome::Accepted,
         TimeRead::Refused(r) => Outcome::Refused(r),
     }

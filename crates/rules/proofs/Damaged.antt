@@ -32,7 +32,7 @@ fiveLayout = record {
 pub verdict-of-five : verdict fiveLines 16 ≡ says (record {
   date = record { day = 15; month = 7; year = 2024 };
   fixes = fiveLayout;
-  notes = emptyLayout;
+  extras = emptyLayout;
   lines = 5;
   bs = 1;
   ks = 0;

@@ -53,7 +53,7 @@ refusedText n l b = bytes "REFUSED" ++ (shown n ++ (shown l ++ (shown b ++ lf)))
 unfoldable pub okText : Flight → List ℕ
 unfolding bytes
 okText f =
-    bytes "OK" ++ (shown (f .lines) ++ (shown (f .bs) ++ (shown (f .ks) ++ (shown (lineLength (firstStart family.B) (f .fixes)) ++ (shown (lineLength (firstStart family.K) (f .notes)) ++ lf)))))
+    bytes "OK" ++ (shown (f .lines) ++ (shown (f .bs) ++ (shown (f .ks) ++ (shown (lineLength (firstStart family.B) (f .fixes)) ++ (shown (lineLength (firstStart family.K) (f .extras)) ++ lf)))))
 
 -- "FIX: line, seconds, latitude and letter, longitude and letter, validity, pressure and GNSS altitude."
 unfoldable pub fixShown : ℕ → Fix → List ℕ

@@ -115,7 +115,7 @@ noDate = record { day = 0; month = 0; year = 0 }
 
 -- beside a refusal
 abbrev pub noFlight : Flight
-noFlight = record { date = noDate; fixes = emptyLayout; notes = emptyLayout; lines = 0; bs = 0; ks = 0 }
+noFlight = record { date = noDate; fixes = emptyLayout; extras = emptyLayout; lines = 0; bs = 0; ks = 0 }
 
 -- before the first line; the clock stands at 0, from which no time falls
 abbrev pub start : State
@@ -131,7 +131,7 @@ moved stage st = record {
   flight = record {
     date = st .flight .date;
     fixes = st .flight .fixes;
-    notes = st .flight .notes;
+    extras = st .flight .extras;
     lines = st .flight .lines + 1;
     bs = st .flight .bs;
     ks = st .flight .ks;
@@ -144,15 +144,15 @@ withFlight st f = record { stage = st .stage; declared = st .declared; points = 
 
 abbrev pub dated : Date → State → State
 dated d st =
-    withFlight st (record { date = d; fixes = st .flight .fixes; notes = st .flight .notes; lines = st .flight .lines; bs = st .flight .bs; ks = st .flight .ks })
+    withFlight st (record { date = d; fixes = st .flight .fixes; extras = st .flight .extras; lines = st .flight .lines; bs = st .flight .bs; ks = st .flight .ks })
 
 abbrev pub withFixes : Layout → State → State
 withFixes l st =
-    withFlight st (record { date = st .flight .date; fixes = l; notes = st .flight .notes; lines = st .flight .lines; bs = st .flight .bs; ks = st .flight .ks })
+    withFlight st (record { date = st .flight .date; fixes = l; extras = st .flight .extras; lines = st .flight .lines; bs = st .flight .bs; ks = st .flight .ks })
 
-abbrev pub withNotes : Layout → State → State
-withNotes l st =
-    withFlight st (record { date = st .flight .date; fixes = st .flight .fixes; notes = l; lines = st .flight .lines; bs = st .flight .bs; ks = st .flight .ks })
+abbrev pub withExtras : Layout → State → State
+withExtras l st =
+    withFlight st (record { date = st .flight .date; fixes = st .flight .fixes; extras = l; lines = st .flight .lines; bs = st .flight .bs; ks = st .flight .ks })
 
 -- so many B lines and K lines more
 abbrev pub counted : ℕ → ℕ → State → State
@@ -160,7 +160,7 @@ counted bs ks st =
     withFlight st (record {
       date = st .flight .date;
       fixes = st .flight .fixes;
-      notes = st .flight .notes;
+      extras = st .flight .extras;
       lines = st .flight .lines;
       bs = st .flight .bs + bs;
       ks = st .flight .ks + ks;
@@ -199,13 +199,13 @@ unfoldable pub ruled : Kind → List ℕ → State → Said State
 ruled kind.A l st = andThen (aLine l) λ _. says st
 ruled kind.H l st = cond (eqb (st .flight .lines) 2) (andThen (dateLine l) λ d. says (dated d st)) (andThen (hLine l) λ _. says st)
 ruled kind.I l st = andThen (layoutLine (firstStart family.B) l) λ i. says (withFixes i st)
-ruled kind.J l st = andThen (layoutLine (firstStart family.K) l) λ j. says (withNotes j st)
+ruled kind.J l st = andThen (layoutLine (firstStart family.K) l) λ j. says (withExtras j st)
 ruled kind.C l st = cond (eqb (st .points) 0) (andThen (headLine l) λ h. says (begun h st)) (andThen (pointLine l) λ _. says (pointed st))
 ruled kind.D l st = andThen (dLine l) λ _. says st
 ruled kind.E l st = andThen (eLine l) λ t. timed t st
 ruled kind.F l st = andThen (fLine l) λ t. timed t st
 ruled kind.B l st = andThen (bLine (st .flight .fixes) l) λ f. timed (f .time) (counted 1 0 st)
-ruled kind.K l st = andThen (kLine (st .flight .notes) l) λ t. timed t (counted 0 1 st)
+ruled kind.K l st = andThen (kLine (st .flight .extras) l) λ t. timed t (counted 0 1 st)
 ruled kind.L l st = andThen (lLine l) λ _. says st
 ruled kind.G l st = andThen (gLine l) λ _. says st
 ruled kind.Other l st = andThen (otherLine l) λ _. says st

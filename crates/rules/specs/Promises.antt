@@ -17,8 +17,8 @@ use Rattle.rules.specs.Layouts.{LayoutTold, firstStart, allowed, lengthT
 use Rattle.rules.specs.Lines.{kindOf, aLine, dateLine, hLine, layoutLine, headLine, pointLine, dLine, eLine, fLine, bLine, kLine, shaped}
 use Rattle.rules.specs.Split.{lineTold, boundsOf, lineText}
 use Rattle.rules.specs.Files.{CheckedTold, verdict, tableAfter}
-use Rattle.rules.specs.Reads.{fixTold, fixSaid, timeReadTold, noteSaid, eventSaid, satellitesSaid, dateReadTold, dateSaid, layoutSaid, headTold, headSaid, headRest, pointTold, pointSaid, pointRest, columnSaid, columnRest, numberReadTold, numberSaid}
-use Rattle.rules.specs.Writes.{wroteTold, written, outAfter, putAt, fixText, isFix, noteText, isNote, layoutText, headText, isHead, pointText, isPoint}
+use Rattle.rules.specs.Reads.{fixTold, fixSaid, timeReadTold, extraSaid, eventSaid, satellitesSaid, dateReadTold, dateSaid, layoutSaid, headTold, headSaid, headRest, pointTold, pointSaid, pointRest, columnSaid, columnRest, numberReadTold, numberSaid}
+use Rattle.rules.specs.Writes.{wroteTold, written, outAfter, putAt, fixText, isFix, extraText, isExtra, layoutText, headText, isHead, pointText, isPoint}
 use Rattle.rules.specs.declared.Outcome.{Outcome}
 use Rattle.rules.specs.declared.Found.{Found}
 use Rattle.rules.specs.declared.Found.the-variants as found
@@ -188,16 +188,16 @@ SatellitesChecked l r = timeReadTold r ≡ fLine l
 abbrev pub FixChecked : List ℕ → Layout → FixRead → Type 0
 FixChecked l layout r = fixTold r ≡ bLine layout l
 
-abbrev pub NoteChecked : List ℕ → Layout → TimeRead → Type 0
-NoteChecked l layout r = timeReadTold r ≡ kLine layout l
+abbrev pub ExtraChecked : List ℕ → Layout → TimeRead → Type 0
+ExtraChecked l layout r = timeReadTold r ≡ kLine layout l
 
 -- ---- lines: the readers
 
 abbrev pub FixGiven : List ℕ → Layout → FixRead → Type 0
 FixGiven l layout r = fixTold r ≡ fixSaid l layout
 
-abbrev pub NoteGiven : List ℕ → Layout → TimeRead → Type 0
-NoteGiven l layout r = timeReadTold r ≡ noteSaid l layout
+abbrev pub ExtraGiven : List ℕ → Layout → TimeRead → Type 0
+ExtraGiven l layout r = timeReadTold r ≡ extraSaid l layout
 
 abbrev pub EventGiven : List ℕ → TimeRead → Type 0
 EventGiven l r = timeReadTold r ≡ eventSaid l
@@ -255,8 +255,8 @@ pub record Written (good : Bool) (text : List ℕ) (place : ℕ) (out : List ℕ
 abbrev pub FixWritten : Fix → List ℕ → Layout → ℕ → List ℕ → Wrote → List ℕ → Type 0
 FixWritten f tail layout place out r after = Written (isFix f tail layout) (fixText f tail) place out r after
 
-abbrev pub NoteWritten : ℕ → List ℕ → Layout → ℕ → List ℕ → Wrote → List ℕ → Type 0
-NoteWritten t tail layout place out r after = Written (isNote t tail layout) (noteText t tail) place out r after
+abbrev pub ExtraWritten : ℕ → List ℕ → Layout → ℕ → List ℕ → Wrote → List ℕ → Type 0
+ExtraWritten t tail layout place out r after = Written (isExtra t tail layout) (extraText t tail) place out r after
 
 abbrev pub LayoutWritten : Family → Layout → ℕ → List ℕ → Wrote → List ℕ → Type 0
 LayoutWritten f l place out r after = Written (allowed (firstStart f) l) (layoutText f l) place out r after

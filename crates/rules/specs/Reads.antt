@@ -48,8 +48,8 @@ unfoldable pub fixSaid : List ℕ → Layout → Said Fix
 fixSaid l layout = ofKind (code "B") l λ _. withLayout family.B layout λ _. bLine layout l
 
 -- the time of a K line with its J layout
-unfoldable pub noteSaid : List ℕ → Layout → Said ℕ
-noteSaid l layout = ofKind (code "K") l λ _. withLayout family.K layout λ _. kLine layout l
+unfoldable pub extraSaid : List ℕ → Layout → Said ℕ
+extraSaid l layout = ofKind (code "K") l λ _. withLayout family.K layout λ _. kLine layout l
 
 -- the time of an E line, and of an F line
 unfoldable pub eventSaid : List ℕ → Said ℕ
@@ -90,7 +90,7 @@ pointRest l (refuses n k b) = []
 -- a B line or a K line with its layout: 17, and the checks of the line
 unfoldable pub lineSaid : List ℕ → Layout → Said (Unit {0})
 lineSaid l layout =
-    cond (eqb (getD l 0 0) (code "B")) (andThen (fixSaid l layout) λ _. says tt) (andThen (noteSaid l layout) λ _. says tt)
+    cond (eqb (getD l 0 0) (code "B")) (andThen (fixSaid l layout) λ _. says tt) (andThen (extraSaid l layout) λ _. says tt)
 
 -- "A column is read by its code as text": the places of its first and last byte; "19 ABSENT: code (any 3 bytes) not in the layout"
 unfoldable pub columnSaid : List ℕ → Layout → List ℕ → Said Span

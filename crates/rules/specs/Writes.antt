@@ -13,7 +13,7 @@ use Rattle.rules.specs.Numbers.{digitsOf}
 use Rattle.rules.specs.Fields.{timeText, dateText, latitudeText, longitudeText, altitudeText}
 use Rattle.rules.specs.Listed.{codeText}
 use Rattle.rules.specs.Layouts.{entriesOf}
-use Rattle.rules.specs.Reads.{fixSaid, noteSaid, headSaid, pointSaid, layoutLetter}
+use Rattle.rules.specs.Reads.{fixSaid, extraSaid, headSaid, pointSaid, layoutLetter}
 use Rattle.rules.specs.declared.Reason.the-variants.{BadValue, NoRoom}
 use Rattle.rules.specs.declared.Date.{Date}
 use Rattle.rules.specs.declared.Position.{Position}
@@ -40,8 +40,8 @@ fixText f tail =
     ++ (altitudeText (f .gnss)
     ++ tail))))))
 
-unfoldable pub noteText : ℕ → List ℕ → List ℕ
-noteText t tail = code "K" ∷ (timeText t ++ tail)
+unfoldable pub extraText : ℕ → List ℕ → List ℕ
+extraText t tail = code "K" ∷ (timeText t ++ tail)
 
 unfoldable pub entryText : Entry → List ℕ
 entryText e = digitsOf 2 (e .first) ++ (digitsOf 2 (e .last) ++ codeText (e .code))
@@ -121,8 +121,8 @@ module _ {A : Type 0} where
 unfoldable pub isFix : Fix → List ℕ → Layout → Bool
 isFix f tail layout = reads sameFix (fixSaid (fixText f tail) layout) f
 
-unfoldable pub isNote : ℕ → List ℕ → Layout → Bool
-isNote t tail layout = reads eqb (noteSaid (noteText t tail) layout) t
+unfoldable pub isExtra : ℕ → List ℕ → Layout → Bool
+isExtra t tail layout = reads eqb (extraSaid (extraText t tail) layout) t
 
 unfoldable pub isHead : Head → List ℕ → Bool
 isHead h rest = reads sameHead (headSaid (headText h rest)) h

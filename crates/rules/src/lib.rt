@@ -250,7 +250,7 @@ pub enum Kind {
 pub struct Flight {
     pub date: Date,
     pub fixes: Layout,
-    pub notes: Layout,
+    pub extras: Layout,
     pub lines: u32,
     pub bs: u32,
     pub ks: u32,

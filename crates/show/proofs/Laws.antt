@@ -210,7 +210,7 @@ pub ok-room : (f : Flight) → length (okText f) ≤ 288
 unfolding okText bytes
 ok-room f =
     simp length-append
-    (omega (arith, number-room (f .lines), number-room (f .bs), number-room (f .ks), number-room (lineLength 36 (f .fixes)), number-room (lineLength 8 (f .notes))))
+    (omega (arith, number-room (f .lines), number-room (f .bs), number-room (f .ks), number-room (lineLength 36 (f .fixes)), number-room (lineLength 8 (f .extras))))
 
 pub fix-room : (n : ℕ) (f : Fix) → length (fixShown n f) ≤ 288
 unfolding fixShown bytes

@@ -50,7 +50,7 @@ pub record Fills (out : List ℕ) (at : ℕ) (text : List ℕ) (r : ℕ) (after 
 
 -- an OK line from the lengths on
 unfoldable pub lengthsShown : Layout → Layout → List ℕ
-lengthsShown fixes notes = shown (lineLength 36 fixes) ++ (shown (lineLength 8 notes) ++ lf)
+lengthsShown fixes extras = shown (lineLength 36 fixes) ++ (shown (lineLength 8 extras) ++ lf)
 
 unfoldable pub positionShown : Position → List ℕ
 positionShown p = shown (p .count) ++ shownLetter (p .letter)

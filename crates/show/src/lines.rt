@@ -45,11 +45,11 @@ fn line_length(start: usize, l: Layout) -> usize
 }
 
 // The lengths of B and of K lines, and the line's end.
-fn put_lengths(out: &mut [u8], at: usize, fixes: Layout, notes: Layout) -> usize
-    ensures { λ r. ⌜ Fills (now (out .entry)) at (lengthsShown fixes notes) r (now (out .exit)) ⌝ }
+fn put_lengths(out: &mut [u8], at: usize, fixes: Layout, extras: Layout) -> usize
+    ensures { λ r. ⌜ Fills (now (out .entry)) at (lengthsShown fixes extras) r (now (out .exit)) ⌝ }
 {
     let a = put_shown(out, at, line_length(36, fixes) as u64);
-    let b = put_shown(out, a, line_length(8, notes) as u64);
+    let b = put_shown(out, a, line_length(8, extras) as u64);
     put_byte(out, b, b'\n')
 }
 
@@ -61,7 +61,7 @@ pub(crate) fn put_flight(out: &mut [u8], f: Flight) -> usize
     let b = put_shown(out, a, f.lines as u64);
     let c = put_shown(out, b, f.bs as u64);
     let d = put_shown(out, c, f.ks as u64);
-    put_lengths(out, d, f.fixes, f.notes)
+    put_lengths(out, d, f.fixes, f.extras)
 }
 
 // A latitude or a longitude with its letter.

@@ -11,6 +11,6 @@ pub mod Same
 pub mod LineTrip
 pub mod Points
 pub mod Tails
-pub mod Notes
+pub mod Extras
 pub mod Heads
 pub mod Fixes

@@ -97,8 +97,8 @@ goodTail start tail layout =
     given (badTail start tail layout) true λ first. false
 
 -- "K: time 2 to 7, columns from 8."
-unfoldable pub goodNote : ℕ → List ℕ → Layout → Bool
-goodNote t tail layout =
+unfoldable pub goodExtra : ℕ → List ℕ → Layout → Bool
+goodExtra t tail layout =
     need (isTime t) false λ _.
     goodTail 8 tail layout
 

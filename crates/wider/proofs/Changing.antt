@@ -11,8 +11,8 @@ use lib.ListN.{getD}
 use Rattle.rules.specs.Refusals.{Said, says, andThen}
 use Rattle.rules.specs.Layouts.{firstStart, allowed}
 use Rattle.rules.specs.Lines.{kindOf, layoutLine}
-use Rattle.rules.specs.Order.{leading, stageAfter, isC, isKind, moved, withFixes, withNotes, counted, timed, ruled, judge}
-use Rattle.rules.specs.Reads.{layoutLetter, fixSaid, noteSaid, layoutSaid}
+use Rattle.rules.specs.Order.{leading, stageAfter, isC, isKind, moved, withFixes, withExtras, counted, timed, ruled, judge}
+use Rattle.rules.specs.Reads.{layoutLetter, fixSaid, extraSaid, layoutSaid}
 use Rattle.rules.specs.declared.Layout.{Layout}
 use Rattle.rules.specs.declared.Family.{Family}
 use Rattle.rules.specs.declared.Family.the-variants as family
@@ -20,12 +20,12 @@ use Rattle.rules.specs.declared.Kind.{Kind}
 use Rattle.rules.specs.declared.Kind.the-variants as kind
 use Rattle.rules.specs.declared.State.{State}
 use Rattle.trips.proofs.Laws.{refuses-says, need-inv, then-inv}
-use Rattle.trips.proofs.Notes.{note-there}
+use Rattle.trips.proofs.Extras.{extra-there}
 use Rattle.trips.proofs.Fixes.{fix-there}
 use Rattle.wider.specs.Wider.{WiderLine, isFront}
 use Rattle.wider.specs.Before.{isB, isK, AsBefore}
 use Rattle.wider.proofs.Placed.{Sound}
-use Rattle.wider.proofs.OneLine.{Reading, fix-reading, note-reading, says-same, as-before}
+use Rattle.wider.proofs.OneLine.{Reading, fix-reading, extra-reading, says-same, as-before}
 use Rattle.wider.proofs.Judged.{judged-there, judged-here, wide, staged, follows-time, order-free, order-stage, leading-in, leading-out, isBody, Alike, order-alike}
 
 -- ---- lines with columns
@@ -64,10 +64,10 @@ pub fix-rule : (l : List ℕ) (st : State) → getD l 0 0 ≡ code "B" → allow
 unfolding ruled fixSaid
 fix-rule l st e a = rw (eq-eqb _ _ e, a)
 
-pub note-rule : (l : List ℕ) (st : State) → getD l 0 0 ≡ code "K" → allowed 8 (st .flight .notes) ≡ true
-    → ruled kind.K l st ≡ andThen (noteSaid l (st .flight .notes)) λ t. timed t (counted 0 1 st)
-unfolding ruled noteSaid
-note-rule l st e a = rw (eq-eqb _ _ e, a)
+pub extra-rule : (l : List ℕ) (st : State) → getD l 0 0 ≡ code "K" → allowed 8 (st .flight .extras) ≡ true
+    → ruled kind.K l st ≡ andThen (extraSaid l (st .flight .extras)) λ t. timed t (counted 0 1 st)
+unfolding ruled extraSaid
+extra-rule l st e a = rw (eq-eqb _ _ e, a)
 
 abbrev pub b-lines : Columned 36 fixSaid
 b-lines = record {
@@ -90,25 +90,25 @@ b-lines = record {
   here = λ l st f e. let w = fix-there (st .flight .fixes) l f e in fix-rule l st (w .kind) (w .layout-allowed) ∙ rw e;
 }
 
-abbrev pub k-lines : Columned 8 noteSaid
+abbrev pub k-lines : Columned 8 extraSaid
 k-lines = record {
   sort = kind.K;
   letter = code "K";
-  own = λ st. st .flight .notes;
+  own = λ st. st .flight .extras;
   among = λ i j. j;
   time = λ t. t;
   bs = 0;
   ks = 1;
-  reading = note-reading;
+  reading = extra-reading;
   is = is-k;
   real = refl;
   body = refl;
   low = omega arith;
   own-moved = λ stage st. refl;
   own-wide = λ i j n st. refl;
-  begins = λ l layout t e. note-there layout l t e .kind;
-  there = λ l st after e a h. then-inv (noteSaid l (st .flight .notes)) after _ (sym (note-rule l st e a) ∙ h);
-  here = λ l st t e. let w = note-there (st .flight .notes) l t e in note-rule l st (w .kind) (w .layout-allowed) ∙ rw e;
+  begins = λ l layout t e. extra-there layout l t e .kind;
+  there = λ l st after e a h. then-inv (extraSaid l (st .flight .extras)) after _ (sym (extra-rule l st e a) ∙ h);
+  here = λ l st t e. let w = extra-there (st .flight .extras) l t e in extra-rule l st (w .kind) (w .layout-allowed) ∙ rw e;
 }
 
 -- the line t of the old file, and t′ of the new one
@@ -117,7 +117,7 @@ pub record Stepped {A : Type 0} (said : List ℕ → Layout → Said A) (sort : 
   pub is-kind′ : kindOf (getD t′ 0 0) ≡ sort
   pub judged : judge t′ (wide i′ j′ n (staged s st)) ≡ says (wide i′ j′ (n + 1) after)
   pub fixes : after .flight .fixes ≡ st .flight .fixes
-  pub notes : after .flight .notes ≡ st .flight .notes
+  pub extras : after .flight .extras ≡ st .flight .extras
   pub reads : AsBefore said old new t t′
 
 pub step : {A : Type 0} {start : ℕ} {said : List ℕ → Layout → Said A} (c : Columned start said) (old i′ j′ : Layout) (n s : ℕ) (st after : State) (t t′ : List ℕ)
@@ -142,7 +142,7 @@ step {start = start} {said = said} c old i′ j′ n s st after t t′ p so so�
           judged-here (c .sort) t′ (wide i′ j′ n (staged s st)) (wide i′ j′ (n + 1) after) (ap kindOf e′ ∙ c .is) (c .real) (omega (arith, c .low, e′))
           (record { stage = g .stage; order = order-alike (c .sort) i′ j′ n s st (c .body) a ∙ g .order; rule = r ∙ f .0 });
       fixes = f .1;
-      notes = f .2;
+      extras = f .2;
       reads = as-before start said (c .reading) old new t t′ (d .0) so′ w before;
     }
 
@@ -184,7 +184,7 @@ pub i-rule : (l : List ℕ) (st : State) → ruled kind.I l st ≡ andThen (layo
 unfolding ruled
 i-rule l st = refl
 
-pub j-rule : (l : List ℕ) (st : State) → ruled kind.J l st ≡ andThen (layoutLine 8 l) λ layout. says (withNotes layout st)
+pub j-rule : (l : List ℕ) (st : State) → ruled kind.J l st ≡ andThen (layoutLine 8 l) λ layout. says (withExtras layout st)
 unfolding ruled
 j-rule l st = refl
 
@@ -210,7 +210,7 @@ j-line = record {
   sort = kind.J;
   high = 3;
   next = 4;
-  into = withNotes;
+  into = withExtras;
   is = is-j;
   real = refl;
   low = omega arith;

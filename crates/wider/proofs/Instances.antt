@@ -12,7 +12,7 @@ use Rattle.rules.specs.declared.Family.{Family}
 use Rattle.rules.specs.declared.Family.the-variants as family
 use Rattle.rules.proofs.Computed.{everything, fileOf}
 use Rattle.rules.proofs.Damaged.{fiveLines}
-use Rattle.wider.specs.Wider.{widthIn, textIn, done, same, fix, note, without, changed, put, head, from, WiderFile}
+use Rattle.wider.specs.Wider.{widthIn, textIn, done, same, fix, extra, without, changed, put, head, from, WiderFile}
 use Rattle.wider.specs.Before.{putIn}
 
 -- the layout that a line tells
@@ -66,7 +66,7 @@ put-i =
       long = refl;
       kept = tt;
       added = (λ h. record { valid = refl; rule = refl }, tt);
-    }) (note refl (record { fields = refl; long = refl; kept = tt; added = tt }) (same refl (fix refl (record {
+    }) (extra refl (record { fields = refl; long = refl; kept = tt; added = tt }) (same refl (fix refl (record {
       fields = refl;
       long = refl;
       kept = tt;
@@ -86,7 +86,7 @@ put-j =
       long = refl;
       kept = tt;
       added = tt;
-    }) (note refl (record {
+    }) (extra refl (record {
       fields = refl;
       long = refl;
       kept = tt;
@@ -110,7 +110,7 @@ both =
       long = refl;
       kept = tt;
       added = (λ h. record { valid = refl; rule = refl }, (λ h. record { valid = refl; rule = refl }, tt));
-    }) (note refl (record {
+    }) (extra refl (record {
       fields = refl;
       long = refl;
       kept = (refl, tt);

@@ -73,7 +73,7 @@ run-here room st after t ls f j n r = rw (j, le-leb (after .flight .lines) room 
 
 -- what is said of it: its own layouts, and its own count of lines
 abbrev pub wideFlight : Layout → Layout → ℕ → Flight → Flight
-wideFlight i j n f = record { date = f .date; fixes = i; notes = j; lines = n; bs = f .bs; ks = f .ks }
+wideFlight i j n f = record { date = f .date; fixes = i; extras = j; lines = n; bs = f .bs; ks = f .ks }
 
 abbrev pub wide : Layout → Layout → ℕ → State → State
 wide i j n st = record { stage = st .stage; declared = st .declared; points = st .points; clock = st .clock; flight = wideFlight i j n (st .flight) }
@@ -87,10 +87,10 @@ staged s st = record { stage = s; declared = st .declared; points = st .points; 
 module _ (i j : Layout) (n : ℕ) where
   -- what r says of the old state, r′ says of the new one, and the old layouts stay
   abbrev pub Follows : State → Said State → Said State → Type 0
-  Follows st r r′ = (after : State) → r ≡ says after → (r′ ≡ says (wide i j n after)) × (after .flight .fixes ≡ st .flight .fixes) × (after .flight .notes ≡ st .flight .notes)
+  Follows st r r′ = (after : State) → r ≡ says after → (r′ ≡ says (wide i j n after)) × (after .flight .fixes ≡ st .flight .fixes) × (after .flight .extras ≡ st .flight .extras)
 
   follows-value : {A : Type 0} (st : State) (s : Said A) (g : A → State → State) → ((v : A) → g v (wide i j n st) ≡ wide i j n (g v st))
-      → ((v : A) → (g v st .flight .fixes ≡ st .flight .fixes) × (g v st .flight .notes ≡ st .flight .notes))
+      → ((v : A) → (g v st .flight .fixes ≡ st .flight .fixes) × (g v st .flight .extras ≡ st .flight .extras))
       → Follows st (andThen s λ v. says (g v st)) (andThen s λ v. says (g v (wide i j n st)))
   follows-value st s g c k after h =
       let t = then-inv s after _ h in

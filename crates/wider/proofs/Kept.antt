@@ -25,7 +25,7 @@ use Rattle.trips.proofs.Laws.{none-some, false-true, given-inv}
 use Rattle.laws.proofs.Splitting.{textsOf}
 use Rattle.laws.proofs.Counted.{tally}
 use Rattle.laws.proofs.Counted as counted
-use Rattle.wider.specs.Wider.{Extends, widthIn, AfterLayouts, done, same, fix, note, without, changed, put, FromJ, FromI, Wider, head, from}
+use Rattle.wider.specs.Wider.{Extends, widthIn, AfterLayouts, done, same, fix, extra, without, changed, put, FromJ, FromI, Wider, head, from}
 use Rattle.wider.specs.Before.{isB, isK, linesWith, addedFrom, addedIn, MoreBits, putInJ, putInI, putIn}
 use Rattle.wider.proofs.Lists.{found-one}
 use Rattle.wider.proofs.Placed.{Sound}
@@ -46,7 +46,7 @@ module _ (test : Kind → Bool) (ni : test kind.I ≡ false) (nj : test kind.J �
   body-others (same {t = t} x b) = ap (λ (r : List (List ℕ)). cond (test (kindOf (getD t 0 0))) (t ∷ r) r) (body-others b)
   body-others (fix {t = t} {t′ = t′} {ls = ls} {ls′ = ls′} x w b) =
       skip t′ ls′ kind.B (ap kindOf (first-same 34 t t′ (w .fields) ∙ x) ∙ is-b) nb ∙ body-others b ∙ sym (skip t ls kind.B (ap kindOf x ∙ is-b) nb)
-  body-others (note {t = t} {t′ = t′} {ls = ls} {ls′ = ls′} x w b) =
+  body-others (extra {t = t} {t′ = t′} {ls = ls} {ls′ = ls′} x w b) =
       skip t′ ls′ kind.K (ap kindOf (first-same 6 t t′ (w .fields) ∙ x) ∙ is-k) nk ∙ body-others b ∙ sym (skip t ls kind.K (ap kindOf x ∙ is-k) nk)
 
   fromJ-others : {i i′ : Layout} {ls ls′ : Lines} → FromJ i i′ ls ls′ → linesWith test ls′ ≡ linesWith test ls
@@ -71,7 +71,7 @@ body-count : {i i′ j j′ : Layout} {ls ls′ : Lines} → AfterLayouts i i′
 body-count done = refl
 body-count (same x b) = ap suc (body-count b)
 body-count (fix x w b) = ap suc (body-count b)
-body-count (note x w b) = ap suc (body-count b)
+body-count (extra x w b) = ap suc (body-count b)
 
 fromJ-count : {i i′ : Layout} {ls ls′ : Lines} (r : FromJ i i′ ls ls′) → length (textsOf ls′) ≡ length (textsOf ls) + putInJ r
 fromJ-count (without b) = omega (arith, body-count b)

@@ -30,7 +30,7 @@ use Rattle.wider.proofs.Instances.{told}
 
 -- what is said of document 01's file, with another layout of its B lines
 abbrev pub five : String → Flight
-five i = record { date = record { day = 15; month = 7; year = 2024 }; fixes = told family.B i; notes = emptyLayout; lines = 5; bs = 1; ks = 0 }
+five i = record { date = record { day = 15; month = 7; year = 2024 }; fixes = told family.B i; extras = emptyLayout; lines = 5; bs = 1; ks = 0 }
 
 module _ (file′ : List ℕ) (long : length file′ ≤ 16777216) (fits : length (textsOf (linesOf file′)) ≤ 16) (w : WiderFile fiveLines file′) where
   is-accepted : (n l b : ℕ) → verdict file′ 16 ≡ refuses n l b → ⊥

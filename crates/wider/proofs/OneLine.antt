@@ -16,13 +16,13 @@ use Rattle.rules.specs.Chars.{characters, firstInvalid}
 use Rattle.rules.specs.Listed.{packedOf, keepsRule}
 use Rattle.rules.specs.Layouts.{Span, entriesOf, spanOf, look, carries, allowed, lineLength, columnText, badColumn, columns}
 use Rattle.rules.specs.Lines.{shapedBy}
-use Rattle.rules.specs.Reads.{fixSaid, noteSaid, lineSaid, columnSaid, numberSaid}
-use Rattle.rules.specs.Writes.{fixText, noteText}
+use Rattle.rules.specs.Reads.{fixSaid, extraSaid, lineSaid, columnSaid, numberSaid}
+use Rattle.rules.specs.Writes.{fixText, extraText}
 use Rattle.rules.specs.declared.Reason.the-variants.{Column}
 use Rattle.rules.specs.declared.Entry.{Entry}
 use Rattle.rules.specs.declared.Layout.{Layout}
 use Rattle.rules.specs.declared.Fix.{Fix}
-use Rattle.trips.specs.Limits.{isClean, isTime, goodTail, goodNote, goodFixFields, goodFix}
+use Rattle.trips.specs.Limits.{isClean, isTime, goodTail, goodExtra, goodFixFields, goodFix}
 use Rattle.trips.proofs.Laws.{none-some, refuses-says, false-true, given-inv, need-inv, and-inv}
 use Rattle.trips.proofs.Texts.{areValid, both-valid, valid-join, clean-valid, nothing-there, shaped-there, shaped-here}
 use Rattle.trips.proofs.Tails.{tail-there}
@@ -30,7 +30,7 @@ use Rattle.trips.proofs.LineTrip.{LineTrip, line-limits}
 use Rattle.trips.proofs.Times.{time-trip}
 use Rattle.trips.proofs.Positions.{latitude-trip, longitude-trip}
 use Rattle.trips.proofs.Altitudes.{altitude-trip}
-use Rattle.trips.proofs.Notes.{note-there, note-trip}
+use Rattle.trips.proofs.Extras.{extra-there, extra-trip}
 use Rattle.trips.proofs.Fixes.{fix-there, fix-trip}
 use Rattle.wider.specs.Wider.{Each, textIn, KeepsRules, WiderLine}
 use Rattle.wider.specs.Before.{textSaid, AsBefore}
@@ -184,19 +184,19 @@ fix-reading = record {
   any = λ l layout f e. rw (eq-eqb _ _ (fix-there layout l f e .kind), e);
 }
 
-note-splits : (t : ℕ) (tail : List ℕ) → noteText t tail ≡ noteText t [] ++ tail
-unfolding noteText
-note-splits t tail = simp append-nil
+extra-splits : (t : ℕ) (tail : List ℕ) → extraText t tail ≡ extraText t [] ++ tail
+unfolding extraText
+extra-splits t tail = simp append-nil
 
-note-long : (t : ℕ) → suc (length (noteText t [])) ≡ 8
-unfolding noteText
-note-long t = simp (length-append, time-trip .long)
+extra-long : (t : ℕ) → suc (length (extraText t [])) ≡ 8
+unfolding extraText
+extra-long t = simp (length-append, time-trip .long)
 
-pub note-reading : Reading 8 noteSaid
-unfolding goodNote lineSaid
-note-reading = record {
+pub extra-reading : Reading 8 extraSaid
+unfolding goodExtra lineSaid
+extra-reading = record {
   first = omega arith;
-  passed = λ l layout t e. let w = note-there layout l t e in record { right = w .layout-allowed; shape = w .shape; ruled = w .ruled };
-  fields = fields-say 8 noteSaid noteText isTime note-trip note-splits note-long;
-  any = λ l layout t e. rw (note-there layout l t e .kind, e);
+  passed = λ l layout t e. let w = extra-there layout l t e in record { right = w .layout-allowed; shape = w .shape; ruled = w .ruled };
+  fields = fields-say 8 extraSaid extraText isTime extra-trip extra-splits extra-long;
+  any = λ l layout t e. rw (extra-there layout l t e .kind, e);
 }

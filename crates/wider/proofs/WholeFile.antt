@@ -10,13 +10,13 @@ use Rattle.rules.specs.Refusals.{says}
 use Rattle.rules.specs.Split.{linesOf}
 use Rattle.rules.specs.Order.{isC, start}
 use Rattle.rules.specs.Files.{finish, run, verdict}
-use Rattle.rules.specs.Reads.{fixSaid, noteSaid}
+use Rattle.rules.specs.Reads.{fixSaid, extraSaid}
 use Rattle.rules.specs.declared.Flight.{Flight}
 use Rattle.trips.proofs.Laws.{refuses-says, need-inv}
 use Rattle.laws.proofs.Splitting.{textsOf}
 use Rattle.laws.proofs.Counted.{lines-counted, bs-counted, ks-counted}
 use Rattle.wider.specs.Wider.{WiderFile}
-use Rattle.wider.specs.Before.{isB, isE, isK, linesWith, fixLine, noteLine, AsBefore, MoreBits, putIn, ReadsAsBefore}
+use Rattle.wider.specs.Before.{isB, isE, isK, linesWith, fixLine, extraLine, AsBefore, MoreBits, putIn, ReadsAsBefore}
 use Rattle.wider.proofs.Lists.{pair-at}
 use Rattle.wider.proofs.Judged.{wideFlight}
 use Rattle.wider.proofs.Simulated.{Went, lines-went}
@@ -61,9 +61,9 @@ module _ (file file′ : List ℕ) (room room′ : ℕ) (f : Flight) (accepted :
         subst (λ layout. AsBefore fixSaid layout (all .i′) (fixLine file n) (fixLine file′ n)) (sym (all .passed .old-fixes))
         (pair-at (AsBefore fixSaid (all .i) (all .i′)) [] (linesWith isB (linesOf file)) (linesWith isB (linesOf file′)) n (all .passed .fixes)
         (omega (arith, bs-counted file room f accepted, bs-tallied (linesOf file))));
-    notes = λ n h.
-        subst (λ layout. AsBefore noteSaid layout (all .j′) (noteLine file n) (noteLine file′ n)) (sym (all .passed .old-notes))
-        (pair-at (AsBefore noteSaid (all .j) (all .j′)) [] (linesWith isK (linesOf file)) (linesWith isK (linesOf file′)) n (all .passed .notes)
+    extras = λ n h.
+        subst (λ layout. AsBefore extraSaid layout (all .j′) (extraLine file n) (extraLine file′ n)) (sym (all .passed .old-extras))
+        (pair-at (AsBefore extraSaid (all .j) (all .j′)) [] (linesWith isK (linesOf file)) (linesWith isK (linesOf file′)) n (all .passed .extras)
         (omega (arith, ks-counted file room f accepted, ks-tallied (linesOf file))));
     presence = subst (λ layout. MoreBits layout (all .i′)) (sym (all .passed .old-fixes)) (presence-more (all .i) (all .i′) (all .extends) (all .sound) (all .sound′));
   }

@@ -10,7 +10,7 @@ use Rattle.rules.specs.Layouts.{carries, columnText, presenceSaid}
 use Rattle.rules.specs.Lines.{kindOf}
 use Rattle.rules.specs.Order.{isC}
 use Rattle.rules.specs.Split.{Lines, end, broken, line, linesOf}
-use Rattle.rules.specs.Reads.{fixSaid, noteSaid, columnSaid, numberSaid}
+use Rattle.rules.specs.Reads.{fixSaid, extraSaid, columnSaid, numberSaid}
 use Rattle.rules.specs.declared.Layout.{Layout}
 use Rattle.rules.specs.declared.Listed.{Listed}
 use Rattle.rules.specs.declared.Presence.{Presence}
@@ -43,8 +43,8 @@ linesWith test (line t ls) = cond (test (kindOf (getD t 0 0))) (t ∷ linesWith 
 abbrev pub fixLine : List ℕ → ℕ → List ℕ
 fixLine file n = getD (linesWith isB (linesOf file)) n []
 
-abbrev pub noteLine : List ℕ → ℕ → List ℕ
-noteLine file n = getD (linesWith isK (linesOf file)) n []
+abbrev pub extraLine : List ℕ → ℕ → List ℕ
+extraLine file n = getD (linesWith isK (linesOf file)) n []
 
 -- ---- one line
 
@@ -112,5 +112,5 @@ pub record ReadsAsBefore (file file′ : List ℕ) (f f′ : Flight) (more : ℕ
   pub others : (test : Kind → Bool) → test kind.I ≡ false → test kind.J ≡ false → test kind.B ≡ false → test kind.K ≡ false
       → linesWith test (linesOf file′) ≡ linesWith test (linesOf file)
   pub fixes : (n : ℕ) → n < f .bs → AsBefore fixSaid (f .fixes) (f′ .fixes) (fixLine file n) (fixLine file′ n)
-  pub notes : (n : ℕ) → n < f .ks → AsBefore noteSaid (f .notes) (f′ .notes) (noteLine file n) (noteLine file′ n)
+  pub extras : (n : ℕ) → n < f .ks → AsBefore extraSaid (f .extras) (f′ .extras) (extraLine file n) (extraLine file′ n)
   pub presence : MoreBits (f .fixes) (f′ .fixes)

@@ -72,7 +72,7 @@ pub data AfterLayouts (i i′ j j′ : Layout) : Lines → Lines → Type 0 wher
   same : {t : List ℕ} {ls ls′ : Lines} → isPlain (kindOf (getD t 0 0)) ≡ true → AfterLayouts i i′ j j′ ls ls′ → AfterLayouts i i′ j j′ (line t ls) (line t ls′)
   fix : {t t′ : List ℕ} {ls ls′ : Lines} → getD t 0 0 ≡ code "B" → WiderLine (firstStart family.B) i i′ t t′ → AfterLayouts i i′ j j′ ls ls′
       → AfterLayouts i i′ j j′ (line t ls) (line t′ ls′)
-  note : {t t′ : List ℕ} {ls ls′ : Lines} → getD t 0 0 ≡ code "K" → WiderLine (firstStart family.K) j j′ t t′ → AfterLayouts i i′ j j′ ls ls′
+  extra : {t t′ : List ℕ} {ls ls′ : Lines} → getD t 0 0 ≡ code "K" → WiderLine (firstStart family.K) j j′ t t′ → AfterLayouts i i′ j j′ ls ls′
       → AfterLayouts i i′ j j′ (line t ls) (line t′ ls′)
 
 -- At the place of the I line, or of the J line: there is none before and after; or it is changed in place; or, where there was none, it is put in.

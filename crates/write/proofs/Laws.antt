@@ -9,7 +9,7 @@ use borrow.Rule.Slice.PartMut.{midOf, putMid}
 use lib.ListN.{length, take, drop, set, length-append, length-drop, drop-of-length-le}
 use lib.Seq.{sets, take-all}
 use Rattle.rules.specs.Refusals.{no}
-use Rattle.rules.specs.Writes.{crlf, written, outAfter, wroteTold, putAt, plannedText, pointText, headText, noteText, fixText}
+use Rattle.rules.specs.Writes.{crlf, written, outAfter, wroteTold, putAt, plannedText, pointText, headText, extraText, fixText}
 use Rattle.rules.specs.Promises.{Written}
 use Rattle.rules.specs.declared.Reason.the-variants.{BadValue, NoRoom}
 use Rattle.rules.specs.declared.Fix.{Fix}
@@ -77,9 +77,9 @@ pub point-length : (p : Point) (rest : List ℕ) → length (pointText p rest) +
 unfolding pointText
 point-length p rest = simp (length-append, position-length) (omega arith)
 
-pub note-length : (t : ℕ) (tail : List ℕ) → length (noteText t tail) + 2 ≡ 9 + length tail
-unfolding noteText
-note-length t tail = simp (length-append, time-length) (omega arith)
+pub extra-length : (t : ℕ) (tail : List ℕ) → length (extraText t tail) + 2 ≡ 9 + length tail
+unfolding extraText
+extra-length t tail = simp (length-append, time-length) (omega arith)
 
 pub fix-length : (f : Fix) (tail : List ℕ) → length (fixText f tail) + 2 ≡ 37 + length tail
 unfolding fixText

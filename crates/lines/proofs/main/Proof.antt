@@ -5,10 +5,10 @@ use Rattle.lines.proofs.main.Statement.{statement}
 use Rattle.lines.proofs.main.Tie as tie
 
 abbrev Inv-loop : tie.InvT-loop
-Inv-loop n fixes₀ notes₀ i₀ fixes notes i = Unit {0}
+Inv-loop n fixes₀ extras₀ i₀ fixes extras i = Unit {0}
 
 abbrev μ-loop : tie.MeasureT-loop
-μ-loop n fixes₀ notes₀ i₀ fixes notes i = n - i
+μ-loop n fixes₀ extras₀ i₀ fixes extras i = n - i
 
 arg-count-requires : tie.Need-arg-count-requires Inv-loop μ-loop
 arg-count-requires c κs = search needs

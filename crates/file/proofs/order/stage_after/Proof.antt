@@ -31,6 +31,6 @@ stage-after-spec =
     (λ c. rw (c .before .enum-told3 .given .1) (c .leads-to3 .ensures))
     (λ c. rw (c .before .enum-told4 .given .1) (c .leads-to4 .ensures))
     (λ c. rw (c .before .enum-told5 .given .1) (c .leads-to5 .ensures))
-    (λ c. rw (c .before .enum-told6 .given .1) (c .note-after .ensures))
+    (λ c. rw (c .before .enum-told6 .given .1) (c .extra-after .ensures))
     (λ c. rw (c .enum-told7 .given .1))
     (λ c. c .leads-to6 .ensures ∙ body-kind (c .before .before .args .k) (c .before .before .args .stage) (c .before .match .keys8)))

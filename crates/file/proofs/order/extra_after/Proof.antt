@@ -1,13 +1,13 @@
--- `file::order::note_after` meets its contract. Assumes nothing.
+-- `file::order::extra_after` meets its contract. Assumes nothing.
 use borrow.Author.Needs.{needs}
 use Rattle.rules.specs.Order.{stageAfter}
 use Rattle.rules.proofs.Links.{tests}
-use Rattle.file.proofs.order.note_after.Statement.{statement}
-use Rattle.file.proofs.order.note_after.Tie as tie
+use Rattle.file.proofs.order.extra_after.Statement.{statement}
+use Rattle.file.proofs.order.extra_after.Tie as tie
 
-pub note-after-spec : {M : Type 1} → statement M
+pub extra-after-spec : {M : Type 1} → statement M
 unfolding stageAfter
-note-after-spec =
+extra-after-spec =
     tie.close
     (tie.spec
     (λ c κs. search needs)

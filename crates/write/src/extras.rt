@@ -1,7 +1,7 @@
 // K lines.
 ghost use mathlib.Core.List.{_++_};
-ghost use Rattle.rules.specs.Writes.{noteText, crlf};
-ghost use Rattle.rules.specs.Promises.{NoteWritten};
+ghost use Rattle.rules.specs.Writes.{extraText, crlf};
+ghost use Rattle.rules.specs.Promises.{ExtraWritten};
 ghost use Rattle.put.specs.Puts.{Fills};
 use crate::ending::close;
 use crate::ending::refused;
@@ -10,8 +10,8 @@ use rules::Reason;
 use rules::Wrote;
 
 // A K line and its CR LF, at the front of an output.
-fn fill_note(t: u32, tail: &[u8], out: &mut [u8])
-    ensures { λ _. ⌜ Fills (now (out .entry)) 0 (noteText t (now (tail .entry)) ++ crlf) (now (out .exit)) ⌝ }
+fn fill_extra(t: u32, tail: &[u8], out: &mut [u8])
+    ensures { λ _. ⌜ Fills (now (out .entry)) 0 (extraText t (now (tail .entry)) ++ crlf) (now (out .exit)) ⌝ }
 {
     put::byte(out, 0, b'K');
     put::time(out, 1, t);
@@ -20,16 +20,16 @@ fn fill_note(t: u32, tail: &[u8], out: &mut [u8])
 
 // A K line of a time and its columns, the line's whole tail, into an output from a place on; the place after its CR LF. BadValue where no line with this
 // layout reads as the time with that tail, NoRoom where the output is too short.
-pub fn note(t: u32, tail: &[u8], l: Layout, out: &mut [u8], place: usize) -> Wrote
-    ensures { λ r. ⌜ NoteWritten t (now (tail .entry)) l place (now (out .entry)) r (now (out .exit)) ⌝ }
+pub fn extra(t: u32, tail: &[u8], l: Layout, out: &mut [u8], place: usize) -> Wrote
+    ensures { λ r. ⌜ ExtraWritten t (now (tail .entry)) l place (now (out .entry)) r (now (out .exit)) ⌝ }
 {
-    if !limits::good_note(t, tail, l) {
+    if !limits::good_extra(t, tail, l) {
         return refused(Reason::BadValue);
     }
     let n = 9 + tail.len();
     if out.len() < place || out.len() - place < n {
         return refused(Reason::NoRoom);
     }
-    fill_note(t, tail, &mut out[place..]);
+    fill_extra(t, tail, &mut out[place..]);
     Wrote::Next(place + n)
 }

@@ -1,14 +1,14 @@
--- `line::note_line` meets its contract: each way out is a way through `kLine`. Assumes nothing.
+-- `line::extra_line` meets its contract: each way out is a way through `kLine`. Assumes nothing.
 use borrow.Author.Needs.{needs}
 use Rattle.rules.specs.Lines.{kLine}
 use Rattle.rules.specs.Reads.{timeReadTold}
 use Rattle.line.proofs.Laws.{lines}
-use Rattle.line.proofs.note_line.Statement.{statement}
-use Rattle.line.proofs.note_line.Tie as tie
+use Rattle.line.proofs.extra_line.Statement.{statement}
+use Rattle.line.proofs.extra_line.Tie as tie
 
-pub note-line-spec : {M : Type 1} → statement M
+pub extra-line-spec : {M : Type 1} → statement M
 unfolding kLine timeReadTold
-note-line-spec =
+extra-line-spec =
     tie.close
     (tie.spec
     (λ c κs. search needs)

@@ -5,7 +5,7 @@ use rules::Layout;
 
 fn print(time: u32, tail: &[u8], layout: Layout, place: usize) {
     let mut out = [46u8; 16];
-    let r = write::note(time, tail, layout, &mut out, place);
+    let r = write::extra(time, tail, layout, &mut out, place);
     answer::print(r, &out);
 }
 
@@ -19,7 +19,7 @@ fn not_told() {
     print(0, b"090", one(36, 38), 0);
 }
 
-pub fn notes() {
+pub fn extras() {
     print(0, b"090", one(8, 10), 0);
     print(86399, b"090", one(8, 10), 4);
     print(0, b"090", one(8, 10), 5);
