@@ -17,12 +17,18 @@ use Rattle.rules.specs.declared.Layout.{Layout}
 use Rattle.rules.specs.declared.LayoutRead.{LayoutRead}
 use Rattle.rules.specs.declared.Family.{Family}
 use Rattle.rules.specs.declared.ColumnRead.{ColumnRead}
+use Rattle.rules.specs.declared.Listed.{Listed}
+use Rattle.layout.specs.declared.table.Row.{Row}
 use Rattle.layout.specs.declared.entries.Spot.{Spot}
 use Rattle.layout.specs.declared.entries.Spot.the-variants as spot
 use Rattle.layout.specs.declared.entries.EntryRead.{EntryRead}
 use Rattle.layout.specs.declared.entries.EntryRead.the-variants as entryRead
 use Rattle.layout.specs.declared.reading.Letters.{Letters}
 use Rattle.layout.specs.declared.reading.Letters.the-variants as letters
+
+-- a row of the table: code, least width, most width, sign flag
+abbrev pub inRow : Row → Listed
+inRow r = record { code = packedOf (r .0); least = r .1; most = r .2; sign = r .3 }
 
 -- three characters as one number
 abbrev pub CodePacked : ℕ → ℕ → ℕ → ℕ → Type 0

@@ -2,12 +2,12 @@
 ghost use mathlib.Core.Path.{_≡_};
 ghost use Rattle.rules.specs.Listed.{widthFits, isDigits, keepsSign};
 ghost use Rattle.rules.specs.Promises.{ListedAt, ColumnTest};
-ghost use Rattle.layout.specs.Parts.{CodePacked, ListedFound};
+ghost use Rattle.layout.specs.Parts.{inRow, CodePacked, ListedFound};
 use rules::Found;
 use rules::Listed;
 
 // A row of the table: code, least width, most width, and whether a minus may come first.
-pub struct Row(pub [u8; 3], pub usize, pub usize, pub bool);
+pub struct Row(pub [u8; 3], pub u8, pub u8, pub bool);
 
 const TABLE: [Row; 15] = [
     Row(*b"FXA", 3, 3, false),
@@ -34,19 +34,26 @@ pub fn pack(a: u8, b: u8, c: u8) -> u32
     (a as u32) * 65536 + (b as u32) * 256 + (c as u32)
 }
 
+// What a row of the table says.
+fn listed_in(row: Row) -> Listed
+    ensures { λ r. ⌜ r ≡ inRow row ⌝ }
+{
+    let code = row.0;
+    Listed {
+        code: pack(code[0], code[1], code[2]),
+        least: row.1 as usize,
+        most: row.2 as usize,
+        sign: row.3,
+    }
+}
+
 // The listed code of the number n; past the table a row of zeros.
 pub fn listed_at(n: usize) -> Listed
     ensures { λ r. ⌜ ListedAt n r ⌝ }
 {
     if n < 15 {
         let row = TABLE[n];
-        let code = row.0;
-        Listed {
-            code: pack(code[0], code[1], code[2]),
-            least: row.1,
-            most: row.2,
-            sign: row.3,
-        }
+        listed_in(row)
     } else {
         Listed {
             code: 0,
@@ -61,10 +68,12 @@ pub fn listed_at(n: usize) -> Listed
 pub(crate) fn listed_number(code: u32) -> Found
     ensures { λ r. ⌜ ListedFound code r ⌝ }
 {
+    let table = TABLE;
     let mut i = 0;
     while i < 15 {
-        let row = listed_at(i);
-        if row.code == code {
+        let row = table[i];
+        let listed = listed_in(row);
+        if listed.code == code {
             return Found::At(i);
         }
         i += 1;
