@@ -1,0 +1,4 @@
+-- What the proofs of several functions use; and that each promise has one answer.
+mod Laws
+mod Said
+mod Only

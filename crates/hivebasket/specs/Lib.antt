@@ -1,0 +1,4 @@
+-- What each exported function promises.
+pub mod Answers
+pub mod Values
+pub mod Calls

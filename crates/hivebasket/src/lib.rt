@@ -1,0 +1,4 @@
+// Hivebasket for C: the check, the readers and the writers as exported functions over numbers and slices of numbers (c/hivebasket.h).
+mod answers;
+mod files;
+mod values;
