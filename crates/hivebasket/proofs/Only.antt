@@ -3,8 +3,9 @@ use Prim.Native.Nat.{ℕ}
 use mathlib.Core.Bool.{Bool}
 use mathlib.Core.List.{List}
 use mathlib.Core.Path.{_≡_, sym, _∙_}
+use lib.IntN.{ℤ}
 use Rattle.hivebasket.specs.Answers.{Answered}
-use Rattle.hivebasket.specs.Calls.{CheckAnswered, LineAnswered, StepAnswered}
+use Rattle.hivebasket.specs.Calls.{CheckAnswered, LineAnswered, StepAnswered, FixAnswered, NoteAnswered, ColumnAnswered, NumberAnswered, EntryAnswered, PresenceAnswered}
 use Rattle.hivebasket.specs.declared.answers.Numbers.{Numbers}
 
 module _ (answer : List ℕ) (r r′ : ℕ) (after after′ : List ℕ) where
@@ -20,3 +21,23 @@ module _ (answer : List ℕ) (r r′ : ℕ) (after after′ : List ℕ) where
 
   pub only-step-answered : (file : List ℕ) (place : ℕ) → StepAnswered file place answer r after → StepAnswered file place answer r′ after′ → (r ≡ r′) × (after ≡ after′)
   only-step-answered file place = only-answered
+
+  pub only-fix-answered : (line l : List ℕ) (heights now now′ : List ℤ) → FixAnswered line l answer heights r after now → FixAnswered line l answer heights r′ after′ now′ → (r ≡ r′) × (after ≡ after′) × (now ≡ now′)
+  only-fix-answered line l heights now now′ f f′ =
+      (f .told .number ∙ sym (f′ .told .number), f .told .numbers ∙ sym (f′ .told .numbers), f .metres ∙ sym (f′ .metres))
+
+  pub only-note-answered : (line l : List ℕ) → NoteAnswered line l answer r after → NoteAnswered line l answer r′ after′ → (r ≡ r′) × (after ≡ after′)
+  only-note-answered line l = only-answered
+
+  pub only-column-answered : (line l name : List ℕ) → ColumnAnswered line l name answer r after → ColumnAnswered line l name answer r′ after′ → (r ≡ r′) × (after ≡ after′)
+  only-column-answered line l name = only-answered
+
+  pub only-number-answered : (line l name : List ℕ) (number now now′ : List ℤ) → NumberAnswered line l name answer number r after now → NumberAnswered line l name answer number r′ after′ now′ → (r ≡ r′) × (after ≡ after′) × (now ≡ now′)
+  only-number-answered line l name number now now′ n n′ =
+      (n .told .number ∙ sym (n′ .told .number), n .told .numbers ∙ sym (n′ .told .numbers), n .value ∙ sym (n′ .value))
+
+  pub only-entry-answered : (l : List ℕ) (n : ℕ) → EntryAnswered l n answer r after → EntryAnswered l n answer r′ after′ → (r ≡ r′) × (after ≡ after′)
+  only-entry-answered l n = only-answered
+
+  pub only-presence-answered : (l : List ℕ) → PresenceAnswered l answer r after → PresenceAnswered l answer r′ after′ → (r ≡ r′) × (after ≡ after′)
+  only-presence-answered l = only-answered

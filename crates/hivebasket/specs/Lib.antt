@@ -1,4 +1,5 @@
 -- What each exported function promises.
 pub mod Answers
+pub mod Given
 pub mod Values
 pub mod Calls

@@ -1,11 +1,18 @@
 -- The ten values of an answer, for each kind of value that is read.
-use Prim.Native.Nat.{ℕ, _-_}
+use Prim.Native.Nat.{ℕ, _-_, _/_, _%_}
 use mathlib.Core.List.{List, [], _∷_}
 use mathlib.Core.Option.{Option, none, some}
-use Rattle.rules.specs.Layouts.{lineLength}
+use lib.IntN.{ℤ, pos}
+use Rattle.rules.specs.Choice.{byte}
+use Rattle.rules.specs.Layouts.{Span, lineLength}
+use Rattle.rules.specs.Refusals.{Said, says, refuses}
 use Rattle.rules.specs.Split.{Bounds, Stepped}
 use Rattle.rules.specs.declared.Checked.{Checked}
+use Rattle.rules.specs.declared.Entry.{Entry}
+use Rattle.rules.specs.declared.Fix.{Fix}
 use Rattle.rules.specs.declared.Flight.{Flight}
+use Rattle.rules.specs.declared.Presence.{Presence}
+use Rattle.rules.specs.declared.Signed.{Signed}
 use Rattle.hivebasket.specs.Answers.{noValues, outcomeNumbers}
 use Rattle.hivebasket.specs.declared.answers.Numbers.{Numbers}
 
@@ -26,3 +33,39 @@ boundsNumbers b = b .from ∷ (b .to - b .from) ∷ 0 ∷ 0 ∷ 0 ∷ 0 ∷ 0 �
 abbrev pub stepNumbers : Option Stepped → List ℕ
 stepNumbers (some s) = s .from ∷ (s .to - s .from) ∷ s .next ∷ 1 ∷ 0 ∷ 0 ∷ 0 ∷ 0 ∷ 0 ∷ 0 ∷ []
 stepNumbers none = noValues
+
+-- a fix, its letters as bytes; the altitudes stand beside the answer
+abbrev pub fixNumbers : Fix → List ℕ
+fixNumbers f = f .time ∷ f .lat .count ∷ f .lat .letter ∷ f .lon .count ∷ f .lon .letter ∷ f .validity ∷ 0 ∷ 0 ∷ 0 ∷ 0 ∷ []
+
+-- seconds of the day
+abbrev pub timeNumbers : ℕ → List ℕ
+timeNumbers t = t ∷ 0 ∷ 0 ∷ 0 ∷ 0 ∷ 0 ∷ 0 ∷ 0 ∷ 0 ∷ 0 ∷ []
+
+-- a column's text: how many bytes stand before it, and its length
+abbrev pub spanNumbers : Span → List ℕ
+spanNumbers s = byte (s .first) ∷ (s .last - byte (s .first)) ∷ 0 ∷ 0 ∷ 0 ∷ 0 ∷ 0 ∷ 0 ∷ 0 ∷ 0 ∷ []
+
+-- a column's number stands beside the answer
+abbrev pub signedNumbers : Signed → List ℕ
+signedNumbers z = noValues
+
+-- a column of a layout: the three characters of its code, its first and its last byte
+abbrev pub entryNumbers : Entry → List ℕ
+entryNumbers e = (e .code / 65536) ∷ (e .code / 256 % 256) ∷ (e .code % 256) ∷ e .first ∷ e .last ∷ 0 ∷ 0 ∷ 0 ∷ 0 ∷ 0 ∷ []
+
+-- the presence word and its count
+abbrev pub presenceNumbers : Presence → List ℕ
+presenceNumbers p = p .word ∷ p .count ∷ 0 ∷ 0 ∷ 0 ∷ 0 ∷ 0 ∷ 0 ∷ 0 ∷ 0 ∷ []
+
+-- ---- what stands beside the answer
+
+-- the two altitudes of a fix, pressure and GNSS; 0 where refused
+abbrev pub heightsOf : Said Fix → List ℤ
+heightsOf (says f) = f .pressure .metres ∷ f .gnss .metres ∷ []
+heightsOf (refuses n l b) = pos 0 ∷ pos 0 ∷ []
+
+-- a column's number; 0 where refused
+abbrev pub integersOf : Said Signed → List ℤ
+integersOf (says z) = z .value ∷ []
+integersOf (refuses n l b) = pos 0 ∷ []

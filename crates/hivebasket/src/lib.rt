@@ -1,4 +1,6 @@
 // Hivebasket for C: the check, the readers and the writers as exported functions over numbers and slices of numbers (c/hivebasket.h).
 mod answers;
 mod files;
+mod given;
+mod readers;
 mod values;

@@ -2,17 +2,28 @@
 ghost use Prim.Native.Nat.{_-_};
 ghost use mathlib.Core.Path.{_≡_};
 ghost use Rattle.rules.specs.Split.{lineTold};
+ghost use Rattle.rules.specs.Layouts.{columnTold, presenceTold};
+ghost use Rattle.rules.specs.Reads.{fixTold, timeReadTold, numberReadTold};
 ghost use Rattle.file.specs.Steps.{stepTold};
 ghost use Rattle.hivebasket.specs.Answers.{accepting, inNumbers};
-ghost use Rattle.hivebasket.specs.Values.{flightNumbers, checkedNumbers, boundsNumbers, stepNumbers};
+ghost use Rattle.hivebasket.specs.Given.{columnAtTold};
+ghost use Rattle.hivebasket.specs.Values.{flightNumbers, checkedNumbers, boundsNumbers, stepNumbers, fixNumbers, timeNumbers, spanNumbers, signedNumbers, entryNumbers, presenceNumbers};
 use crate::answers::Numbers;
 use crate::answers::refused;
+use crate::given::ColumnAt;
 use file::Step;
 use rules::Checked;
+use rules::ColumnRead;
+use rules::Entry;
 use rules::Family;
+use rules::Fix;
+use rules::FixRead;
 use rules::Flight;
 use rules::LineRead;
+use rules::NumberRead;
 use rules::Outcome;
+use rules::PresenceRead;
+use rules::TimeRead;
 
 // a - b, or 0 where b is more.
 fn less(a: usize, b: usize) -> u64
@@ -111,5 +122,138 @@ pub(crate) fn step(s: Step) -> Numbers
             values: [0; 12],
         },
         Step::Refused(why) => refused(why),
+    }
+}
+
+// What a B line says before its columns, without the altitudes.
+fn fix_values(f: Fix) -> Numbers
+    ensures { λ r. ⌜ r ≡ accepting (fixNumbers f) ⌝ }
+{
+    let lat = f.lat;
+    let lon = f.lon;
+    let time = f.time as u64;
+    let n_or_s = lat.letter as u64;
+    let e_or_w = lon.letter as u64;
+    let validity = f.validity as u64;
+    Numbers {
+        number: 0,
+        values: [
+            0,
+            0,
+            time,
+            lat.count,
+            n_or_s,
+            lon.count,
+            e_or_w,
+            validity,
+            0,
+            0,
+            0,
+            0,
+        ],
+    }
+}
+
+pub(crate) fn fix(read: FixRead) -> Numbers
+    ensures { λ r. ⌜ r ≡ inNumbers fixNumbers (fixTold read) ⌝ }
+{
+    match read {
+        FixRead::Is(f) => fix_values(f),
+        FixRead::Refused(why) => refused(why),
+    }
+}
+
+// Seconds of the day.
+pub(crate) fn time(read: TimeRead) -> Numbers
+    ensures { λ r. ⌜ r ≡ inNumbers timeNumbers (timeReadTold read) ⌝ }
+{
+    match read {
+        TimeRead::Secs(t) => Numbers {
+            number: 0,
+            values: [0, 0, t as u64, 0, 0, 0, 0, 0, 0, 0, 0, 0],
+        },
+        TimeRead::Refused(why) => refused(why),
+    }
+}
+
+// Where a column's text stands, of the places of its first and last byte.
+fn span(first: usize, last: usize) -> Numbers
+    ensures { λ r. ⌜ r ≡ accepting (spanNumbers (record { first = first; last = last })) ⌝ }
+{
+    let start = less(first, 1);
+    let length = less(last, start as usize);
+    Numbers {
+        number: 0,
+        values: [0, 0, start, length, 0, 0, 0, 0, 0, 0, 0, 0],
+    }
+}
+
+pub(crate) fn column(read: ColumnRead) -> Numbers
+    ensures { λ r. ⌜ r ≡ inNumbers spanNumbers (columnTold read) ⌝ }
+{
+    match read {
+        ColumnRead::Between(first, last) => span(first as usize, last as usize),
+        ColumnRead::Refused(why) => refused(why),
+    }
+}
+
+// A column's number stands beside the answer, which names no value.
+pub(crate) fn signed(read: NumberRead) -> Numbers
+    ensures { λ r. ⌜ r ≡ inNumbers signedNumbers (numberReadTold read) ⌝ }
+{
+    match read {
+        NumberRead::Is(_) => Numbers {
+            number: 0,
+            values: [0; 12],
+        },
+        NumberRead::Refused(why) => refused(why),
+    }
+}
+
+// A column of a layout: the three characters of its code, and its places.
+fn entry_values(e: Entry) -> Numbers
+    ensures { λ r. ⌜ r ≡ accepting (entryNumbers e) ⌝ }
+{
+    let code = e.code as u64;
+    let first = e.first as u64;
+    let last = e.last as u64;
+    Numbers {
+        number: 0,
+        values: [
+            0,
+            0,
+            code / 65536,
+            code / 256 % 256,
+            code % 256,
+            first,
+            last,
+            0,
+            0,
+            0,
+            0,
+            0,
+        ],
+    }
+}
+
+pub(crate) fn entry(read: ColumnAt) -> Numbers
+    ensures { λ r. ⌜ r ≡ inNumbers entryNumbers (columnAtTold read) ⌝ }
+{
+    match read {
+        ColumnAt::Is(e) => entry_values(e),
+        ColumnAt::Refused(why) => refused(why),
+    }
+}
+
+// Which listed codes a layout carries.
+pub(crate) fn presence(read: PresenceRead) -> Numbers
+    ensures { λ r. ⌜ r ≡ inNumbers presenceNumbers (presenceTold read) ⌝ }
+{
+    match read {
+        PresenceRead::Carries(p) => Numbers {
+            number: 0,
+            values: [0, 0, p.word as u64, p.count as u64, 0, 0, 0, 0, 0, 0, 0, 0],
+        },
+        PresenceRead::Refused(why) => refused(why),
     }
 }
