@@ -3,4 +3,5 @@ mod Laws
 mod Said
 mod Layouts
 mod Beside
+mod Written
 mod Only

@@ -3,9 +3,14 @@ use Prim.Native.Nat.{ℕ}
 use mathlib.Core.Bool.{Bool}
 use mathlib.Core.List.{List}
 use mathlib.Core.Path.{_≡_, sym, _∙_}
+use lib.Ieee.{Float}
 use lib.IntN.{ℤ}
 use Rattle.hivebasket.specs.Answers.{Answered}
-use Rattle.hivebasket.specs.Calls.{CheckAnswered, LineAnswered, StepAnswered, FixAnswered, NoteAnswered, ColumnAnswered, NumberAnswered, EntryAnswered, PresenceAnswered}
+use Rattle.hivebasket.specs.Calls.{CheckAnswered, LineAnswered, StepAnswered, FixAnswered, NoteAnswered, ColumnAnswered, NumberAnswered, EntryAnswered, PresenceAnswered, DegreesAnswered, DateAnswered, EventAnswered, SatellitesAnswered, HeadAnswered, PointAnswered}
+use Rattle.hivebasket.specs.Writing.{WriteAnswered, WriteFixAnswered, WriteNoteAnswered}
+use Rattle.rules.specs.Refusals.{Said}
+use Rattle.rules.specs.declared.Fix.{Fix}
+use Rattle.rules.specs.declared.Position.{Position}
 use Rattle.hivebasket.specs.declared.answers.Numbers.{Numbers}
 
 module _ (answer : List ℕ) (r r′ : ℕ) (after after′ : List ℕ) where
@@ -41,3 +46,32 @@ module _ (answer : List ℕ) (r r′ : ℕ) (after after′ : List ℕ) where
 
   pub only-presence-answered : (l : List ℕ) → PresenceAnswered l answer r after → PresenceAnswered l answer r′ after′ → (r ≡ r′) × (after ≡ after′)
   only-presence-answered l = only-answered
+
+  pub only-date-answered : (line : List ℕ) → DateAnswered line answer r after → DateAnswered line answer r′ after′ → (r ≡ r′) × (after ≡ after′)
+  only-date-answered line = only-answered
+
+  pub only-event-answered : (line : List ℕ) → EventAnswered line answer r after → EventAnswered line answer r′ after′ → (r ≡ r′) × (after ≡ after′)
+  only-event-answered line = only-answered
+
+  pub only-satellites-answered : (line : List ℕ) → SatellitesAnswered line answer r after → SatellitesAnswered line answer r′ after′ → (r ≡ r′) × (after ≡ after′)
+  only-satellites-answered line = only-answered
+
+  pub only-head-answered : (line : List ℕ) → HeadAnswered line answer r after → HeadAnswered line answer r′ after′ → (r ≡ r′) × (after ≡ after′)
+  only-head-answered line = only-answered
+
+  pub only-point-answered : (line : List ℕ) → PointAnswered line answer r after → PointAnswered line answer r′ after′ → (r ≡ r′) × (after ≡ after′)
+  only-point-answered line = only-answered
+
+  -- the writers: the number, the answer and the output
+  pub only-write-answered : {said : Said ℕ} {text : List ℕ} {place : ℕ} (out now now′ : List ℕ) → WriteAnswered said text place out answer r now after → WriteAnswered said text place out answer r′ now′ after′ → (r ≡ r′) × (now ≡ now′) × (after ≡ after′)
+  only-write-answered out now now′ w w′ =
+      (w .told .number ∙ sym (w′ .told .number), w .bytes ∙ sym (w′ .bytes), w .told .numbers ∙ sym (w′ .told .numbers))
+
+  pub only-write-fix-answered : (f : Fix) (columns l : List ℕ) (place : ℕ) (out now now′ : List ℕ) → WriteFixAnswered f columns l place out answer r now after → WriteFixAnswered f columns l place out answer r′ now′ after′ → (r ≡ r′) × (now ≡ now′) × (after ≡ after′)
+  only-write-fix-answered f columns l place out now now′ = only-write-answered out now now′
+
+  pub only-write-note-answered : (t : ℕ) (columns l : List ℕ) (place : ℕ) (out now now′ : List ℕ) → WriteNoteAnswered t columns l place out answer r now after → WriteNoteAnswered t columns l place out answer r′ now′ after′ → (r ≡ r′) × (now ≡ now′) × (after ≡ after′)
+  only-write-note-answered t columns l place out now now′ = only-write-answered out now now′
+
+pub only-degrees-answered : (lat lon : Position) (degrees : List Float) (r r′ : ℕ) (after after′ : List Float) → DegreesAnswered lat lon degrees r after → DegreesAnswered lat lon degrees r′ after′ → (r ≡ r′) × (after ≡ after′)
+only-degrees-answered lat lon degrees r r′ after after′ d d′ = (d .number ∙ sym (d′ .number), d .angles ∙ sym (d′ .angles))

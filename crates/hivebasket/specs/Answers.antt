@@ -28,6 +28,12 @@ module _ {A : Type 0} where
   inNumbers values (says v) = accepting (values v)
   inNumbers values (refuses n l b) = refusing n l b
 
+module _ {A : Type 0} where
+  -- the number that is returned, where there is no answer beside it
+  abbrev pub numberOf : Said A → ℕ
+  numberOf (says v) = 0
+  numberOf (refuses n l b) = n
+
 -- an outcome with the values that stand beside it
 abbrev pub outcomeNumbers : List ℕ → Outcome → Numbers
 outcomeNumbers values outcome.Accepted = accepting values

@@ -3,13 +3,17 @@ use Prim.Native.Nat.{ℕ}
 use mathlib.Core.Bool.{_&&_, cond}
 use mathlib.Core.List.{List}
 use mathlib.Core.Path.{_≡_}
+use lib.Ieee.{Float}
 use lib.IntN.{ℤ}
 use lib.ListN.{length}
 use Rattle.rules.specs.Files.{verdict, tableAfter}
+use Rattle.rules.specs.Degrees.{degreesOf}
+use Rattle.rules.specs.Reads.{dateSaid, eventSaid, satellitesSaid, headSaid, pointSaid}
 use Rattle.rules.specs.Split.{boundsOf, stepAt}
-use Rattle.hivebasket.specs.Answers.{inNumbers, hasRoom, Answered}
+use Rattle.rules.specs.declared.Position.{Position}
+use Rattle.hivebasket.specs.Answers.{inNumbers, numberOf, hasRoom, Answered}
 use Rattle.hivebasket.specs.Given.{fixBy, noteBy, columnBy, numberBy, entryBy, presenceBy}
-use Rattle.hivebasket.specs.Values.{flightNumbers, boundsNumbers, stepNumbers, fixNumbers, timeNumbers, spanNumbers, signedNumbers, entryNumbers, presenceNumbers, heightsOf, integersOf}
+use Rattle.hivebasket.specs.Values.{flightNumbers, boundsNumbers, stepNumbers, fixNumbers, timeNumbers, spanNumbers, signedNumbers, entryNumbers, presenceNumbers, dateNumbers, headNumbers, pointNumbers, heightsOf, integersOf, anglesOf}
 
 -- ---- a file
 
@@ -53,3 +57,28 @@ EntryAnswered l n answer r after = Answered (hasRoom 12 answer) answer (inNumber
 -- the presence word of an I line
 abbrev pub PresenceAnswered : List ℕ → List ℕ → ℕ → List ℕ → Type 0
 PresenceAnswered l answer r after = Answered (hasRoom 12 answer) answer (inNumbers presenceNumbers (presenceBy l)) r after
+
+-- "For the map, a position also comes as a pair of f64 degrees"
+pub record DegreesAnswered (lat lon : Position) (degrees : List Float) (r : ℕ) (after : List Float) : Type 0 where
+  pub number : r ≡ cond (hasRoom 2 degrees) (numberOf (degreesOf lat lon)) 17
+  pub angles : after ≡ cond (hasRoom 2 degrees) (anglesOf (degreesOf lat lon)) degrees
+
+-- ---- a line with no layout
+
+-- the date of line 2
+abbrev pub DateAnswered : List ℕ → List ℕ → ℕ → List ℕ → Type 0
+DateAnswered line answer r after = Answered (hasRoom 12 answer) answer (inNumbers dateNumbers (dateSaid line)) r after
+
+-- the time of an E line, and of an F line
+abbrev pub EventAnswered : List ℕ → List ℕ → ℕ → List ℕ → Type 0
+EventAnswered line answer r after = Answered (hasRoom 12 answer) answer (inNumbers timeNumbers (eventSaid line)) r after
+
+abbrev pub SatellitesAnswered : List ℕ → List ℕ → ℕ → List ℕ → Type 0
+SatellitesAnswered line answer r after = Answered (hasRoom 12 answer) answer (inNumbers timeNumbers (satellitesSaid line)) r after
+
+-- the head of a declaration, and a point of it
+abbrev pub HeadAnswered : List ℕ → List ℕ → ℕ → List ℕ → Type 0
+HeadAnswered line answer r after = Answered (hasRoom 12 answer) answer (inNumbers headNumbers (headSaid line)) r after
+
+abbrev pub PointAnswered : List ℕ → List ℕ → ℕ → List ℕ → Type 0
+PointAnswered line answer r after = Answered (hasRoom 12 answer) answer (inNumbers pointNumbers (pointSaid line)) r after

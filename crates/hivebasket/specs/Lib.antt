@@ -3,3 +3,4 @@ pub mod Answers
 pub mod Given
 pub mod Values
 pub mod Calls
+pub mod Writing

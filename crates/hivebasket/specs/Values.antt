@@ -2,15 +2,22 @@
 use Prim.Native.Nat.{ℕ, _-_, _/_, _%_}
 use mathlib.Core.List.{List, [], _∷_}
 use mathlib.Core.Option.{Option, none, some}
+use lib.Ieee.{Float, binary64, ofBits}
 use lib.IntN.{ℤ, pos}
 use Rattle.rules.specs.Choice.{byte}
 use Rattle.rules.specs.Layouts.{Span, lineLength}
 use Rattle.rules.specs.Refusals.{Said, says, refuses}
 use Rattle.rules.specs.Split.{Bounds, Stepped}
 use Rattle.rules.specs.declared.Checked.{Checked}
+use Rattle.rules.specs.declared.Date.{Date}
+use Rattle.rules.specs.declared.Degrees.{Degrees}
 use Rattle.rules.specs.declared.Entry.{Entry}
 use Rattle.rules.specs.declared.Fix.{Fix}
 use Rattle.rules.specs.declared.Flight.{Flight}
+use Rattle.rules.specs.declared.Head.{Head}
+use Rattle.rules.specs.declared.Planned.{Planned}
+use Rattle.rules.specs.declared.Planned.the-variants as planned
+use Rattle.rules.specs.declared.Point.{Point}
 use Rattle.rules.specs.declared.Presence.{Presence}
 use Rattle.rules.specs.declared.Signed.{Signed}
 use Rattle.hivebasket.specs.Answers.{noValues, outcomeNumbers}
@@ -58,6 +65,28 @@ entryNumbers e = (e .code / 65536) ∷ (e .code / 256 % 256) ∷ (e .code % 256)
 abbrev pub presenceNumbers : Presence → List ℕ
 presenceNumbers p = p .word ∷ p .count ∷ 0 ∷ 0 ∷ 0 ∷ 0 ∷ 0 ∷ 0 ∷ 0 ∷ 0 ∷ []
 
+-- a date
+abbrev pub dateNumbers : Date → List ℕ
+dateNumbers d = d .day ∷ d .month ∷ d .year ∷ 0 ∷ 0 ∷ 0 ∷ 0 ∷ 0 ∷ 0 ∷ 0 ∷ []
+
+-- "000000 means not given": so in numbers
+abbrev pub plannedDate : Planned → Date
+plannedDate (planned.On d) = d
+plannedDate planned.NotGiven = record { day = 0; month = 0; year = 0 }
+
+-- the head of a declaration: declared date, time, flight date, task number, number of turn points
+abbrev pub headNumbers : Head → List ℕ
+headNumbers h =
+    h .declared .day ∷ h .declared .month ∷ h .declared .year ∷ h .time ∷ plannedDate (h .flight) .day ∷ plannedDate (h .flight) .month ∷ plannedDate (h .flight) .year ∷ h .task ∷ h .turns ∷ 0 ∷ []
+
+-- a point of a declaration, its position where a fix has it
+abbrev pub pointNumbers : Point → List ℕ
+pointNumbers p = 0 ∷ p .lat .count ∷ p .lat .letter ∷ p .lon .count ∷ p .lon .letter ∷ 0 ∷ 0 ∷ 0 ∷ 0 ∷ 0 ∷ []
+
+-- the place after a line that was written
+abbrev pub placeNumbers : ℕ → List ℕ
+placeNumbers n = n ∷ 0 ∷ 0 ∷ 0 ∷ 0 ∷ 0 ∷ 0 ∷ 0 ∷ 0 ∷ 0 ∷ []
+
 -- ---- what stands beside the answer
 
 -- the two altitudes of a fix, pressure and GNSS; 0 where refused
@@ -69,3 +98,8 @@ heightsOf (refuses n l b) = pos 0 ∷ pos 0 ∷ []
 abbrev pub integersOf : Said Signed → List ℤ
 integersOf (says z) = z .value ∷ []
 integersOf (refuses n l b) = pos 0 ∷ []
+
+-- a latitude and a longitude in degrees; plain zero, the f64 whose bits are all 0, where refused
+abbrev pub anglesOf : Said Degrees → List Float
+anglesOf (says d) = d .lat ∷ d .lon ∷ []
+anglesOf (refuses n l b) = ofBits binary64 0 ∷ ofBits binary64 0 ∷ []

@@ -3,27 +3,36 @@ ghost use Prim.Native.Nat.{_-_};
 ghost use mathlib.Core.Path.{_≡_};
 ghost use Rattle.rules.specs.Split.{lineTold};
 ghost use Rattle.rules.specs.Layouts.{columnTold, presenceTold};
-ghost use Rattle.rules.specs.Reads.{fixTold, timeReadTold, numberReadTold};
+ghost use Rattle.rules.specs.Reads.{fixTold, timeReadTold, numberReadTold, dateReadTold, headTold, pointTold};
+ghost use Rattle.rules.specs.Writes.{wroteTold};
 ghost use Rattle.file.specs.Steps.{stepTold};
 ghost use Rattle.hivebasket.specs.Answers.{accepting, inNumbers};
 ghost use Rattle.hivebasket.specs.Given.{columnAtTold};
-ghost use Rattle.hivebasket.specs.Values.{flightNumbers, checkedNumbers, boundsNumbers, stepNumbers, fixNumbers, timeNumbers, spanNumbers, signedNumbers, entryNumbers, presenceNumbers};
+ghost use Rattle.hivebasket.specs.Values.{flightNumbers, checkedNumbers, boundsNumbers, stepNumbers, fixNumbers, timeNumbers, spanNumbers, signedNumbers, entryNumbers, presenceNumbers, dateNumbers, plannedDate, headNumbers, pointNumbers, placeNumbers};
 use crate::answers::Numbers;
 use crate::answers::refused;
 use crate::given::ColumnAt;
 use file::Step;
 use rules::Checked;
 use rules::ColumnRead;
+use rules::Date;
+use rules::DateRead;
 use rules::Entry;
 use rules::Family;
 use rules::Fix;
 use rules::FixRead;
 use rules::Flight;
+use rules::Head;
+use rules::HeadRead;
 use rules::LineRead;
 use rules::NumberRead;
 use rules::Outcome;
+use rules::Planned;
+use rules::Point;
+use rules::PointRead;
 use rules::PresenceRead;
 use rules::TimeRead;
+use rules::Wrote;
 
 // a - b, or 0 where b is more.
 fn less(a: usize, b: usize) -> u64
@@ -255,5 +264,135 @@ pub(crate) fn presence(read: PresenceRead) -> Numbers
             values: [0, 0, p.word as u64, p.count as u64, 0, 0, 0, 0, 0, 0, 0, 0],
         },
         PresenceRead::Refused(why) => refused(why),
+    }
+}
+
+// A date.
+pub(crate) fn date(read: DateRead) -> Numbers
+    ensures { λ r. ⌜ r ≡ inNumbers dateNumbers (dateReadTold read) ⌝ }
+{
+    match read {
+        DateRead::On(d) => Numbers {
+            number: 0,
+            values: [
+                0,
+                0,
+                d.day as u64,
+                d.month as u64,
+                d.year as u64,
+                0,
+                0,
+                0,
+                0,
+                0,
+                0,
+                0,
+            ],
+        },
+        DateRead::Refused(why) => refused(why),
+    }
+}
+
+fn planned_date(p: Planned) -> Date
+    ensures { λ r. ⌜ r ≡ plannedDate p ⌝ }
+{
+    match p {
+        Planned::On(d) => d,
+        Planned::NotGiven => Date {
+            day: 0,
+            month: 0,
+            year: 0,
+        },
+    }
+}
+
+// The head of a declaration.
+fn head_values(h: Head) -> Numbers
+    ensures { λ r. ⌜ r ≡ accepting (headNumbers h) ⌝ }
+{
+    let d = h.declared;
+    let planned = h.flight;
+    let f = planned_date(planned);
+    let day = d.day as u64;
+    let month = d.month as u64;
+    let year = d.year as u64;
+    let time = h.time as u64;
+    let task = h.task as u64;
+    let turns = h.turns as u64;
+    Numbers {
+        number: 0,
+        values: [
+            0,
+            0,
+            day,
+            month,
+            year,
+            time,
+            f.day as u64,
+            f.month as u64,
+            f.year as u64,
+            task,
+            turns,
+            0,
+        ],
+    }
+}
+
+pub(crate) fn head(read: HeadRead) -> Numbers
+    ensures { λ r. ⌜ r ≡ inNumbers headNumbers (headTold read) ⌝ }
+{
+    match read {
+        HeadRead::Is(h) => head_values(h),
+        HeadRead::Refused(why) => refused(why),
+    }
+}
+
+// A point of a declaration.
+fn point_values(p: Point) -> Numbers
+    ensures { λ r. ⌜ r ≡ accepting (pointNumbers p) ⌝ }
+{
+    let lat = p.lat;
+    let lon = p.lon;
+    let longitude = lon.count;
+    let north_or_south = lat.letter as u64;
+    let east_or_west = lon.letter as u64;
+    Numbers {
+        number: 0,
+        values: [
+            0,
+            0,
+            0,
+            lat.count,
+            north_or_south,
+            longitude,
+            east_or_west,
+            0,
+            0,
+            0,
+            0,
+            0,
+        ],
+    }
+}
+
+pub(crate) fn point(read: PointRead) -> Numbers
+    ensures { λ r. ⌜ r ≡ inNumbers pointNumbers (pointTold read) ⌝ }
+{
+    match read {
+        PointRead::Is(p) => point_values(p),
+        PointRead::Refused(why) => refused(why),
+    }
+}
+
+// A line that was written: the place after it.
+pub(crate) fn wrote(w: Wrote) -> Numbers
+    ensures { λ r. ⌜ r ≡ inNumbers placeNumbers (wroteTold w) ⌝ }
+{
+    match w {
+        Wrote::Next(n) => Numbers {
+            number: 0,
+            values: [0, 0, n as u64, 0, 0, 0, 0, 0, 0, 0, 0, 0],
+        },
+        Wrote::Refused(why) => refused(why),
     }
 }
