@@ -3,8 +3,6 @@
    c/build makes target/staticlib/libhivebasket.a (x86-64 Linux); link it after your own objects:
        gcc -Ic program.c target/staticlib/libhivebasket.a
 
-   There yet: all but hive_write_head and hive_write_point.
-
    WHAT IS LENT. Each pointer is followed by the number of its elements (not of bytes); the two stand for a part of memory that is lent for the call and
    not kept. With length 0 nothing is read or written there, and the pointer may be anything, NULL too. With any other length the pointer leads to that many
    elements, aligned as C aligns them; a function cannot test this, and NULL with a length above 0 is the caller's error, as in memcpy. What is lent for writing (the

@@ -7,9 +7,11 @@ use lib.Ieee.{Float}
 use lib.IntN.{ℤ}
 use Rattle.hivebasket.specs.Answers.{Answered}
 use Rattle.hivebasket.specs.Calls.{CheckAnswered, LineAnswered, StepAnswered, FixAnswered, NoteAnswered, ColumnAnswered, NumberAnswered, EntryAnswered, PresenceAnswered, DegreesAnswered, DateAnswered, EventAnswered, SatellitesAnswered, HeadAnswered, PointAnswered}
-use Rattle.hivebasket.specs.Writing.{WriteAnswered, WriteFixAnswered, WriteNoteAnswered}
+use Rattle.hivebasket.specs.Writing.{WriteAnswered, WriteFixAnswered, WriteNoteAnswered, WriteHeadAnswered, WritePointAnswered}
 use Rattle.rules.specs.Refusals.{Said}
 use Rattle.rules.specs.declared.Fix.{Fix}
+use Rattle.rules.specs.declared.Head.{Head}
+use Rattle.rules.specs.declared.Point.{Point}
 use Rattle.rules.specs.declared.Position.{Position}
 use Rattle.hivebasket.specs.declared.answers.Numbers.{Numbers}
 
@@ -72,6 +74,12 @@ module _ (answer : List ℕ) (r r′ : ℕ) (after after′ : List ℕ) where
 
   pub only-write-note-answered : (t : ℕ) (columns l : List ℕ) (place : ℕ) (out now now′ : List ℕ) → WriteNoteAnswered t columns l place out answer r now after → WriteNoteAnswered t columns l place out answer r′ now′ after′ → (r ≡ r′) × (now ≡ now′) × (after ≡ after′)
   only-write-note-answered t columns l place out now now′ = only-write-answered out now now′
+
+  pub only-write-head-answered : (h : Head) (text : List ℕ) (place : ℕ) (out now now′ : List ℕ) → WriteHeadAnswered h text place out answer r now after → WriteHeadAnswered h text place out answer r′ now′ after′ → (r ≡ r′) × (now ≡ now′) × (after ≡ after′)
+  only-write-head-answered h text place out now now′ = only-write-answered out now now′
+
+  pub only-write-point-answered : (p : Point) (text : List ℕ) (place : ℕ) (out now now′ : List ℕ) → WritePointAnswered p text place out answer r now after → WritePointAnswered p text place out answer r′ now′ after′ → (r ≡ r′) × (now ≡ now′) × (after ≡ after′)
+  only-write-point-answered p text place out now now′ = only-write-answered out now now′
 
 pub only-degrees-answered : (lat lon : Position) (degrees : List Float) (r r′ : ℕ) (after after′ : List Float) → DegreesAnswered lat lon degrees r after → DegreesAnswered lat lon degrees r′ after′ → (r ≡ r′) × (after ≡ after′)
 only-degrees-answered lat lon degrees r r′ after after′ d d′ = (d .number ∙ sym (d′ .number), d .angles ∙ sym (d′ .angles))

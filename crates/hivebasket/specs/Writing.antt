@@ -1,13 +1,19 @@
 -- The promises of the writers: the number returned, the answer and the lent output afterwards.
 use Prim.Native.Nat.{ℕ}
-use mathlib.Core.Bool.{cond}
+use mathlib.Core.Bool.{_&&_, cond}
 use mathlib.Core.List.{List}
 use mathlib.Core.Path.{_≡_}
+use lib.Dec.{eqb}
 use lib.IntN.{ℤ}
 use Rattle.rules.specs.Refusals.{Said, andThen}
-use Rattle.rules.specs.Writes.{wroteTold, written, outAfter, fixText, isFix, noteText, isNote}
+use Rattle.rules.specs.Writes.{wroteTold, written, outAfter, fixText, isFix, noteText, isNote, headText, isHead, pointText, isPoint}
+use Rattle.rules.specs.declared.Date.{Date}
 use Rattle.rules.specs.declared.Family.the-variants as family
 use Rattle.rules.specs.declared.Fix.{Fix}
+use Rattle.rules.specs.declared.Head.{Head}
+use Rattle.rules.specs.declared.Planned.{Planned}
+use Rattle.rules.specs.declared.Planned.the-variants as planned
+use Rattle.rules.specs.declared.Point.{Point}
 use Rattle.rules.specs.declared.Wrote.{Wrote}
 use Rattle.hivebasket.specs.Answers.{inNumbers, hasRoom, Answered}
 use Rattle.hivebasket.specs.Given.{layoutBy}
@@ -50,3 +56,24 @@ WriteFixAnswered f columns l place out answer r outNow answerNow =
 abbrev pub WriteNoteAnswered : ℕ → List ℕ → List ℕ → ℕ → List ℕ → List ℕ → ℕ → List ℕ → List ℕ → Type 0
 WriteNoteAnswered t columns l place out answer r outNow answerNow =
     WriteAnswered (noteWritten t columns l place out) (noteText t columns) place out answer r outNow answerNow
+
+-- "000000 means not given": so in numbers
+unfoldable pub plannedOf : Date → Planned
+plannedOf d = cond (eqb (d .day) 0 && eqb (d .month) 0 && eqb (d .year) 0) planned.NotGiven (planned.On d)
+
+-- a head of plain numbers, and a point
+abbrev pub headOf : Date → ℕ → Date → ℕ → ℕ → Head
+headOf declared seconds flight task turns =
+    record { declared = declared; time = seconds; flight = plannedOf flight; task = task; turns = turns }
+
+abbrev pub pointOf : ℕ → ℕ → ℕ → ℕ → Point
+pointOf latitude nOrS longitude eOrW =
+    record { lat = record { count = latitude; letter = nOrS }; lon = record { count = longitude; letter = eOrW } }
+
+abbrev pub WriteHeadAnswered : Head → List ℕ → ℕ → List ℕ → List ℕ → ℕ → List ℕ → List ℕ → Type 0
+WriteHeadAnswered h text place out answer r outNow answerNow =
+    WriteAnswered (written (isHead h text) (headText h text) place out) (headText h text) place out answer r outNow answerNow
+
+abbrev pub WritePointAnswered : Point → List ℕ → ℕ → List ℕ → List ℕ → ℕ → List ℕ → List ℕ → Type 0
+WritePointAnswered p text place out answer r outNow answerNow =
+    WriteAnswered (written (isPoint p text) (pointText p text) place out) (pointText p text) place out answer r outNow answerNow
