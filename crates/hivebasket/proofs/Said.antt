@@ -2,14 +2,13 @@
 use Prim.Native.Nat.{ℕ}
 use native.Mathlib.Omega.{arith}
 use mathlib.Core.List.{List}
-use mathlib.Core.Bool.{cond}
-use mathlib.Core.Path.{_≡_, refl, sym, ap, _∙_}
+use mathlib.Core.Path.{_≡_, _∙_}
 use lib.ListN.{length}
 use borrow.Author.Tests.{eq-eqb, ne-eqb}
-use Rattle.rules.specs.Files.{CheckedTold, verdict, tableAfter}
+use Rattle.rules.specs.Files.{verdict}
 use Rattle.rules.specs.Order.{noFlight}
 use Rattle.rules.specs.Promises.{FileChecked}
-use Rattle.rules.specs.Refusals.{Said, says, refuses, number, refusal, outcome, outcomeTold, valueOr}
+use Rattle.rules.specs.Refusals.{Said, says, refuses, number, outcome, outcomeTold, valueOr}
 use Rattle.rules.specs.declared.Checked.{Checked}
 use Rattle.rules.specs.declared.Outcome.{Outcome}
 use Rattle.rules.specs.declared.Outcome.the-variants as outcomes

@@ -1,5 +1,4 @@
 -- `writers::planned_of` meets its contract. Assumes nothing.
-use borrow.Author.Needs.{needs}
 use borrow.Author.Tests.{eq-eqb, ne-eqb}
 use Rattle.hivebasket.specs.Writing.{plannedOf}
 use Rattle.hivebasket.proofs.writers.planned_of.Statement.{statement}
