@@ -1,0 +1,144 @@
+/* Calls every function of the library on small inputs and prints what it returns and leaves in what is lent: the number, then the answer.
+   c/test holds the output against c/expected/calls, which is worked out from document 01 by hand. */
+#include <stdio.h>
+#include <string.h>
+
+#include "hivebasket.h"
+
+#define TEXT(s) (const uint8_t *)(s), strlen(s)
+
+static const char FIVE[] = "AXYZ001\r\nHFDTE150724\r\nI023638FXA3940SIU\r\nB1200005130000N00015000WA001000012001208\r\nGABC\r\n";
+static const char I[] = "I023638FXA3940SIU";
+static const char J[] = "J010810HDT";
+static const char B[] = "B1200005130000N00015000WA001000012001208";
+static const char K[] = "K120005123";
+
+/* Filled with 9 before each call, so that what a call leaves is seen. */
+static uint64_t answer[HIVE_ANSWER];
+static int32_t heights[HIVE_HEIGHTS];
+static int64_t number[HIVE_NUMBER];
+static double degrees[HIVE_DEGREES];
+static uint8_t out[48];
+
+static void fresh(void) {
+    for (int i = 0; i < HIVE_ANSWER; i++)
+        answer[i] = 9;
+    heights[0] = heights[1] = 9;
+    number[0] = 9;
+    degrees[0] = degrees[1] = 9;
+    memset(out, '.', sizeof out);
+}
+
+static void say(const char *name, uint32_t returned) {
+    printf("%s: %u |", name, (unsigned)returned);
+    for (int i = 0; i < HIVE_ANSWER; i++)
+        printf(" %llu", (unsigned long long)answer[i]);
+    printf("\n");
+    fresh();
+}
+
+static void say_fix(const char *name, uint32_t returned) {
+    printf("%s: heights %d %d\n", name, (int)heights[0], (int)heights[1]);
+    say(name, returned);
+}
+
+static void say_number(const char *name, uint32_t returned) {
+    printf("%s: number %lld\n", name, (long long)number[0]);
+    say(name, returned);
+}
+
+static void say_degrees(const char *name, uint32_t returned) {
+    printf("%s: %u | %.4f %.4f\n", name, (unsigned)returned, degrees[0], degrees[1]);
+    fresh();
+}
+
+static void say_out(const char *name, uint32_t returned) {
+    printf("%s: out ", name);
+    for (size_t i = 0; i < sizeof out; i++)
+        out[i] == '\r' ? printf("<CR>") : out[i] == '\n' ? printf("<LF>") : printf("%c", out[i]);
+    printf("\n");
+    say(name, returned);
+}
+
+static void files(void) {
+    uint32_t table[6] = {7, 7, 7, 7, 7, 7};
+    say("check, answer of 11", hive_check(TEXT(FIVE), table, 6, answer, 11));
+    printf("table %u %u %u\n", (unsigned)table[0], (unsigned)table[1], (unsigned)table[5]);
+    say("check", hive_check(TEXT(FIVE), table, 6, answer, HIVE_ANSWER));
+    for (int i = 0; i < 6; i++)
+        printf(i < 5 ? "%u " : "%u\n", (unsigned)table[i]);
+    say("check, table of 2", hive_check(TEXT(FIVE), table, 2, answer, HIVE_ANSWER));
+    say("check, nothing", hive_check(NULL, 0, NULL, 0, answer, HIVE_ANSWER));
+    say("line 4", hive_line(TEXT(FIVE), table, 5, 4, answer, HIVE_ANSWER));
+    say("line 0", hive_line(TEXT(FIVE), table, 5, 0, answer, HIVE_ANSWER));
+    say("line 6 of 5", hive_line(TEXT(FIVE), table, 5, 6, answer, HIVE_ANSWER));
+    say("step at 0", hive_step(TEXT(FIVE), 0, answer, HIVE_ANSWER));
+    say("step at 83", hive_step(TEXT(FIVE), 83, answer, HIVE_ANSWER));
+    say("step at the end", hive_step(TEXT(FIVE), 89, answer, HIVE_ANSWER));
+    say("step past the end", hive_step(TEXT(FIVE), 90, answer, HIVE_ANSWER));
+    say("step with no CR LF", hive_step(TEXT(FIVE), 88, answer, HIVE_ANSWER));
+}
+
+static void lines(void) {
+    say_fix("fix", hive_fix(TEXT(B), TEXT(I), answer, HIVE_ANSWER, heights, HIVE_HEIGHTS));
+    say_fix("fix, heights of 1", hive_fix(TEXT(B), TEXT(I), answer, HIVE_ANSWER, heights, 1));
+    say_fix("fix by a J line", hive_fix(TEXT(B), TEXT(J), answer, HIVE_ANSWER, heights, HIVE_HEIGHTS));
+    say_fix("fix with no I line", hive_fix(TEXT(B), NULL, 0, answer, HIVE_ANSWER, heights, HIVE_HEIGHTS));
+    say_fix("fix over 90 degrees", hive_fix(TEXT("B1200009000001N00015000WA-001200120"), NULL, 0, answer, HIVE_ANSWER, heights, HIVE_HEIGHTS));
+    say_fix("fix below zero", hive_fix(TEXT("B1200009000000S18000000EV-001299999"), NULL, 0, answer, HIVE_ANSWER, heights, HIVE_HEIGHTS));
+    say("note", hive_note(TEXT(K), TEXT(J), answer, HIVE_ANSWER));
+    say("note by an I line", hive_note(TEXT(K), TEXT(I), answer, HIVE_ANSWER));
+    say("note, a B line", hive_note(TEXT(B), TEXT(J), answer, HIVE_ANSWER));
+    say("column SIU", hive_column(TEXT(B), TEXT(I), 'S', 'I', 'U', answer, HIVE_ANSWER));
+    say("column HDT", hive_column(TEXT(K), TEXT(J), 'H', 'D', 'T', answer, HIVE_ANSWER));
+    say("column ENL", hive_column(TEXT(B), TEXT(I), 'E', 'N', 'L', answer, HIVE_ANSWER));
+    say_number("number FXA", hive_column_number(TEXT(B), TEXT(I), 'F', 'X', 'A', answer, HIVE_ANSWER, number, HIVE_NUMBER));
+    say_number("number -05", hive_column_number(TEXT("B1200005130000N00015000WA0010000120-05"), TEXT("I013638ZZZ"), 'Z', 'Z', 'Z', answer, HIVE_ANSWER, number, HIVE_NUMBER));
+    say_number("number AB1", hive_column_number(TEXT("B1200005130000N00015000WA0010000120AB1"), TEXT("I013638ZZZ"), 'Z', 'Z', 'Z', answer, HIVE_ANSWER, number, HIVE_NUMBER));
+    say_number("number, 2 of them", hive_column_number(TEXT(B), TEXT(I), 'F', 'X', 'A', answer, HIVE_ANSWER, number, 2));
+    say("column at 2", hive_column_at(TEXT(I), 2, answer, HIVE_ANSWER));
+    say("column at 3", hive_column_at(TEXT(I), 3, answer, HIVE_ANSWER));
+    say("column at 0", hive_column_at(TEXT(J), 0, answer, HIVE_ANSWER));
+    say("column of a bad line", hive_column_at(TEXT("I023638FXA4041SIU"), 1, answer, HIVE_ANSWER));
+    say("presence", hive_presence(TEXT(I), answer, HIVE_ANSWER));
+    say("presence of none", hive_presence(NULL, 0, answer, HIVE_ANSWER));
+    say("presence of a J line", hive_presence(TEXT(J), answer, HIVE_ANSWER));
+    say_degrees("degrees", hive_degrees(3090000, 'N', 15000, 'W', degrees, HIVE_DEGREES));
+    say_degrees("degrees, 0 S", hive_degrees(0, 'S', 10800000, 'E', degrees, HIVE_DEGREES));
+    say_degrees("degrees, too many", hive_degrees(5400001, 'N', 15000, 'W', degrees, HIVE_DEGREES));
+    say_degrees("degrees of 1", hive_degrees(3090000, 'N', 15000, 'W', degrees, 1));
+}
+
+static void others(void) {
+    say("date", hive_date(TEXT("HFDTE150724"), answer, HIVE_ANSWER));
+    say("no date", hive_date(TEXT("HFDTE290223"), answer, HIVE_ANSWER));
+    say("event", hive_event(TEXT("E120000ABC"), answer, HIVE_ANSWER));
+    say("satellites", hive_satellites(TEXT("F1200000102"), answer, HIVE_ANSWER));
+    say("half a pair", hive_satellites(TEXT("F120000010"), answer, HIVE_ANSWER));
+    say("head", hive_head(TEXT("C150724093000160724000102"), answer, HIVE_ANSWER));
+    say("head with no flight date", hive_head(TEXT("C150724093000000000000102"), answer, HIVE_ANSWER));
+    say("point", hive_point(TEXT("C5130000N00015000WHOME"), answer, HIVE_ANSWER));
+    say("point, a B line", hive_point(TEXT(B), answer, HIVE_ANSWER));
+}
+
+static void writers(void) {
+    say_out("write fix", hive_write_fix(43200, 3090000, 'N', 15000, 'W', 'A', -12, 120, TEXT("01208"), TEXT(I), 3, out, sizeof out, answer, HIVE_ANSWER));
+    say_out("write fix, no room", hive_write_fix(43200, 3090000, 'N', 15000, 'W', 'A', -12, 120, TEXT("01208"), TEXT(I), 3, out, 44, answer, HIVE_ANSWER));
+    say_out("write fix, no validity", hive_write_fix(43200, 3090000, 'N', 15000, 'W', 'X', -12, 120, TEXT("01208"), TEXT(I), 3, out, 44, answer, HIVE_ANSWER));
+    say_out("write fix by a J line", hive_write_fix(43200, 3090000, 'N', 15000, 'W', 'A', -12, 120, TEXT("01208"), TEXT(J), 3, out, sizeof out, answer, HIVE_ANSWER));
+    say_out("write fix, answer of 11", hive_write_fix(43200, 3090000, 'N', 15000, 'W', 'A', -12, 120, TEXT("01208"), TEXT(I), 3, out, sizeof out, answer, 11));
+    say_out("write note", hive_write_note(43205, TEXT("123"), TEXT(J), 0, out, sizeof out, answer, HIVE_ANSWER));
+    say_out("write note, its column too short", hive_write_note(43205, TEXT("12"), TEXT(J), 0, out, sizeof out, answer, HIVE_ANSWER));
+    say_out("write head", hive_write_head(15, 7, 2024, 34200, 0, 0, 0, 1, 2, NULL, 0, 0, out, sizeof out, answer, HIVE_ANSWER));
+    say_out("write head, no such flight date", hive_write_head(15, 7, 2024, 34200, 0, 7, 2024, 1, 2, NULL, 0, 0, out, sizeof out, answer, HIVE_ANSWER));
+    say_out("write point", hive_write_point(3090000, 'N', 15000, 'W', TEXT("HOME"), 1, out, sizeof out, answer, HIVE_ANSWER));
+}
+
+int main(void) {
+    fresh();
+    files();
+    lines();
+    others();
+    writers();
+    return 0;
+}

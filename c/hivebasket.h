@@ -1,0 +1,237 @@
+/* Hivebasket for C: IGC flight recorder files read and written by proved functions.
+
+   c/build makes target/staticlib/libhivebasket.a (x86-64 Linux); link it after your own objects:
+       gcc -Ic program.c target/staticlib/libhivebasket.a
+
+   WHAT IS LENT. Each pointer is followed by the number of its elements (not of bytes); the two stand for a part of memory that is lent for the call and
+   not kept. With length 0 nothing is read or written there, and the pointer may be anything, NULL too. With any other length the pointer leads to that many
+   elements, aligned as C aligns them; a function cannot test this, and NULL with a length above 0 is the caller's error, as in memcpy. What is lent for writing (the
+   pointers without const) overlaps nothing else that is lent in the same call, and no other thread writes to what is lent. Apart from this a function
+   answers every input; there is no state, no allocation and no input or output.
+
+   THE NUMBER RETURNED is 0 where the call is good, else one of the refusal numbers below.
+
+   THE ANSWER is HIVE_ANSWER numbers, whatever the function:
+       answer[0], answer[1]   line and byte of a refusal, counted from 1; 0 where none is told, and where the call is good
+       answer[2] and on       the values, named with each function; all 0 where refused; 0 where no value is named
+   An answer of another length (or heights, a number or degrees of another length than is said) is refused with 17 at once, and then nothing that is lent is changed.
+
+   PLACES that lead into memory are told by how many bytes stand before them: text + answer[HIVE_START]. Bytes of refusals and of layouts count from 1.
+
+   A LINE is given without its CR LF. A LAYOUT is given as the text of the file's own I line, for B lines, or J line, for K lines; length 0 says that the file has no such
+   line. One that is of the other kind, or breaks a rule, is 17. */
+#ifndef HIVEBASKET_H
+#define HIVEBASKET_H
+
+#include <stddef.h>
+#include <stdint.h>
+
+#ifdef __cplusplus
+extern "C" {
+#endif
+
+enum { HIVE_ANSWER = 12, HIVE_HEIGHTS = 2, HIVE_DEGREES = 2, HIVE_NUMBER = 1 };
+
+/* Refusal numbers. */
+enum {
+    HIVE_EMPTY = 1,
+    HIVE_TOO_LONG = 2,
+    HIVE_LINE_END = 3,
+    HIVE_EMPTY_LINE = 4,
+    HIVE_KIND = 5,
+    HIVE_ORDER = 6,
+    HIVE_LENGTH = 7,
+    HIVE_CHARACTER = 8,
+    HIVE_FORM = 9,
+    HIVE_TILE = 10,
+    HIVE_TWICE = 11,
+    HIVE_WIDTH = 12,
+    HIVE_COLUMN = 13,
+    HIVE_BACK = 14,
+    HIVE_TABLE_FULL = 15,
+    HIVE_ENDS_EARLY = 16,
+    HIVE_BAD_VALUE = 17,
+    HIVE_NO_ROOM = 18,
+    HIVE_ABSENT = 19,
+    HIVE_NOT_NUMBER = 20
+};
+
+/* Places in every answer. */
+enum { HIVE_REFUSED_LINE = 0, HIVE_REFUSED_BYTE = 1 };
+
+/* ---- a file */
+
+/* The check of a whole file, with the table of its lines' offsets. Refused with 1 to 16. The table's first entries are set for the lines before the faulty one (16 or
+   good: for all lines); the others stay.
+       2 day  3 month  4 year  5 lines  6 B lines  7 K lines  8 bytes of a B line  9 bytes of a K line */
+enum {
+    HIVE_DAY = 2,
+    HIVE_MONTH = 3,
+    HIVE_YEAR = 4,
+    HIVE_LINES = 5,
+    HIVE_B_LINES = 6,
+    HIVE_K_LINES = 7,
+    HIVE_B_LENGTH = 8,
+    HIVE_K_LENGTH = 9
+};
+uint32_t hive_check(const uint8_t *file, size_t file_length,
+                    uint32_t *table, size_t table_length,
+                    uint64_t *answer, size_t answer_length);
+
+/* Line `number`, counted from 1, by the table. 17 where the number is 0 or past the table's length, where the table's entry is neither 0 nor just past a CR LF, and
+   where no CR LF comes from there on.
+       2 start  3 length */
+enum { HIVE_START = 2, HIVE_LINE_LENGTH = 3 };
+uint32_t hive_line(const uint8_t *file, size_t file_length,
+                   const uint32_t *table, size_t table_length,
+                   size_t number,
+                   uint64_t *answer, size_t answer_length);
+
+/* The line at a reading place, which is 0 for the first line and then what the step before gave as next. 17 where the place is past the end, or bytes remain and no CR LF
+   comes after it. Where no line is left the call is good, and all values are 0.
+       2 start  3 length  4 next place  5 found: 1 for a line, 0 where none is left */
+enum { HIVE_NEXT_PLACE = 4, HIVE_FOUND = 5 };
+uint32_t hive_step(const uint8_t *file, size_t file_length,
+                   size_t place,
+                   uint64_t *answer, size_t answer_length);
+
+/* ---- a line: 17 for another kind of line or a layout that is not allowed, then 7 to 13 with the byte */
+
+/* The fix of a B line. The counts are thousandths of a minute; letters and validity are the bytes of the line.
+       2 seconds of the day  3 latitude  4 N or S  5 longitude  6 E or W  7 A or V
+       heights[0] pressure altitude, heights[1] GNSS altitude, in metres; 0 where refused */
+enum {
+    HIVE_SECONDS = 2,
+    HIVE_LATITUDE = 3,
+    HIVE_LATITUDE_LETTER = 4,
+    HIVE_LONGITUDE = 5,
+    HIVE_LONGITUDE_LETTER = 6,
+    HIVE_VALIDITY = 7,
+    HIVE_PRESSURE = 0,
+    HIVE_GNSS = 1
+};
+uint32_t hive_fix(const uint8_t *line, size_t line_length,
+                  const uint8_t *layout, size_t layout_length,
+                  uint64_t *answer, size_t answer_length,
+                  int32_t *heights, size_t heights_length);
+
+/* The time of a K line.
+       2 seconds of the day */
+uint32_t hive_note(const uint8_t *line, size_t line_length,
+                   const uint8_t *layout, size_t layout_length,
+                   uint64_t *answer, size_t answer_length);
+
+/* Where the column of a code, any three bytes, stands in a B or K line. After the line's refusals, 19.
+       2 start  3 length */
+enum { HIVE_COLUMN_LENGTH = 3 };
+uint32_t hive_column(const uint8_t *line, size_t line_length,
+                     const uint8_t *layout, size_t layout_length,
+                     uint8_t code0, uint8_t code1, uint8_t code2,
+                     uint64_t *answer, size_t answer_length);
+
+/* That column as a whole number. After what hive_column refuses, 20.
+       number[0] the number; 0 where refused */
+uint32_t hive_column_number(const uint8_t *line, size_t line_length,
+                            const uint8_t *layout, size_t layout_length,
+                            uint8_t code0, uint8_t code1, uint8_t code2,
+                            uint64_t *answer, size_t answer_length,
+                            int64_t *number, size_t number_length);
+
+/* Column n, counted from 1, of an I or J line. 17 for another kind; then 7 to 12 with the byte; then 17 where n is 0 or past the line's columns.
+       2, 3, 4 the code  5 first byte  6 last byte, in a B or K line, counted from 1 */
+enum { HIVE_CODE = 2, HIVE_FIRST = 5, HIVE_LAST = 6 };
+uint32_t hive_column_at(const uint8_t *layout, size_t layout_length,
+                        size_t n,
+                        uint64_t *answer, size_t answer_length);
+
+/* Which listed codes an I line carries. 17 for a layout that is not allowed.
+       2 the word: bit n, worth 2^n, for number n  3 the count of those columns */
+enum { HIVE_WORD = 2, HIVE_COUNT = 3 };
+uint32_t hive_presence(const uint8_t *layout, size_t layout_length,
+                       uint64_t *answer, size_t answer_length);
+
+/* A position for the map. 17 for a count or a letter that is not allowed.
+       degrees[0] latitude, degrees[1] longitude; 0 where refused */
+uint32_t hive_degrees(uint64_t latitude, uint8_t latitude_letter,
+                      uint64_t longitude, uint8_t longitude_letter,
+                      double *degrees, size_t degrees_length);
+
+/* ---- writers: the line and its CR LF go into out from a place on. 17 where no line reads as the values given, then 18 where out is too short; a refused write changes no byte.
+       2 the place after the CR LF */
+enum { HIVE_AFTER = 2 };
+
+/* A B line; columns is all that stands behind its first 35 bytes. */
+uint32_t hive_write_fix(uint32_t seconds,
+                        uint64_t latitude, uint8_t latitude_letter,
+                        uint64_t longitude, uint8_t longitude_letter,
+                        uint8_t validity,
+                        int32_t pressure, int32_t gnss,
+                        const uint8_t *columns, size_t columns_length,
+                        const uint8_t *layout, size_t layout_length,
+                        size_t place,
+                        uint8_t *out, size_t out_length,
+                        uint64_t *answer, size_t answer_length);
+
+/* A K line; columns is all that stands behind its first 7 bytes. */
+uint32_t hive_write_note(uint32_t seconds,
+                         const uint8_t *columns, size_t columns_length,
+                         const uint8_t *layout, size_t layout_length,
+                         size_t place,
+                         uint8_t *out, size_t out_length,
+                         uint64_t *answer, size_t answer_length);
+
+/* ---- further readers: 17 for another kind of line, then 7 to 9 with the byte */
+
+/* The date of a file's second line.
+       2 day  3 month  4 year */
+uint32_t hive_date(const uint8_t *line, size_t line_length,
+                   uint64_t *answer, size_t answer_length);
+
+/* The time of an E line, and of an F line.
+       2 seconds of the day */
+uint32_t hive_event(const uint8_t *line, size_t line_length,
+                    uint64_t *answer, size_t answer_length);
+uint32_t hive_satellites(const uint8_t *line, size_t line_length,
+                         uint64_t *answer, size_t answer_length);
+
+/* The head of a declaration; its text stands behind 25 bytes. The flight date is 0, 0, 0 where it is not given.
+       2 day  3 month  4 year declared  5 seconds of the day  6 day  7 month  8 year of the flight  9 task  10 turn points */
+enum {
+    HIVE_HEAD_SECONDS = 5,
+    HIVE_FLIGHT_DAY = 6,
+    HIVE_FLIGHT_MONTH = 7,
+    HIVE_FLIGHT_YEAR = 8,
+    HIVE_TASK = 9,
+    HIVE_TURN_POINTS = 10
+};
+uint32_t hive_head(const uint8_t *line, size_t line_length,
+                   uint64_t *answer, size_t answer_length);
+
+/* A point of a declaration; its text stands behind 18 bytes.
+       3 latitude  4 N or S  5 longitude  6 E or W */
+uint32_t hive_point(const uint8_t *line, size_t line_length,
+                    uint64_t *answer, size_t answer_length);
+
+/* ---- further writers */
+
+/* The head and a point of a declaration. A flight date of 0, 0, 0 is written as not given. */
+uint32_t hive_write_head(uint8_t day, uint8_t month, uint16_t year,
+                         uint32_t seconds,
+                         uint8_t flight_day, uint8_t flight_month, uint16_t flight_year,
+                         uint16_t task, uint8_t turn_points,
+                         const uint8_t *text, size_t text_length,
+                         size_t place,
+                         uint8_t *out, size_t out_length,
+                         uint64_t *answer, size_t answer_length);
+uint32_t hive_write_point(uint64_t latitude, uint8_t latitude_letter,
+                          uint64_t longitude, uint8_t longitude_letter,
+                          const uint8_t *text, size_t text_length,
+                          size_t place,
+                          uint8_t *out, size_t out_length,
+                          uint64_t *answer, size_t answer_length);
+
+#ifdef __cplusplus
+}
+#endif
+
+#endif

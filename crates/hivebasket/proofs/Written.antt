@@ -1,0 +1,66 @@
+-- A line written by a layout that is given as its line, and what the caller is told; and a position in degrees. Assumes nothing.
+use Prim.Native.Nat.{ℕ}
+use mathlib.Core.Bool.{Bool}
+use mathlib.Core.List.{List}
+use mathlib.Core.Path.{_≡_, refl, _∙_}
+use lib.Ieee.{Float}
+use lib.ListN.{length}
+use borrow.Author.Tests.{eq-eqb, ne-eqb}
+use Rattle.rules.specs.Degrees.{degreesTold, degreesOf}
+use Rattle.rules.specs.Layouts.{LayoutTold}
+use Rattle.rules.specs.Promises.{Written}
+use Rattle.rules.specs.Refusals.{Said, refusal, andThen}
+use Rattle.rules.specs.Writes.{wroteTold, written, outAfter}
+use Rattle.rules.specs.declared.DegreesRead.{DegreesRead}
+use Rattle.rules.specs.declared.Layout.{Layout}
+use Rattle.rules.specs.declared.LayoutRead.{LayoutRead}
+use Rattle.rules.specs.declared.Outcome.the-variants as outcomes
+use Rattle.rules.specs.declared.Position.{Position}
+use Rattle.rules.specs.declared.Refusal.{Refusal}
+use Rattle.rules.specs.declared.Wrote.{Wrote}
+use Rattle.rules.specs.declared.Wrote.the-variants as wrote
+use Rattle.hivebasket.specs.Answers.{inNumbers, numberOf, hasRoom, Answered}
+use Rattle.hivebasket.specs.Calls.{DegreesAnswered}
+use Rattle.hivebasket.specs.Values.{placeNumbers, anglesOf}
+use Rattle.hivebasket.specs.Writing.{SaidWritten, WriteAnswered}
+use Rattle.hivebasket.specs.declared.answers.Numbers.{Numbers}
+use Rattle.hivebasket.proofs.Laws.{no-room, given-said}
+use Rattle.hivebasket.proofs.Layouts.{layout-then, layout-refused}
+
+module _ (text : List ℕ) (place : ℕ) (out : List ℕ) where
+  said-refused : (said : Said ℕ) (w : Refusal) → refusal w ≡ said → SaidWritten said text place out (wrote.Refused w) out
+  unfolding wroteTold outAfter
+  said-refused said w e = rw (← e) (record { told = refl; bytes = refl })
+
+  pub said-written : (said : Said ℕ) (good : Bool) (r : Wrote) (after : List ℕ) → written good text place out ≡ said → Written good text place out r after → SaidWritten said text place out r after
+  said-written said good r after e w = record { told = w .told ∙ e; bytes = rw e at (w .bytes) }
+
+  module _ (s : Said Layout) (g : LayoutRead) (good : Layout → Bool) (t : LayoutTold s g) where
+    -- the layout is refused, and nothing is written
+    pub write-refused : (w : Refusal) → g .outcome ≡ outcomes.Refused w → SaidWritten (andThen s (λ l. written (good l) text place out)) text place out (wrote.Refused w) out
+    write-refused w e = said-refused _ w (layout-refused s g _ _ w t e refl)
+
+    -- the writer's answer with the layout that was read
+    pub write-then : (r : Wrote) (after : List ℕ) → g .outcome ≡ outcomes.Accepted → Written (good (g .layout)) text place out r after → SaidWritten (andThen s (λ l. written (good l) text place out)) text place out r after
+    write-then r after e w = said-written _ _ r after (layout-then s g _ (λ l. written (good l) text place out) t e refl) w
+
+  module _ (said : Said ℕ) (answer : List ℕ) where
+    pub write-no-room : (length answer ≡ 12 → ⊥) → WriteAnswered said text place out answer 17 out answer
+    write-no-room h = record { told = no-room _ _ h; bytes = rw (ne-eqb (length answer) 12 h) }
+
+    pub write-room : (w : Wrote) (n : Numbers) (r : ℕ) (outNow answerNow : List ℕ) → length answer ≡ 12 → SaidWritten said text place out w outNow → n ≡ inNumbers placeNumbers (wroteTold w) → Answered (hasRoom 12 answer) answer n r answerNow → WriteAnswered said text place out answer r outNow answerNow
+    write-room w n r outNow answerNow h s e a =
+        record {
+          told = given-said _ answer placeNumbers (wroteTold w) said n r answerNow (s .told) e a;
+          bytes = rw (eq-eqb (length answer) 12 h) (s .bytes);
+        }
+
+-- ---- degrees
+
+module _ (lat lon : Position) (degrees : List Float) where
+  pub degrees-no-room : (length degrees ≡ 2 → ⊥) → DegreesAnswered lat lon degrees 17 degrees
+  degrees-no-room h = record { number = rw (ne-eqb (length degrees) 2 h); angles = rw (ne-eqb (length degrees) 2 h) }
+
+  pub degrees-room : (read : DegreesRead) (r : ℕ) (after : List Float) → length degrees ≡ 2 → degreesTold read ≡ degreesOf lat lon → r ≡ numberOf (degreesTold read) → after ≡ anglesOf (degreesTold read) → DegreesAnswered lat lon degrees r after
+  degrees-room read r after h e n a =
+      record { number = rw (eq-eqb (length degrees) 2 h) (rw e at n); angles = rw (eq-eqb (length degrees) 2 h) (rw e at a) }

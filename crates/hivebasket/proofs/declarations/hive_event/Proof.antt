@@ -1,0 +1,15 @@
+-- `hive_event` meets its contract. Assumes nothing.
+use borrow.Author.Needs.{needs}
+use Rattle.hivebasket.proofs.Laws.{given-said}
+use Rattle.hivebasket.proofs.declarations.hive_event.Statement.{statement}
+use Rattle.hivebasket.proofs.declarations.hive_event.Tie as tie
+
+pub hive-event-spec : {M : Type 1} → statement M
+hive-event-spec =
+    tie.close
+    (tie.spec
+    (λ c κs. search needs)
+    (λ c κs. search needs)
+    (λ c κs. search needs)
+    (λ c. search needs)
+    (λ c. given-said _ _ _ _ _ _ _ _ (c .before .before .before .before .event .ensures) (c .before .before .before .time .ensures) (c .before .before .give .ensures)))

@@ -1,0 +1,15 @@
+-- `hive_point` meets its contract. Assumes nothing.
+use borrow.Author.Needs.{needs}
+use Rattle.hivebasket.proofs.Laws.{given-said}
+use Rattle.hivebasket.proofs.declarations.hive_point.Statement.{statement}
+use Rattle.hivebasket.proofs.declarations.hive_point.Tie as tie
+
+pub hive-point-spec : {M : Type 1} → statement M
+hive-point-spec =
+    tie.close
+    (tie.spec
+    (λ c κs. search needs)
+    (λ c κs. search needs)
+    (λ c κs. search needs)
+    (λ c. search needs)
+    (λ c. given-said _ _ _ _ _ _ _ _ (c .before .before .before .before .point .ensures) (c .before .before .before .point2 .ensures) (c .before .before .give .ensures)))

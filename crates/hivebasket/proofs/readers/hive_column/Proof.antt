@@ -1,0 +1,15 @@
+-- `hive_column` meets its contract. Assumes nothing.
+use borrow.Author.Needs.{needs}
+use Rattle.hivebasket.proofs.Laws.{given-said}
+use Rattle.hivebasket.proofs.readers.hive_column.Statement.{statement}
+use Rattle.hivebasket.proofs.readers.hive_column.Tie as tie
+
+pub hive-column-spec : {M : Type 1} → statement M
+hive-column-spec =
+    tie.close
+    (tie.spec
+    (λ c κs. search needs)
+    (λ c κs. search needs)
+    (λ c κs. search needs)
+    (λ c. search needs)
+    (λ c. given-said _ _ _ _ _ _ _ _ (c .before .before .before .before .column .ensures) (c .before .before .before .column2 .ensures) (c .before .before .give .ensures)))

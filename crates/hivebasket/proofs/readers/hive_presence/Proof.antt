@@ -1,0 +1,15 @@
+-- `hive_presence` meets its contract. Assumes nothing.
+use borrow.Author.Needs.{needs}
+use Rattle.hivebasket.proofs.Laws.{given-said}
+use Rattle.hivebasket.proofs.readers.hive_presence.Statement.{statement}
+use Rattle.hivebasket.proofs.readers.hive_presence.Tie as tie
+
+pub hive-presence-spec : {M : Type 1} → statement M
+hive-presence-spec =
+    tie.close
+    (tie.spec
+    (λ c κs. search needs)
+    (λ c κs. search needs)
+    (λ c κs. search needs)
+    (λ c. search needs)
+    (λ c. given-said _ _ _ _ _ _ _ _ (c .before .before .before .before .presence .ensures) (c .before .before .before .presence2 .ensures) (c .before .before .give .ensures)))

@@ -1,0 +1,11 @@
+-- `writers::head_of` meets its contract. Assumes nothing.
+use borrow.Author.Needs.{needs}
+use Rattle.hivebasket.proofs.writers.head_of.Statement.{statement}
+use Rattle.hivebasket.proofs.writers.head_of.Tie as tie
+
+pub head-of-spec : {M : Type 1} → statement M
+head-of-spec =
+    tie.close
+    (tie.spec
+    (λ c κs. search needs)
+    (λ c. rw (c .planned-of .ensures)))

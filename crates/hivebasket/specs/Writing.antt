@@ -1,0 +1,79 @@
+-- The promises of the writers: the number returned, the answer and the lent output afterwards.
+use Prim.Native.Nat.{ℕ}
+use mathlib.Core.Bool.{_&&_, cond}
+use mathlib.Core.List.{List}
+use mathlib.Core.Path.{_≡_}
+use lib.Dec.{eqb}
+use lib.IntN.{ℤ}
+use Rattle.rules.specs.Refusals.{Said, andThen}
+use Rattle.rules.specs.Writes.{wroteTold, written, outAfter, fixText, isFix, noteText, isNote, headText, isHead, pointText, isPoint}
+use Rattle.rules.specs.declared.Date.{Date}
+use Rattle.rules.specs.declared.Family.the-variants as family
+use Rattle.rules.specs.declared.Fix.{Fix}
+use Rattle.rules.specs.declared.Head.{Head}
+use Rattle.rules.specs.declared.Planned.{Planned}
+use Rattle.rules.specs.declared.Planned.the-variants as planned
+use Rattle.rules.specs.declared.Point.{Point}
+use Rattle.rules.specs.declared.Wrote.{Wrote}
+use Rattle.hivebasket.specs.Answers.{inNumbers, hasRoom, Answered}
+use Rattle.hivebasket.specs.Given.{layoutBy}
+use Rattle.hivebasket.specs.Values.{placeNumbers}
+
+-- what is said of a text that is to be written, and the output afterwards
+pub record SaidWritten (said : Said ℕ) (text : List ℕ) (place : ℕ) (out : List ℕ) (r : Wrote) (after : List ℕ) : Type 0 where
+  pub told : wroteTold r ≡ said
+  pub bytes : after ≡ outAfter said text place out
+
+-- the same in numbers; an answer of another length leaves the output as it was
+pub record WriteAnswered (said : Said ℕ) (text : List ℕ) (place : ℕ) (out answer : List ℕ) (r : ℕ) (outNow answerNow : List ℕ) : Type 0 where
+  pub told : Answered (hasRoom 12 answer) answer (inNumbers placeNumbers said) r answerNow
+  pub bytes : outNow ≡ cond (hasRoom 12 answer) (outAfter said text place out) out
+
+-- a fix of plain numbers
+abbrev pub fixOf : ℕ → ℕ → ℕ → ℕ → ℕ → ℕ → ℤ → ℤ → Fix
+fixOf seconds latitude nOrS longitude eOrW validity pressure gnss =
+    record {
+      time = seconds;
+      lat = record { count = latitude; letter = nOrS };
+      lon = record { count = longitude; letter = eOrW };
+      validity = validity;
+      pressure = record { metres = pressure };
+      gnss = record { metres = gnss };
+    }
+
+-- "17 BAD_VALUE: .. layout .. given is not allowed", then what the writer of a B line says
+unfoldable pub fixWritten : Fix → List ℕ → List ℕ → ℕ → List ℕ → Said ℕ
+fixWritten f columns l place out = andThen (layoutBy family.B l) λ layout. written (isFix f columns layout) (fixText f columns) place out
+
+-- the same of a K line
+unfoldable pub noteWritten : ℕ → List ℕ → List ℕ → ℕ → List ℕ → Said ℕ
+noteWritten t columns l place out = andThen (layoutBy family.K l) λ layout. written (isNote t columns layout) (noteText t columns) place out
+
+abbrev pub WriteFixAnswered : Fix → List ℕ → List ℕ → ℕ → List ℕ → List ℕ → ℕ → List ℕ → List ℕ → Type 0
+WriteFixAnswered f columns l place out answer r outNow answerNow =
+    WriteAnswered (fixWritten f columns l place out) (fixText f columns) place out answer r outNow answerNow
+
+abbrev pub WriteNoteAnswered : ℕ → List ℕ → List ℕ → ℕ → List ℕ → List ℕ → ℕ → List ℕ → List ℕ → Type 0
+WriteNoteAnswered t columns l place out answer r outNow answerNow =
+    WriteAnswered (noteWritten t columns l place out) (noteText t columns) place out answer r outNow answerNow
+
+-- "000000 means not given": so in numbers
+unfoldable pub plannedOf : Date → Planned
+plannedOf d = cond (eqb (d .day) 0 && eqb (d .month) 0 && eqb (d .year) 0) planned.NotGiven (planned.On d)
+
+-- a head of plain numbers, and a point
+abbrev pub headOf : Date → ℕ → Date → ℕ → ℕ → Head
+headOf declared seconds flight task turns =
+    record { declared = declared; time = seconds; flight = plannedOf flight; task = task; turns = turns }
+
+abbrev pub pointOf : ℕ → ℕ → ℕ → ℕ → Point
+pointOf latitude nOrS longitude eOrW =
+    record { lat = record { count = latitude; letter = nOrS }; lon = record { count = longitude; letter = eOrW } }
+
+abbrev pub WriteHeadAnswered : Head → List ℕ → ℕ → List ℕ → List ℕ → ℕ → List ℕ → List ℕ → Type 0
+WriteHeadAnswered h text place out answer r outNow answerNow =
+    WriteAnswered (written (isHead h text) (headText h text) place out) (headText h text) place out answer r outNow answerNow
+
+abbrev pub WritePointAnswered : Point → List ℕ → ℕ → List ℕ → List ℕ → ℕ → List ℕ → List ℕ → Type 0
+WritePointAnswered p text place out answer r outNow answerNow =
+    WriteAnswered (written (isPoint p text) (pointText p text) place out) (pointText p text) place out answer r outNow answerNow

@@ -1,0 +1,160 @@
+// The readers of a line with its layout given as the text of the file's own I or J line; no bytes stand for no such line.
+ghost use mathlib.Core.Path.{_≡_};
+ghost use Rattle.rules.specs.Layouts.{LayoutTold, columnTold, presenceTold};
+ghost use Rattle.rules.specs.Reads.{fixTold, timeReadTold, numberReadTold};
+ghost use Rattle.rules.specs.Refusals.{no};
+ghost use Rattle.hivebasket.specs.Given.{layoutBy, fixBy, noteBy, familyBy, columnBy, numberBy, columnAtTold, entryAt, entryBy, presenceBy};
+use rules::ColumnRead;
+use rules::Entry;
+use rules::Family;
+use rules::FixRead;
+use rules::Layout;
+use rules::LayoutRead;
+use rules::NumberRead;
+use rules::Outcome;
+use rules::PresenceRead;
+use rules::Reason;
+use rules::Refusal;
+use rules::TimeRead;
+
+// The layout of a family from its line. BAD_VALUE for a line that is not of the family's kind, or that breaks a rule.
+pub(crate) fn layout(family: Family, line: &[u8]) -> LayoutRead
+    ensures { λ r. ⌜ LayoutTold (layoutBy family (now (line .entry))) r ⌝ }
+{
+    if line.len() == 0 {
+        return LayoutRead {
+            outcome: Outcome::Accepted,
+            layout: layout::empty_layout(),
+        };
+    }
+    let read = read::layout_of(family, line);
+    let outcome = read.outcome;
+    match outcome {
+        Outcome::Accepted => read,
+        Outcome::Refused(_) => layout::refused(Refusal {
+            reason: Reason::BadValue,
+            line: 0,
+            byte: 0,
+        }),
+    }
+}
+
+// The fix of a B line.
+pub(crate) fn fix(line: &[u8], columns: &[u8]) -> FixRead
+    ensures { λ r. ⌜ fixTold r ≡ fixBy (now (line .entry)) (now (columns .entry)) ⌝ }
+{
+    let given = layout(Family::B, columns);
+    let outcome = given.outcome;
+    let l = given.layout;
+    if let Outcome::Refused(why) = outcome {
+        return FixRead::Refused(why);
+    }
+    read::fix(line, l)
+}
+
+// The time of a K line.
+pub(crate) fn note(line: &[u8], columns: &[u8]) -> TimeRead
+    ensures { λ r. ⌜ timeReadTold r ≡ noteBy (now (line .entry)) (now (columns .entry)) ⌝ }
+{
+    let given = layout(Family::K, columns);
+    let outcome = given.outcome;
+    let l = given.layout;
+    if let Outcome::Refused(why) = outcome {
+        return TimeRead::Refused(why);
+    }
+    read::note(line, l)
+}
+
+// The family that a first byte tells: B for that letter, else K.
+fn family(letter: u8, line: &[u8]) -> Family
+    ensures { λ r. ⌜ r ≡ familyBy letter (now (line .entry)) ⌝ }
+{
+    if chars::byte(line, 0) == letter {
+        return Family::B;
+    }
+    Family::K
+}
+
+// Where the column of a code stands in a B or a K line.
+pub(crate) fn column(line: &[u8], columns: &[u8], code: [u8; 3]) -> ColumnRead
+    ensures { λ r. ⌜ columnTold r ≡ columnBy (now (line .entry)) (now (columns .entry)) code ⌝ }
+{
+    let given = layout(family(b'B', line), columns);
+    let outcome = given.outcome;
+    let l = given.layout;
+    if let Outcome::Refused(why) = outcome {
+        return ColumnRead::Refused(why);
+    }
+    read::column_of(line, l, code)
+}
+
+// That column as a whole number.
+pub(crate) fn number(line: &[u8], columns: &[u8], code: [u8; 3]) -> NumberRead
+    ensures { λ r. ⌜ numberReadTold r ≡ numberBy (now (line .entry)) (now (columns .entry)) code ⌝ }
+{
+    let given = layout(family(b'B', line), columns);
+    let outcome = given.outcome;
+    let l = given.layout;
+    if let Outcome::Refused(why) = outcome {
+        return NumberRead::Refused(why);
+    }
+    read::column_number(line, l, code)
+}
+
+// A column of a layout.
+pub enum ColumnAt {
+    Is(Entry),
+    Refused(Refusal),
+}
+
+fn no_column() -> ColumnAt
+    ensures { λ r. ⌜ columnAtTold r ≡ no Reason.BadValue 0 ⌝ }
+{
+    ColumnAt::Refused(Refusal {
+        reason: Reason::BadValue,
+        line: 0,
+        byte: 0,
+    })
+}
+
+// Column n of a layout, counted from 1. BAD_VALUE where there is none.
+fn entry_at(l: Layout, n: usize) -> ColumnAt
+    ensures { λ r. ⌜ columnAtTold r ≡ entryAt l n ⌝ }
+{
+    if n < 1 {
+        return no_column();
+    }
+    if l.count < n {
+        return no_column();
+    }
+    if 13 < n {
+        return no_column();
+    }
+    ColumnAt::Is(l.entries[n - 1])
+}
+
+// Column n of an I or a J line. What its reader refuses, then BAD_VALUE.
+pub(crate) fn entry(columns: &[u8], n: usize) -> ColumnAt
+    ensures { λ r. ⌜ columnAtTold r ≡ entryBy (now (columns .entry)) n ⌝ }
+{
+    let given = read::layout_of(family(b'I', columns), columns);
+    let outcome = given.outcome;
+    let l = given.layout;
+    if let Outcome::Refused(why) = outcome {
+        return ColumnAt::Refused(why);
+    }
+    entry_at(l, n)
+}
+
+// Which listed codes an I line carries.
+pub(crate) fn presence(columns: &[u8]) -> PresenceRead
+    ensures { λ r. ⌜ presenceTold r ≡ presenceBy (now (columns .entry)) ⌝ }
+{
+    let given = layout(Family::B, columns);
+    let outcome = given.outcome;
+    let l = given.layout;
+    if let Outcome::Refused(why) = outcome {
+        return PresenceRead::Refused(why);
+    }
+    layout::presence(l)
+}
