@@ -86,9 +86,9 @@ static void lines(void) {
     say_fix("fix with no I line", hive_fix(TEXT(B), NULL, 0, answer, HIVE_ANSWER, heights, HIVE_HEIGHTS));
     say_fix("fix over 90 degrees", hive_fix(TEXT("B1200009000001N00015000WA-001200120"), NULL, 0, answer, HIVE_ANSWER, heights, HIVE_HEIGHTS));
     say_fix("fix below zero", hive_fix(TEXT("B1200009000000S18000000EV-001299999"), NULL, 0, answer, HIVE_ANSWER, heights, HIVE_HEIGHTS));
-    say("note", hive_note(TEXT(K), TEXT(J), answer, HIVE_ANSWER));
-    say("note by an I line", hive_note(TEXT(K), TEXT(I), answer, HIVE_ANSWER));
-    say("note, a B line", hive_note(TEXT(B), TEXT(J), answer, HIVE_ANSWER));
+    say("extra", hive_extra(TEXT(K), TEXT(J), answer, HIVE_ANSWER));
+    say("extra by an I line", hive_extra(TEXT(K), TEXT(I), answer, HIVE_ANSWER));
+    say("extra, a B line", hive_extra(TEXT(B), TEXT(J), answer, HIVE_ANSWER));
     say("column SIU", hive_column(TEXT(B), TEXT(I), 'S', 'I', 'U', answer, HIVE_ANSWER));
     say("column HDT", hive_column(TEXT(K), TEXT(J), 'H', 'D', 'T', answer, HIVE_ANSWER));
     say("column ENL", hive_column(TEXT(B), TEXT(I), 'E', 'N', 'L', answer, HIVE_ANSWER));
@@ -127,8 +127,8 @@ static void writers(void) {
     say_out("write fix, no validity", hive_write_fix(43200, 3090000, 'N', 15000, 'W', 'X', -12, 120, TEXT("01208"), TEXT(I), 3, out, 44, answer, HIVE_ANSWER));
     say_out("write fix by a J line", hive_write_fix(43200, 3090000, 'N', 15000, 'W', 'A', -12, 120, TEXT("01208"), TEXT(J), 3, out, sizeof out, answer, HIVE_ANSWER));
     say_out("write fix, answer of 11", hive_write_fix(43200, 3090000, 'N', 15000, 'W', 'A', -12, 120, TEXT("01208"), TEXT(I), 3, out, sizeof out, answer, 11));
-    say_out("write note", hive_write_note(43205, TEXT("123"), TEXT(J), 0, out, sizeof out, answer, HIVE_ANSWER));
-    say_out("write note, its column too short", hive_write_note(43205, TEXT("12"), TEXT(J), 0, out, sizeof out, answer, HIVE_ANSWER));
+    say_out("write extra", hive_write_extra(43205, TEXT("123"), TEXT(J), 0, out, sizeof out, answer, HIVE_ANSWER));
+    say_out("write extra, its column too short", hive_write_extra(43205, TEXT("12"), TEXT(J), 0, out, sizeof out, answer, HIVE_ANSWER));
     say_out("write head", hive_write_head(15, 7, 2024, 34200, 0, 0, 0, 1, 2, NULL, 0, 0, out, sizeof out, answer, HIVE_ANSWER));
     say_out("write head, no such flight date", hive_write_head(15, 7, 2024, 34200, 0, 7, 2024, 1, 2, NULL, 0, 0, out, sizeof out, answer, HIVE_ANSWER));
     say_out("write point", hive_write_point(3090000, 'N', 15000, 'W', TEXT("HOME"), 1, out, sizeof out, answer, HIVE_ANSWER));

@@ -117,7 +117,7 @@ uint32_t hive_fix(const uint8_t *line, size_t line_length,
 
 /* The time of a K line.
        2 seconds of the day */
-uint32_t hive_note(const uint8_t *line, size_t line_length,
+uint32_t hive_extra(const uint8_t *line, size_t line_length,
                    const uint8_t *layout, size_t layout_length,
                    uint64_t *answer, size_t answer_length);
 
@@ -173,7 +173,7 @@ uint32_t hive_write_fix(uint32_t seconds,
                         uint64_t *answer, size_t answer_length);
 
 /* A K line; columns is all that stands behind its first 7 bytes. */
-uint32_t hive_write_note(uint32_t seconds,
+uint32_t hive_write_extra(uint32_t seconds,
                          const uint8_t *columns, size_t columns_length,
                          const uint8_t *layout, size_t layout_length,
                          size_t place,

@@ -6,8 +6,8 @@ use mathlib.Core.Path.{_≡_, sym, _∙_}
 use lib.Ieee.{Float}
 use lib.IntN.{ℤ}
 use Rattle.hivebasket.specs.Answers.{Answered}
-use Rattle.hivebasket.specs.Calls.{CheckAnswered, LineAnswered, StepAnswered, FixAnswered, NoteAnswered, ColumnAnswered, NumberAnswered, EntryAnswered, PresenceAnswered, DegreesAnswered, DateAnswered, EventAnswered, SatellitesAnswered, HeadAnswered, PointAnswered}
-use Rattle.hivebasket.specs.Writing.{WriteAnswered, WriteFixAnswered, WriteNoteAnswered, WriteHeadAnswered, WritePointAnswered}
+use Rattle.hivebasket.specs.Calls.{CheckAnswered, LineAnswered, StepAnswered, FixAnswered, ExtraAnswered, ColumnAnswered, NumberAnswered, EntryAnswered, PresenceAnswered, DegreesAnswered, DateAnswered, EventAnswered, SatellitesAnswered, HeadAnswered, PointAnswered}
+use Rattle.hivebasket.specs.Writing.{WriteAnswered, WriteFixAnswered, WriteExtraAnswered, WriteHeadAnswered, WritePointAnswered}
 use Rattle.rules.specs.Refusals.{Said}
 use Rattle.rules.specs.declared.Fix.{Fix}
 use Rattle.rules.specs.declared.Head.{Head}
@@ -33,8 +33,8 @@ module _ (answer : List ℕ) (r r′ : ℕ) (after after′ : List ℕ) where
   only-fix-answered line l heights now now′ f f′ =
       (f .told .number ∙ sym (f′ .told .number), f .told .numbers ∙ sym (f′ .told .numbers), f .metres ∙ sym (f′ .metres))
 
-  pub only-note-answered : (line l : List ℕ) → NoteAnswered line l answer r after → NoteAnswered line l answer r′ after′ → (r ≡ r′) × (after ≡ after′)
-  only-note-answered line l = only-answered
+  pub only-extra-answered : (line l : List ℕ) → ExtraAnswered line l answer r after → ExtraAnswered line l answer r′ after′ → (r ≡ r′) × (after ≡ after′)
+  only-extra-answered line l = only-answered
 
   pub only-column-answered : (line l name : List ℕ) → ColumnAnswered line l name answer r after → ColumnAnswered line l name answer r′ after′ → (r ≡ r′) × (after ≡ after′)
   only-column-answered line l name = only-answered
@@ -72,8 +72,8 @@ module _ (answer : List ℕ) (r r′ : ℕ) (after after′ : List ℕ) where
   pub only-write-fix-answered : (f : Fix) (columns l : List ℕ) (place : ℕ) (out now now′ : List ℕ) → WriteFixAnswered f columns l place out answer r now after → WriteFixAnswered f columns l place out answer r′ now′ after′ → (r ≡ r′) × (now ≡ now′) × (after ≡ after′)
   only-write-fix-answered f columns l place out now now′ = only-write-answered out now now′
 
-  pub only-write-note-answered : (t : ℕ) (columns l : List ℕ) (place : ℕ) (out now now′ : List ℕ) → WriteNoteAnswered t columns l place out answer r now after → WriteNoteAnswered t columns l place out answer r′ now′ after′ → (r ≡ r′) × (now ≡ now′) × (after ≡ after′)
-  only-write-note-answered t columns l place out now now′ = only-write-answered out now now′
+  pub only-write-extra-answered : (t : ℕ) (columns l : List ℕ) (place : ℕ) (out now now′ : List ℕ) → WriteExtraAnswered t columns l place out answer r now after → WriteExtraAnswered t columns l place out answer r′ now′ after′ → (r ≡ r′) × (now ≡ now′) × (after ≡ after′)
+  only-write-extra-answered t columns l place out now now′ = only-write-answered out now now′
 
   pub only-write-head-answered : (h : Head) (text : List ℕ) (place : ℕ) (out now now′ : List ℕ) → WriteHeadAnswered h text place out answer r now after → WriteHeadAnswered h text place out answer r′ now′ after′ → (r ≡ r′) × (now ≡ now′) × (after ≡ after′)
   only-write-head-answered h text place out now now′ = only-write-answered out now now′

@@ -12,7 +12,7 @@ use Rattle.rules.specs.Reads.{dateSaid, eventSaid, satellitesSaid, headSaid, po
 use Rattle.rules.specs.Split.{boundsOf, stepAt}
 use Rattle.rules.specs.declared.Position.{Position}
 use Rattle.hivebasket.specs.Answers.{inNumbers, numberOf, hasRoom, Answered}
-use Rattle.hivebasket.specs.Given.{fixBy, noteBy, columnBy, numberBy, entryBy, presenceBy}
+use Rattle.hivebasket.specs.Given.{fixBy, extraBy, columnBy, numberBy, entryBy, presenceBy}
 use Rattle.hivebasket.specs.Values.{flightNumbers, boundsNumbers, stepNumbers, fixNumbers, timeNumbers, spanNumbers, signedNumbers, entryNumbers, presenceNumbers, dateNumbers, headNumbers, pointNumbers, heightsOf, integersOf, anglesOf}
 
 -- ---- a file
@@ -38,8 +38,8 @@ pub record FixAnswered (line l answer : List ℕ) (heights : List ℤ) (r : ℕ)
   pub metres : heightsNow ≡ cond (hasRoom 12 answer && hasRoom 2 heights) (heightsOf (fixBy line l)) heights
 
 -- the time of a K line
-abbrev pub NoteAnswered : List ℕ → List ℕ → List ℕ → ℕ → List ℕ → Type 0
-NoteAnswered line l answer r after = Answered (hasRoom 12 answer) answer (inNumbers timeNumbers (noteBy line l)) r after
+abbrev pub ExtraAnswered : List ℕ → List ℕ → List ℕ → ℕ → List ℕ → Type 0
+ExtraAnswered line l answer r after = Answered (hasRoom 12 answer) answer (inNumbers timeNumbers (extraBy line l)) r after
 
 -- where a column's text stands
 abbrev pub ColumnAnswered : List ℕ → List ℕ → List ℕ → List ℕ → ℕ → List ℕ → Type 0

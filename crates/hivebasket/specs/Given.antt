@@ -7,7 +7,7 @@ use lib.Dec.{eqb, leb}
 use lib.ListN.{length, getD}
 use Rattle.rules.specs.Choice.{need}
 use Rattle.rules.specs.Layouts.{Span, emptyLayout, unused, presenceSaid}
-use Rattle.rules.specs.Reads.{fixSaid, noteSaid, layoutSaid, columnSaid, numberSaid}
+use Rattle.rules.specs.Reads.{fixSaid, extraSaid, layoutSaid, columnSaid, numberSaid}
 use Rattle.rules.specs.Refusals.{Said, says, refuses, no, refusal, andThen}
 use Rattle.rules.specs.declared.Entry.{Entry}
 use Rattle.rules.specs.declared.Family.{Family}
@@ -33,8 +33,8 @@ layoutBy f l = cond (eqb (length l) 0) (says emptyLayout) (orBadValue (layoutSai
 unfoldable pub fixBy : List ℕ → List ℕ → Said Fix
 fixBy line l = andThen (layoutBy family.B l) λ layout. fixSaid line layout
 
-unfoldable pub noteBy : List ℕ → List ℕ → Said ℕ
-noteBy line l = andThen (layoutBy family.K l) λ layout. noteSaid line layout
+unfoldable pub extraBy : List ℕ → List ℕ → Said ℕ
+extraBy line l = andThen (layoutBy family.K l) λ layout. extraSaid line layout
 
 -- the family that a first byte tells: B for that letter, else K
 abbrev pub familyBy : ℕ → List ℕ → Family

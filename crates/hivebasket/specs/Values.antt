@@ -26,7 +26,7 @@ use Rattle.hivebasket.specs.declared.answers.Numbers.{Numbers}
 -- "the date, the I and J layouts, the count of lines, of B lines and of K lines": the layouts by the lengths of their lines
 abbrev pub flightNumbers : Flight → List ℕ
 flightNumbers f =
-    f .date .day ∷ f .date .month ∷ f .date .year ∷ f .lines ∷ f .bs ∷ f .ks ∷ lineLength 36 (f .fixes) ∷ lineLength 8 (f .notes) ∷ 0 ∷ 0 ∷ []
+    f .date .day ∷ f .date .month ∷ f .date .year ∷ f .lines ∷ f .bs ∷ f .ks ∷ lineLength 36 (f .fixes) ∷ lineLength 8 (f .extras) ∷ 0 ∷ 0 ∷ []
 
 -- the answer on a file
 unfoldable pub checkedNumbers : Checked → Numbers

@@ -6,7 +6,7 @@ use mathlib.Core.Path.{_≡_}
 use lib.Dec.{eqb}
 use lib.IntN.{ℤ}
 use Rattle.rules.specs.Refusals.{Said, andThen}
-use Rattle.rules.specs.Writes.{wroteTold, written, outAfter, fixText, isFix, noteText, isNote, headText, isHead, pointText, isPoint}
+use Rattle.rules.specs.Writes.{wroteTold, written, outAfter, fixText, isFix, extraText, isExtra, headText, isHead, pointText, isPoint}
 use Rattle.rules.specs.declared.Date.{Date}
 use Rattle.rules.specs.declared.Family.the-variants as family
 use Rattle.rules.specs.declared.Fix.{Fix}
@@ -46,16 +46,16 @@ unfoldable pub fixWritten : Fix → List ℕ → List ℕ → ℕ → List ℕ �
 fixWritten f columns l place out = andThen (layoutBy family.B l) λ layout. written (isFix f columns layout) (fixText f columns) place out
 
 -- the same of a K line
-unfoldable pub noteWritten : ℕ → List ℕ → List ℕ → ℕ → List ℕ → Said ℕ
-noteWritten t columns l place out = andThen (layoutBy family.K l) λ layout. written (isNote t columns layout) (noteText t columns) place out
+unfoldable pub extraWritten : ℕ → List ℕ → List ℕ → ℕ → List ℕ → Said ℕ
+extraWritten t columns l place out = andThen (layoutBy family.K l) λ layout. written (isExtra t columns layout) (extraText t columns) place out
 
 abbrev pub WriteFixAnswered : Fix → List ℕ → List ℕ → ℕ → List ℕ → List ℕ → ℕ → List ℕ → List ℕ → Type 0
 WriteFixAnswered f columns l place out answer r outNow answerNow =
     WriteAnswered (fixWritten f columns l place out) (fixText f columns) place out answer r outNow answerNow
 
-abbrev pub WriteNoteAnswered : ℕ → List ℕ → List ℕ → ℕ → List ℕ → List ℕ → ℕ → List ℕ → List ℕ → Type 0
-WriteNoteAnswered t columns l place out answer r outNow answerNow =
-    WriteAnswered (noteWritten t columns l place out) (noteText t columns) place out answer r outNow answerNow
+abbrev pub WriteExtraAnswered : ℕ → List ℕ → List ℕ → ℕ → List ℕ → List ℕ → ℕ → List ℕ → List ℕ → Type 0
+WriteExtraAnswered t columns l place out answer r outNow answerNow =
+    WriteAnswered (extraWritten t columns l place out) (extraText t columns) place out answer r outNow answerNow
 
 -- "000000 means not given": so in numbers
 unfoldable pub plannedOf : Date → Planned

@@ -3,7 +3,7 @@ ghost use mathlib.Core.Path.{_≡_};
 ghost use Rattle.rules.specs.Layouts.{LayoutTold, columnTold, presenceTold};
 ghost use Rattle.rules.specs.Reads.{fixTold, timeReadTold, numberReadTold};
 ghost use Rattle.rules.specs.Refusals.{no};
-ghost use Rattle.hivebasket.specs.Given.{layoutBy, fixBy, noteBy, familyBy, columnBy, numberBy, columnAtTold, entryAt, entryBy, presenceBy};
+ghost use Rattle.hivebasket.specs.Given.{layoutBy, fixBy, extraBy, familyBy, columnBy, numberBy, columnAtTold, entryAt, entryBy, presenceBy};
 use rules::ColumnRead;
 use rules::Entry;
 use rules::Family;
@@ -53,8 +53,8 @@ pub(crate) fn fix(line: &[u8], columns: &[u8]) -> FixRead
 }
 
 // The time of a K line.
-pub(crate) fn note(line: &[u8], columns: &[u8]) -> TimeRead
-    ensures { λ r. ⌜ timeReadTold r ≡ noteBy (now (line .entry)) (now (columns .entry)) ⌝ }
+pub(crate) fn extra(line: &[u8], columns: &[u8]) -> TimeRead
+    ensures { λ r. ⌜ timeReadTold r ≡ extraBy (now (line .entry)) (now (columns .entry)) ⌝ }
 {
     let given = layout(Family::K, columns);
     let outcome = given.outcome;
@@ -62,7 +62,7 @@ pub(crate) fn note(line: &[u8], columns: &[u8]) -> TimeRead
     if let Outcome::Refused(why) = outcome {
         return TimeRead::Refused(why);
     }
-    read::note(line, l)
+    read::extra(line, l)
 }
 
 // The family that a first byte tells: B for that letter, else K.

@@ -4,7 +4,7 @@ ghost use mathlib.Core.Path.{_≡_};
 ghost use lib.ListN.{length};
 ghost use Rattle.rules.specs.Reads.{fixTold, numberReadTold};
 ghost use Rattle.hivebasket.specs.Values.{heightsOf, integersOf};
-ghost use Rattle.hivebasket.specs.Calls.{FixAnswered, NoteAnswered, ColumnAnswered, NumberAnswered, EntryAnswered, PresenceAnswered};
+ghost use Rattle.hivebasket.specs.Calls.{FixAnswered, ExtraAnswered, ColumnAnswered, NumberAnswered, EntryAnswered, PresenceAnswered};
 use crate::answers::give;
 use crate::given;
 use crate::values;
@@ -57,10 +57,10 @@ pub extern "C" fn hive_fix(
 
 // The time of a K line.
 #[no_mangle]
-pub extern "C" fn hive_note(line: &[u8], layout: &[u8], answer: &mut [u64]) -> u32
-    ensures { λ r. ⌜ NoteAnswered (now (line .entry)) (now (layout .entry)) (now (answer .entry)) r (now (answer .exit)) ⌝ }
+pub extern "C" fn hive_extra(line: &[u8], layout: &[u8], answer: &mut [u64]) -> u32
+    ensures { λ r. ⌜ ExtraAnswered (now (line .entry)) (now (layout .entry)) (now (answer .entry)) r (now (answer .exit)) ⌝ }
 {
-    give(answer, values::time(given::note(line, layout)))
+    give(answer, values::time(given::extra(line, layout)))
 }
 
 // Where the column of a code stands in a B or a K line.

@@ -50,9 +50,9 @@ fn flight(f: Flight) -> Numbers
 {
     let date = f.date;
     let fixes = f.fixes;
-    let notes = f.notes;
+    let extras = f.extras;
     let b = layout::line_length(Family::B, fixes) as u64;
-    let k = layout::line_length(Family::K, notes) as u64;
+    let k = layout::line_length(Family::K, extras) as u64;
     let day = date.day as u64;
     let month = date.month as u64;
     let year = date.year as u64;

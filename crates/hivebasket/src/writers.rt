@@ -1,7 +1,7 @@
 // Lines written into a lent output.
 ghost use mathlib.Core.Path.{_≡_};
-ghost use Rattle.rules.specs.Writes.{fixText, noteText};
-ghost use Rattle.hivebasket.specs.Writing.{SaidWritten, fixOf, fixWritten, noteWritten, WriteFixAnswered, WriteNoteAnswered, plannedOf, headOf, pointOf, WriteHeadAnswered, WritePointAnswered};
+ghost use Rattle.rules.specs.Writes.{fixText, extraText};
+ghost use Rattle.hivebasket.specs.Writing.{SaidWritten, fixOf, fixWritten, extraWritten, WriteFixAnswered, WriteExtraAnswered, plannedOf, headOf, pointOf, WriteHeadAnswered, WritePointAnswered};
 use crate::answers::give;
 use crate::given;
 use crate::values;
@@ -100,8 +100,8 @@ pub extern "C" fn hive_write_fix(
 }
 
 // A K line by the layout of a J line.
-fn write_note(seconds: u32, columns: &[u8], layout: &[u8], out: &mut [u8], place: usize) -> Wrote
-    ensures { λ r. ⌜ SaidWritten (noteWritten seconds (now (columns .entry)) (now (layout .entry)) place (now (out .entry))) (noteText seconds (now (columns .entry))) place (now (out .entry)) r (now (out .exit)) ⌝ }
+fn write_extra(seconds: u32, columns: &[u8], layout: &[u8], out: &mut [u8], place: usize) -> Wrote
+    ensures { λ r. ⌜ SaidWritten (extraWritten seconds (now (columns .entry)) (now (layout .entry)) place (now (out .entry))) (extraText seconds (now (columns .entry))) place (now (out .entry)) r (now (out .exit)) ⌝ }
 {
     let given = given::layout(Family::K, layout);
     let outcome = given.outcome;
@@ -109,12 +109,12 @@ fn write_note(seconds: u32, columns: &[u8], layout: &[u8], out: &mut [u8], place
     if let Outcome::Refused(why) = outcome {
         return Wrote::Refused(why);
     }
-    write::note(seconds, columns, l, out, place)
+    write::extra(seconds, columns, l, out, place)
 }
 
 // A K line of a time, into an output from a place on.
 #[no_mangle]
-pub extern "C" fn hive_write_note(
+pub extern "C" fn hive_write_extra(
     seconds: u32,
     columns: &[u8],
     layout: &[u8],
@@ -122,12 +122,12 @@ pub extern "C" fn hive_write_note(
     out: &mut [u8],
     answer: &mut [u64],
 ) -> u32
-    ensures { λ r. ⌜ WriteNoteAnswered seconds (now (columns .entry)) (now (layout .entry)) place (now (out .entry)) (now (answer .entry)) r (now (out .exit)) (now (answer .exit)) ⌝ }
+    ensures { λ r. ⌜ WriteExtraAnswered seconds (now (columns .entry)) (now (layout .entry)) place (now (out .entry)) (now (answer .entry)) r (now (out .exit)) (now (answer .exit)) ⌝ }
 {
     if answer.len() != 12 {
         return 17;
     }
-    let wrote = write_note(seconds, columns, layout, out, place);
+    let wrote = write_extra(seconds, columns, layout, out, place);
     give(answer, values::wrote(wrote))
 }
 
