@@ -3,7 +3,7 @@
 --
 -- How these definitions are the library's answers: `file::check` answers `verdict file (length table)` and leaves `tableAfter file table` (promise FileChecked); `file::bounds`
 -- answers `boundsOf` (LineGiven), `Cursor::step` answers `stepAt` (LineStepped), the readers in `read` answer `fixSaid`, `columnSaid` and so on (FixGiven ..); the writers in
--- `write` keep `Written` (FixWritten ..), from which `BothWays` tells what they write. By the laws `only-..` of crate laws, nothing else would keep these promises.
+-- `write` keep `Written` (FixWritten ..), from which `BothWays` tells what they write (proofs/Promised). By the laws `only-..` of crate laws, nothing else would keep these promises.
 use Prim.Native.Nat.{ℕ, _≤_}
 use Prim.Native.Char.{code}
 use mathlib.Core.Bool.{true}
@@ -17,7 +17,6 @@ use Rattle.rules.specs.Listed.{widthFits, keepsRule}
 use Rattle.rules.specs.Layouts.{isSaid, firstStart, allowed}
 use Rattle.rules.specs.Reads.{fixSaid, extraSaid, headSaid, pointSaid, layoutSaid}
 use Rattle.rules.specs.Writes.{fixText, extraText, headText, pointText, layoutText, isFix, isExtra, isHead, isPoint}
-use Rattle.rules.specs.Promises.{FixWritten, ExtraWritten, LayoutWritten, HeadWritten, PointWritten}
 use Rattle.rules.specs.declared.Date.{Date}
 use Rattle.rules.specs.declared.Layout.{Layout}
 use Rattle.rules.specs.declared.Family.{Family}
@@ -25,7 +24,6 @@ use Rattle.rules.specs.declared.Fix.{Fix}
 use Rattle.rules.specs.declared.Head.{Head}
 use Rattle.rules.specs.declared.Point.{Point}
 use Rattle.rules.specs.declared.Flight.{Flight}
-use Rattle.rules.specs.declared.Wrote.{Wrote}
 use Rattle.rules.proofs.Damaged.{fiveLines}
 use Rattle.trips.specs.Limits.{isDate, goodFix, goodExtra, goodHead, goodPoint}
 use Rattle.trips.proofs.Fixes.{fix-trip, fix-good}
@@ -37,7 +35,7 @@ use Rattle.demands.specs.Faults.{PassAfter, Refused}
 use Rattle.demands.specs.FieldTexts.{FieldsTold}
 use Rattle.demands.specs.Coming.{Meant}
 use Rattle.demands.specs.Readings.{Readable}
-use Rattle.demands.specs.BothWays.{Slotted, ReadsAs, Ways, BothWays}
+use Rattle.demands.specs.BothWays.{Slotted, ReadsAs, BothWays}
 use Rattle.demands.proofs.Accepted as acceptance
 use Rattle.demands.proofs.Refusing as refusing
 use Rattle.demands.proofs.FieldsThere as fields-there
@@ -151,21 +149,3 @@ points-both-ways = trip-ways isPoint point-trip point-good
 pub layouts-both-ways : (family : Family)
     → BothWays (λ l (v : Slotted). layoutSaid family l ≡ says (v .layout)) (λ v. layoutText family (v .layout)) (λ v. allowed (firstStart family) (v .layout)) (λ v. allowed (firstStart family) (v .layout))
 layouts-both-ways family = both-ways _ _ _ _ (λ l v. layout-exactly family (v .layout) l (v .slots)) (λ v. refl)
-
--- so of every answer r and output afterwards that the writers' promises allow
-module _ (place : ℕ) (out : List ℕ) (r : Wrote) (after : List ℕ) where
-  pub fix-writer : (f : Fix) (tail : List ℕ) (layout : Layout) → FixWritten f tail layout place out r after → Ways (ReadsAs (λ l. fixSaid l layout) 35) (f, tail) place out r after
-  fix-writer f tail layout = fixes-both-ways layout .writes (f, tail) place out r after
-
-  pub extra-writer : (t : ℕ) (tail : List ℕ) (layout : Layout) → ExtraWritten t tail layout place out r after → Ways (ReadsAs (λ l. extraSaid l layout) 7) (t, tail) place out r after
-  extra-writer t tail layout = extras-both-ways layout .writes (t, tail) place out r after
-
-  pub head-writer : (h : Head) (rest : List ℕ) → HeadWritten h rest place out r after → Ways (ReadsAs headSaid 25) (h, rest) place out r after
-  head-writer h rest = heads-both-ways .writes (h, rest) place out r after
-
-  pub point-writer : (p : Point) (rest : List ℕ) → PointWritten p rest place out r after → Ways (ReadsAs pointSaid 18) (p, rest) place out r after
-  point-writer p rest = points-both-ways .writes (p, rest) place out r after
-
-  pub layout-writer : (family : Family) (i : Slotted) → LayoutWritten family (i .layout) place out r after
-      → Ways (λ l (v : Slotted). layoutSaid family l ≡ says (v .layout)) i place out r after
-  layout-writer family i = layouts-both-ways family .writes i place out r after

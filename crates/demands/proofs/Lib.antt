@@ -21,3 +21,4 @@ pub mod Reading
 pub mod Writers
 pub mod Worked
 pub mod Demands
+pub mod Promised
