@@ -54,7 +54,7 @@ fn tamed(random: &mut Random) -> Sample {
 /// Every fix of a file by the library: checked, stepped through, read.
 fn fixes(file: &[u8]) -> ([u64; 3], Vec<Fix>) {
     let mut table = vec![0; file.len() / 3 + 1];
-    let told = library::check(file, &mut table);
+    let told = library::check_file(file, &mut table);
     assert_eq!(told.number, 0, "a valid file is accepted: {:?}", told.answer);
     let date = [told.answer[2], told.answer[3], told.answer[4]];
     let (mut layout, mut found, mut place): (&[u8], Vec<Fix>, usize) = (b"", Vec::new(), 0);
@@ -161,7 +161,7 @@ fn expected(file: &[u8]) -> (u32, u64, u64) {
 /// The library's and the reading's verdict on a file that gpsbabel wrote: number, line and byte.
 fn judged(file: &[u8]) -> (u32, u64, u64) {
     let mut table = vec![0; file.len() / 3 + 1];
-    let told = library::check(file, &mut table);
+    let told = library::check_file(file, &mut table);
     let ours = (told.number, told.answer[0], told.answer[1]);
     let theirs = reading::check(file, &mut table).err().map_or((0, 0, 0), |r| (r.number, r.line, r.byte));
     assert_eq!(ours, theirs, "the library and the reading");
@@ -217,7 +217,7 @@ fn hold_tasks(folder: &str) {
 fn main() {
     let words: Vec<String> = std::env::args().collect();
     let (folder, files): (&str, u64) = (&words[1], words[2].parse().expect("a number of files"));
-    if library::check(b"", &mut []).number == library::NOT_THERE || library::fix(b"", b"").0.number == library::NOT_THERE {
+    if library::check_file(b"", &mut []).number == library::NOT_THERE || library::fix(b"", b"").0.number == library::NOT_THERE {
         println!("with gpsbabel: left out: the archive has no fixes yet");
         return;
     }

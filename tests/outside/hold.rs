@@ -59,22 +59,27 @@ fn head_values(h: &Head) -> [u64; 9] {
     [d, m, y, h.time.into(), fd, fm, fy, h.task.into(), h.turns.into()]
 }
 
-/// The check with a table of so many entries, and every entry afterwards.
+/// The check with a table of so many entries, and every entry afterwards. The check in C that the library is measured against is held too.
 pub fn check(tally: &mut Tally, file: &[u8], entries: usize) -> Held<(Answer<reading::Accepted>, Vec<u32>)> {
     let lent: Vec<u32> = (0..entries as u32).map(|n| 0xDEAD_0000 ^ n).collect();
-    let (mut ours, mut theirs) = (lent.clone(), lent);
-    let raw = library::check(file, &mut ours);
+    let mut theirs = lent.clone();
     let answer = reading::check(file, &mut theirs);
     let values = |a: &reading::Accepted| {
         let [d, m, y] = date_values(&a.date);
         let lengths = [a.fixes.length(B_START) as u64, a.notes.length(K_START) as u64];
         [d, m, y, a.lines, a.b_lines, a.k_lines, lengths[0], lengths[1]]
     };
-    let asked = format!("a table of {} entries", entries);
-    tally.same("hive_check", &asked, raw.number, raw, told(&answer, values))?;
-    if raw.number != library::NOT_THERE {
-        let first = ours.iter().zip(&theirs).position(|(a, b)| a != b);
-        tally.same("hive_check", &"its table", raw.number, first.map(|n| (n, ours[n])), first.map(|n| (n, theirs[n])))?;
+    let checks: [(&str, fn(&[u8], &mut [u32]) -> Told); 2] =
+        [("hive_check", library::check_file), ("bench/check.c", library::check_by_hand)];
+    for (name, check) in checks {
+        let mut ours = lent.clone();
+        let raw = check(file, &mut ours);
+        let asked = format!("a table of {entries} entries");
+        tally.same(name, &asked, raw.number, raw, told(&answer, values))?;
+        if raw.number != library::NOT_THERE {
+            let first = ours.iter().zip(&theirs).position(|(a, b)| a != b);
+            tally.same(name, &"its table", raw.number, first.map(|n| (n, ours[n])), first.map(|n| (n, theirs[n])))?;
+        }
     }
     Ok((answer, theirs))
 }

@@ -109,6 +109,28 @@ mod c {
     }
 }
 
+/// The answer of the check in C that the library is measured against (bench/check.h).
+#[repr(C)]
+struct ByHand {
+    number: u32,
+    place: [u32; 2],
+    values: [u32; 8],
+}
+
+unsafe extern "C" {
+    fn check(file: *const u8, length: usize, table: *mut u32, entries: usize) -> ByHand;
+}
+
+/// The check in C, told as the library tells its own.
+pub fn check_by_hand(file: &[u8], table: &mut [u32]) -> Told {
+    let said = unsafe { check(file.as_ptr(), file.len(), table.as_mut_ptr(), table.len()) };
+    let mut answer = [0; ANSWER];
+    for (n, value) in said.place.into_iter().chain(said.values).enumerate() {
+        answer[n] = value.into();
+    }
+    Told { number: said.number, answer }
+}
+
 /// One call with an answer lent to it.
 fn told(call: impl FnOnce(*mut u64, usize) -> u32) -> Told {
     let mut answer = [BEFORE; ANSWER];
@@ -116,7 +138,7 @@ fn told(call: impl FnOnce(*mut u64, usize) -> u32) -> Told {
     Told { number, answer }
 }
 
-pub fn check(file: &[u8], table: &mut [u32]) -> Told {
+pub fn check_file(file: &[u8], table: &mut [u32]) -> Told {
     told(|a, al| unsafe { c::hive_check(file.as_ptr(), file.len(), table.as_mut_ptr(), table.len(), a, al) })
 }
 
