@@ -21,13 +21,14 @@ static double now(void)
     return t.tv_sec + t.tv_nsec / 1e9;
 }
 
-/* A flight with a fix each second and three columns, of nearly `size` bytes; returns its length. */
-static size_t make_file(uint8_t *file, size_t size)
+/* The columns of three bytes, two and three that a file has: the usual ones, which stand first among the listed codes; the last ones listed; and unlisted ones. */
+static const char *const usual = "I033638FXA3940SIU4143ENL", *const late = "I033638DAN3940LOD4143DAE", *const unlisted = "I033638ZZA3940ZZB4143ZZC";
+
+/* A flight with a fix each second and these columns, of nearly `size` bytes; returns its length. */
+static size_t make_file(uint8_t *file, size_t size, const char *columns)
 {
-    static const char top[] = "AXYZ001\r\nHFDTE150724\r\nI033638FXA3940SIU4143ENL\r\n";
     static const char end[] = "G0123456789ABCDEF\r\n";
-    size_t at = strlen(top);
-    memcpy(file, top, at);
+    size_t at = sprintf((char *)file, "AXYZ001\r\nHFDTE150724\r\n%s\r\n", columns);
     uint32_t random = 1;
     for (unsigned second = 36000; at + 45 + strlen(end) <= size; second = (second + 1) % 86400) {
         char line[64];
@@ -88,7 +89,7 @@ struct measured {
 };
 
 /* Both checks on a file of nearly `size` bytes, each as often as is said, in turn; the shortest as seconds for a byte. */
-static struct measured measure(size_t size, int repetitions)
+static struct measured measure(size_t size, const char *columns, int repetitions)
 {
     uint8_t *file = malloc(size);
     size_t entries = size / 40;
@@ -97,7 +98,7 @@ static struct measured measure(size_t size, int repetitions)
     uint64_t said[2][1 + HIVE_ANSWER];
     if (!file || !tables[0] || !tables[1])
         exit(2);
-    size_t length = make_file(file, size);
+    size_t length = make_file(file, size, columns);
     for (int n = 0; n < repetitions; n++)
         for (int by_hand = 0; by_hand < 2; by_hand++)
             took[by_hand][n] = timed(by_hand, file, length, tables[by_hand], entries, said[by_hand]);
@@ -108,8 +109,8 @@ static struct measured measure(size_t size, int repetitions)
     for (int by_hand = 0; by_hand < 2; by_hand++)
         qsort(took[by_hand], repetitions, sizeof(double), by_size);
     double ours = took[0][0], theirs = took[1][0], middle = took[0][repetitions / 2] / took[1][repetitions / 2];
-    printf("%5.1f MiB, %6llu lines: library %6.1f MB/s, by hand in C %6.1f MB/s, ratio %.2f (of the medians %.2f)\n", length / (double)MIB,
-           (unsigned long long)said[0][6], length / ours / 1e6, length / theirs / 1e6, ours / theirs, middle);
+    printf("%5.1f MiB, %6llu lines, %s: library %6.1f MB/s, by hand in C %6.1f MB/s, ratio %.2f (of the medians %.2f)\n", length / (double)MIB,
+           (unsigned long long)said[0][6], columns, length / ours / 1e6, length / theirs / 1e6, ours / theirs, middle);
     free(file);
     free(tables[0]);
     free(tables[1]);
@@ -123,9 +124,11 @@ int main(int count, char **words)
         return 2;
     if (is_emulated())
         printf("bench: the processor is emulated: the figures say little\n");
-    struct measured one = measure(1 * MIB, repetitions);
-    measure(4 * MIB, repetitions);
-    struct measured sixteen = measure(16 * MIB, repetitions);
+    struct measured one = measure(1 * MIB, usual, repetitions);
+    measure(4 * MIB, usual, repetitions);
+    struct measured sixteen = measure(16 * MIB, usual, repetitions);
+    measure(4 * MIB, late, repetitions);
+    measure(4 * MIB, unlisted, repetitions);
     printf("both gave the same answer and the same table for each file\n");
     printf("time of a byte at 16 MiB over that at 1 MiB: library %.2f, by hand %.2f\n", sixteen.library / one.library, sixteen.by_hand / one.by_hand);
     return 0;
