@@ -1,4 +1,4 @@
-//! Holds the library's fixes against gpsbabel's track points, and judges the files that gpsbabel writes:
+//! Holds the library's fixes and declarations against gpsbabel's track points and routes, and judges the files that gpsbabel writes:
 //!     gpsbabel FOLDER FILES
 //! gpsbabel makes two tracks of an IGC file, one with the pressure altitudes and one with the GNSS altitudes; an altitude of 0 it takes for unknown.
 
@@ -14,6 +14,14 @@ use generate::{Part, Sample};
 use random::Random;
 use std::path::Path;
 use std::process::Command;
+
+/// What the library tells of a file: its date, its fixes, and of its declaration the head's answer and the degrees of each point.
+struct Flight {
+    date: [u64; 3],
+    fixes: Vec<Fix>,
+    head: Option<[u64; library::ANSWER]>,
+    points: Vec<[f64; 2]>,
+}
 
 /// A fix as the library tells it, with the degrees of its position.
 struct Fix {
@@ -37,32 +45,45 @@ fn tamed(random: &mut Random) -> Sample {
     for line in &mut sample.lines {
         match line.part {
             Part::Recorder if !line.text[1].is_ascii_alphabetic() => line.text[1] = b'X',
-            Part::Day if line.text[9] == b'7' => line.text[9] = b'6',
-            Part::Day if line.text.starts_with(b"HFDTE2902") => line.text[5] = b'1',
+            Part::Day => move_day(&mut line.text[5..11]),
+            Part::Head => move_day(&mut line.text[1..7]),
             Part::Header if &line.text[2..5] == b"DTE" => line.text[2] = b'G',
             Part::Seal if line.text.len() < 3 => line.text.push(b'x'),
             _ => {}
         }
     }
-    // A 29 February moved from the seventies to the sixties may be no day.
-    if sample.lines[1].text.starts_with(b"HFDTE2902") {
-        sample.lines[1].text[5] = b'1';
-    }
     sample
 }
 
-/// Every fix of a file by the library: checked, stepped through, read.
-fn fixes(file: &[u8]) -> ([u64; 3], Vec<Fix>) {
+/// A date of the seventies moved to the sixties; the year may have lost its 29 February.
+fn move_day(day: &mut [u8]) {
+    if day[4] == b'7' {
+        day[4] = b'6';
+        day[0] = if day.starts_with(b"2902") { b'1' } else { day[0] };
+    }
+}
+
+/// The degrees of a position that stands at 3 to 6 of an answer.
+fn degrees_of(told: &library::Told) -> [f64; 2] {
+    let v = told.answer;
+    let (number, degrees) = library::degrees((v[3], v[4] as u8), (v[5], v[6] as u8));
+    assert_eq!((told.number, number), (0, 0));
+    degrees.map(f64::from_bits)
+}
+
+/// A file by the library: checked, stepped through, each B and C line read.
+fn flight(file: &[u8]) -> Flight {
     let mut table = vec![0; file.len() / 3 + 1];
     let told = library::check_file(file, &mut table);
     assert_eq!(told.number, 0, "a valid file is accepted: {:?}", told.answer);
     let date = [told.answer[2], told.answer[3], told.answer[4]];
-    let (mut layout, mut found, mut place): (&[u8], Vec<Fix>, usize) = (b"", Vec::new(), 0);
+    let mut flight = Flight { date, fixes: Vec::new(), head: None, points: Vec::new() };
+    let (mut layout, mut place): (&[u8], usize) = (b"", 0);
     loop {
         let step = library::step(file, place);
         assert_eq!(step.number, 0);
         if step.answer[5] == 0 {
-            return (date, found);
+            return flight;
         }
         let line = &file[step.answer[2] as usize..(step.answer[2] + step.answer[3]) as usize];
         place = step.answer[4] as usize;
@@ -70,12 +91,10 @@ fn fixes(file: &[u8]) -> ([u64; 3], Vec<Fix>) {
             b'I' => layout = line,
             b'B' => {
                 let (told, heights) = library::fix(line, layout);
-                assert_eq!(told.number, 0);
-                let (v, letter) = (told.answer, |n: usize| told.answer[n] as u8);
-                let (number, degrees) = library::degrees((v[3], letter(4)), (v[5], letter(6)));
-                assert_eq!(number, 0);
-                found.push(Fix { seconds: v[2], degrees: degrees.map(f64::from_bits), heights });
+                flight.fixes.push(Fix { seconds: told.answer[2], degrees: degrees_of(&told), heights });
             }
+            b'C' if flight.head.is_none() => flight.head = Some(library::head(line).answer),
+            b'C' => flight.points.push(degrees_of(&library::point(line))),
             _ => {}
         }
     }
@@ -92,14 +111,18 @@ fn between<'a>(text: &'a str, open: &str, close: &str) -> Option<&'a str> {
     Some(&rest[..rest.find(close)?])
 }
 
-/// The points of the track of a name; none where the file has no such track.
-fn track(gpx: &str, name: &str) -> Vec<Point> {
-    let Some(track) = gpx.split("<trk>").find(|t| t.contains(&format!("<name>{name}</name>"))) else { return Vec::new() };
-    let point = |text: &str| Point {
+/// What a point's text says, from its element's name on.
+fn point(text: &str) -> Point {
+    Point {
         degrees: ["lat=\"", "lon=\""].map(|open| between(text, open, "\"").unwrap().parse().unwrap()),
         height: between(text, "<ele>", "</ele>").map(|h| h.parse().unwrap()),
         time: between(text, "<time>", "</time>").unwrap().to_string(),
-    };
+    }
+}
+
+/// The points of the track of a name; none where the file has no such track.
+fn track(gpx: &str, name: &str) -> Vec<Point> {
+    let Some(track) = gpx.split("<trk>").find(|t| t.contains(&format!("<name>{name}</name>"))) else { return Vec::new() };
     track.split("<trkpt").skip(1).map(point).collect()
 }
 
@@ -114,6 +137,32 @@ fn next_day([day, month, year]: [u64; 3]) -> [u64; 3] {
     }
 }
 
+fn time_text([day, month, year]: [u64; 3], clock: u64) -> String {
+    format!("{year:04}-{month:02}-{day:02}T{:02}:{:02}:{:02}Z", clock / 3600, clock / 60 % 60, clock % 60)
+}
+
+/// Whether degrees are the same as far as gpsbabel prints them.
+fn near(theirs: [f64; 2], ours: [f64; 2]) -> bool {
+    theirs.iter().zip(ours).all(|(t, o)| (t - o).abs() < 0.6e-9)
+}
+
+/// Holds a declaration against gpsbabel's route: its task number is the name, its date and time stand at each point. How many points were held.
+fn hold_route(gpx: &str, flight: &Flight) -> usize {
+    let Some(head) = flight.head else {
+        assert!(!gpx.contains("<rte>"), "a route where nothing was declared");
+        return 0;
+    };
+    assert_eq!(between(gpx, "<name>", "</name>"), Some(format!("{:04}", head[9]).as_str()), "task number");
+    let points: Vec<Point> = gpx.split("<rtept").skip(1).map(point).collect();
+    assert_eq!((points.len(), flight.points.len() as u64), (flight.points.len(), head[10] + 4), "points of the declaration");
+    let time = time_text([head[2], head[3], head[4]], head[5]);
+    for (theirs, ours) in points.iter().zip(&flight.points) {
+        assert!(near(theirs.degrees, *ours), "{:?} and {ours:?}", theirs.degrees);
+        assert_eq!(theirs.time, time, "time of the declaration");
+    }
+    points.len()
+}
+
 /// Holds fixes against both tracks; how many points were held, and how many of them with an altitude.
 fn hold_tracks(gpx: &str, date: [u64; 3], fixes: &[Fix]) -> (usize, usize) {
     let (mut points, mut heights) = (0, 0);
@@ -126,11 +175,8 @@ fn hold_tracks(gpx: &str, date: [u64; 3], fixes: &[Fix]) -> (usize, usize) {
                 day = next_day(day);
             }
             clock = fix.seconds;
-            let time = format!("{:04}-{:02}-{:02}T{:02}:{:02}:{:02}Z", day[2], day[1], day[0], clock / 3600, clock / 60 % 60, clock % 60);
-            assert_eq!(point.time, time, "time of point {n} of {name}");
-            for (theirs, ours) in point.degrees.iter().zip(fix.degrees) {
-                assert!((theirs - ours).abs() < 0.6e-9, "point {n} of {name}: {theirs} and {ours}");
-            }
+            assert_eq!(point.time, time_text(day, clock), "time of point {n} of {name}");
+            assert!(near(point.degrees, fix.degrees), "point {n} of {name}: {:?} and {:?}", point.degrees, fix.degrees);
             let height = (fix.heights[which] != 0).then_some(f64::from(fix.heights[which]));
             assert_eq!(point.height, height, "altitude of point {n} of {name}");
             heights += usize::from(height.is_some());
@@ -217,27 +263,33 @@ fn hold_tasks(folder: &str) {
 fn main() {
     let words: Vec<String> = std::env::args().collect();
     let (folder, files): (&str, u64) = (&words[1], words[2].parse().expect("a number of files"));
-    if library::check_file(b"", &mut []).number == library::NOT_THERE || library::fix(b"", b"").0.number == library::NOT_THERE {
-        println!("with gpsbabel: left out: the archive has no fixes yet");
+    let lines = [library::fix(b"", b"").0.number, library::head(b"").number, library::point(b"").number];
+    let asked = [library::check_file(b"", &mut []).number, library::degrees((0, 0), (0, 0)).0, lines[0], lines[1], lines[2]];
+    if asked.contains(&library::NOT_THERE) {
+        println!("with gpsbabel: left out: the archive has not got all that this asks");
         return;
     }
-    let (mut points, mut heights, mut verdicts) = (0, 0, std::collections::BTreeMap::new());
+    let (mut points, mut heights, mut declared, mut verdicts) = (0, 0, 0, std::collections::BTreeMap::new());
     for n in 0..files {
         let file = tamed(&mut Random::new(n)).bytes();
         let path = |end: &str| Path::new(folder).join(end).to_str().unwrap().to_string();
         let (igc, gpx, again) = (path("file.igc"), path("file.gpx"), path("again.igc"));
         std::fs::write(&igc, &file).unwrap();
         babel(&["-t", "-i", "igc", "-f", &igc, "-o", "gpx", "-F", &gpx, "-o", "igc", "-F", &again]);
-        let (date, fixes) = fixes(&file);
-        let held = hold_tracks(&std::fs::read_to_string(&gpx).unwrap(), date, &fixes);
+        let flight = flight(&file);
+        let held = hold_tracks(&std::fs::read_to_string(&gpx).unwrap(), flight.date, &flight.fixes);
         points += held.0;
         heights += held.1;
+        babel(&["-r", "-i", "igc", "-f", &igc, "-o", "gpx", "-F", &gpx]);
+        declared += hold_route(&std::fs::read_to_string(&gpx).unwrap(), &flight);
         let written = std::fs::read(&again).unwrap();
         let verdict = judged(&written);
         assert_eq!(verdict, expected(&written), "the rules and the library, of what gpsbabel wrote of file {n}");
         *verdicts.entry(verdict.0).or_insert(0) += 1;
     }
-    println!("with gpsbabel: {files} files, {points} track points as our fixes, {heights} of them with an altitude");
+    println!(
+        "with gpsbabel: {files} files: {points} track points as our fixes, {heights} of them with an altitude; {declared} points of declarations as ours"
+    );
     let each: Vec<String> =
         verdicts.iter().map(|(n, c)| if *n == 0 { format!("{c} accepted") } else { format!("{c} refused with {n}") }).collect();
     println!("with gpsbabel: the files it wrote of them, as the rules say: {}", each.join(", "));
