@@ -146,7 +146,8 @@ fn near(theirs: [f64; 2], ours: [f64; 2]) -> bool {
     theirs.iter().zip(ours).all(|(t, o)| (t - o).abs() < 0.6e-9)
 }
 
-/// Holds a declaration against gpsbabel's route: its task number is the name, its date and time stand at each point. How many points were held.
+/// Holds a declaration against gpsbabel's route: its task number is the name, its date and time stand at each point, and a point
+/// at 0, 0 is left out as not given. How many points were held.
 fn hold_route(gpx: &str, flight: &Flight) -> usize {
     let Some(head) = flight.head else {
         assert!(!gpx.contains("<rte>"), "a route where nothing was declared");
@@ -154,9 +155,11 @@ fn hold_route(gpx: &str, flight: &Flight) -> usize {
     };
     assert_eq!(between(gpx, "<name>", "</name>"), Some(format!("{:04}", head[9]).as_str()), "task number");
     let points: Vec<Point> = gpx.split("<rtept").skip(1).map(point).collect();
-    assert_eq!((points.len(), flight.points.len() as u64), (flight.points.len(), head[10] + 4), "points of the declaration");
+    assert_eq!(flight.points.len() as u64, head[10] + 4, "points of the declaration");
+    let placed: Vec<[f64; 2]> = flight.points.iter().copied().filter(|p| *p != [0.0, 0.0]).collect();
+    assert_eq!(points.len(), placed.len(), "points of the route");
     let time = time_text([head[2], head[3], head[4]], head[5]);
-    for (theirs, ours) in points.iter().zip(&flight.points) {
+    for (theirs, ours) in points.iter().zip(&placed) {
         assert!(near(theirs.degrees, *ours), "{:?} and {ours:?}", theirs.degrees);
         assert_eq!(theirs.time, time, "time of the declaration");
     }
@@ -244,8 +247,16 @@ const CHANGES: [(&str, &str, (u32, u64, u64)); 9] = [
     ("12:00:05", "00:00:00", (14, 12, 2)),
 ];
 
+/// The version whose lines the answers above were worked out for.
+const VERSION: &str = "1.8.0";
+
 /// Files that gpsbabel writes of a task and a track, each with its answer.
 fn hold_tasks(folder: &str) {
+    let said = Command::new("gpsbabel").arg("-V").output().expect("gpsbabel can be started");
+    if !String::from_utf8_lossy(&said.stdout).contains(VERSION) {
+        println!("with gpsbabel: its files of a task and a track are left out: their answers were worked out for version {VERSION}");
+        return;
+    }
     let (from, to) = (format!("{folder}/task.gpx"), format!("{folder}/task.igc"));
     for (old, new, answer) in CHANGES {
         std::fs::write(&from, TASK.replace(old, new)).unwrap();
