@@ -1,6 +1,6 @@
 /* Measures the library's check against the one written by hand in C, on the same files, one after the other in one run:
        drive [REPETITIONS]
-   Prints bytes per second of each, their ratio, and how the time of a byte grows with the size. Ends with status 1 where the two give different answers. */
+   Prints bytes per second of each, their ratio, how the time of a byte grows with the size, and what a line's readers take. Ends with status 1 where the two give different answers. */
 #define _POSIX_C_SOURCE 200809L
 #include <cpuid.h>
 #include <stdio.h>
@@ -117,6 +117,34 @@ static struct measured measure(size_t size, const char *columns, int repetitions
     return (struct measured){ours / length, theirs / length};
 }
 
+/* One fix, one column and one column's number, each asked of the same B line; nanoseconds for a call. */
+static void measure_readers(void)
+{
+    static const char line[] = "B1200005130000N00015000WA001000012001208123";
+    const uint8_t *text = (const uint8_t *)line, *layout = (const uint8_t *)usual;
+    enum { CALLS = 200000 };
+    uint64_t answer[HIVE_ANSWER];
+    int32_t heights[HIVE_HEIGHTS];
+    int64_t number[HIVE_NUMBER];
+    uint32_t refused = 0;
+    double began = now();
+    for (int n = 0; n < CALLS; n++)
+        refused |= hive_fix(text, strlen(line), layout, strlen(usual), answer, HIVE_ANSWER, heights, HIVE_HEIGHTS);
+    double fixes = now();
+    for (int n = 0; n < CALLS; n++)
+        refused |= hive_column(text, strlen(line), layout, strlen(usual), 'E', 'N', 'L', answer, HIVE_ANSWER);
+    double columns = now();
+    for (int n = 0; n < CALLS; n++)
+        refused |= hive_column_number(text, strlen(line), layout, strlen(usual), 'E', 'N', 'L', answer, HIVE_ANSWER, number, HIVE_NUMBER);
+    double numbers = now();
+    if (refused || number[0] != 123) {
+        printf("bench: FAILED: a reader refuses\n");
+        exit(1);
+    }
+    printf("a fix read from its line in %.0f ns, a column found in %.0f ns, a column's number in %.0f ns\n", (fixes - began) / CALLS * 1e9,
+           (columns - fixes) / CALLS * 1e9, (numbers - columns) / CALLS * 1e9);
+}
+
 int main(int count, char **words)
 {
     int repetitions = count > 1 ? atoi(words[1]) : 15;
@@ -131,5 +159,6 @@ int main(int count, char **words)
     measure(4 * MIB, unlisted, repetitions);
     printf("both gave the same answer and the same table for each file\n");
     printf("time of a byte at 16 MiB over that at 1 MiB: library %.2f, by hand %.2f\n", sixteen.library / one.library, sixteen.by_hand / one.by_hand);
+    measure_readers();
     return 0;
 }
