@@ -1,4 +1,4 @@
-//! Holds the library against a second reading of document 01 on generated files, valid and damaged:
+//! Holds the library against an independent reading of document 01 on generated files, valid and damaged:
 //!     compare [--seed N] [--files N] [--out FILE]
 //! Stops at the first difference, with that file's bytes in FILE. Fails too where some refusal number from 1 to 16 was never met.
 

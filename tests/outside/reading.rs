@@ -1,4 +1,4 @@
-//! The rules of document 01 read a second time, in plain Rust: what a file, a line, a column says, or which refusal it meets.
+//! The rules of document 01 read independently, in plain Rust: what a file, a line, a column says, or which refusal it meets.
 //! Written from the document alone, so that a mistake in the library's own definitions is not made here again.
 
 /// The most bytes a file may have.
