@@ -99,8 +99,10 @@ pub fn by_number(tally: &mut Tally, random: &mut Random, file: &[u8], table: &[u
         hold(table, n)?;
     }
     hold(table, usize::MAX)?;
-    let places = [random.below(file.len() + 3) as u32, file.len() as u32, 0];
-    for n in 1..=3 {
+    // Places that no check gives: any place, the end, the first byte, and just past an LF with no CR before it.
+    let lone = (1..file.len()).find(|&n| file[n] == b'\n' && file[n - 1] != b'\r').unwrap_or(0);
+    let places = [random.below(file.len() + 3) as u32, file.len() as u32, 0, lone as u32 + 1];
+    for n in 1..=places.len() {
         hold(&places, n)?;
     }
     Ok(())
