@@ -274,12 +274,6 @@ fn hold_tasks(folder: &str) {
 fn main() {
     let words: Vec<String> = std::env::args().collect();
     let (folder, files): (&str, u64) = (&words[1], words[2].parse().expect("a number of files"));
-    let lines = [library::fix(b"", b"").0.number, library::head(b"").number, library::point(b"").number];
-    let asked = [library::check_file(b"", &mut []).number, library::degrees((0, 0), (0, 0)).0, lines[0], lines[1], lines[2]];
-    if asked.contains(&library::NOT_THERE) {
-        println!("with gpsbabel: left out: the archive has not got all that this asks");
-        return;
-    }
     let (mut points, mut heights, mut declared, mut verdicts) = (0, 0, 0, std::collections::BTreeMap::new());
     for n in 0..files {
         let file = tamed(&mut Random::new(n)).bytes();

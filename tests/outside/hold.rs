@@ -9,7 +9,7 @@ use crate::reading::{self, Answer, B_START, Date, Fix, Head, K_START, Layout, Po
 
 pub type Held<T> = Result<T, String>;
 
-/// How many answers of each operation were held; an operation that the archive has not got is left out.
+/// How many answers of each operation were held, and with which numbers.
 #[derive(Default)]
 pub struct Tally {
     pub answers: BTreeMap<&'static str, u64>,
@@ -18,9 +18,6 @@ pub struct Tally {
 
 impl Tally {
     fn same<T: PartialEq + Debug>(&mut self, operation: &'static str, asked: &dyn Debug, number: u32, ours: T, theirs: T) -> Held<()> {
-        if number == library::NOT_THERE {
-            return Ok(());
-        }
         *self.answers.entry(operation).or_default() += 1;
         *self.refusals.entry((operation, number)).or_default() += 1;
         if ours == theirs {
@@ -76,10 +73,8 @@ pub fn check(tally: &mut Tally, file: &[u8], entries: usize) -> Held<(Answer<rea
         let raw = check(file, &mut ours);
         let asked = format!("a table of {entries} entries");
         tally.same(name, &asked, raw.number, raw, told(&answer, values))?;
-        if raw.number != library::NOT_THERE {
-            let first = ours.iter().zip(&theirs).position(|(a, b)| a != b);
-            tally.same(name, &"its table", raw.number, first.map(|n| (n, ours[n])), first.map(|n| (n, theirs[n])))?;
-        }
+        let first = ours.iter().zip(&theirs).position(|(a, b)| a != b);
+        tally.same(name, &"its table", raw.number, first.map(|n| (n, ours[n])), first.map(|n| (n, theirs[n])))?;
     }
     Ok((answer, theirs))
 }

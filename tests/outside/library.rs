@@ -2,9 +2,6 @@
 
 pub const ANSWER: usize = 12;
 
-/// The number of a stand-in for an operation that the archive has not got (tests/outside/run puts it there).
-pub const NOT_THERE: u32 = 0xFFFF;
-
 /// What stands in lent memory before a call, so that an entry left unset shows.
 pub const BEFORE: u64 = 0x5A5A_5A5A_5A5A_5A5A;
 
@@ -321,7 +318,7 @@ pub fn write_point(latitude: (u64, u8), longitude: (u64, u8), text: &[u8], place
     })
 }
 
-/// Every operation that is held.
+/// Every operation that a run must have asked.
 pub const OPERATIONS: [&str; 19] = [
     "hive_check",
     "hive_line",
