@@ -1,0 +1,19 @@
+/* The check of a whole IGC file by the rules of document 01, written by hand in C to measure the library against. */
+#ifndef BENCH_CHECK_H
+#define BENCH_CHECK_H
+
+#include <stddef.h>
+#include <stdint.h>
+
+/* The answer of a check: the number is 0 where the file is accepted, else line and byte say where it is refused; the values are 0 where refused. */
+struct answer {
+    uint32_t number, line, byte;
+    uint32_t day, month, year;
+    uint32_t lines, b_lines, k_lines;
+    uint32_t b_length, k_length;
+};
+
+/* Checks a file; the table gets the offset of each good line, and its other entries stay. */
+struct answer check(const uint8_t *file, size_t length, uint32_t *table, size_t entries);
+
+#endif

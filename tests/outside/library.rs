@@ -1,0 +1,342 @@
+//! The library as C has it (c/hivebasket.h), with nothing added: the number returned and everything that was lent, as it stands afterwards.
+
+pub const ANSWER: usize = 12;
+
+/// What stands in lent memory before a call, so that an entry left unset shows.
+pub const BEFORE: u64 = 0x5A5A_5A5A_5A5A_5A5A;
+
+/// A number returned and an answer.
+#[derive(Clone, Copy, PartialEq, Eq, Debug)]
+pub struct Told {
+    pub number: u32,
+    pub answer: [u64; ANSWER],
+}
+
+mod c {
+    unsafe extern "C" {
+        pub fn hive_check(f: *const u8, fl: usize, t: *mut u32, tl: usize, a: *mut u64, al: usize) -> u32;
+        pub fn hive_line(f: *const u8, fl: usize, t: *const u32, tl: usize, n: usize, a: *mut u64, al: usize) -> u32;
+        pub fn hive_step(f: *const u8, fl: usize, place: usize, a: *mut u64, al: usize) -> u32;
+        pub fn hive_fix(s: *const u8, sl: usize, y: *const u8, yl: usize, a: *mut u64, al: usize, h: *mut i32, hl: usize) -> u32;
+        pub fn hive_extra(s: *const u8, sl: usize, y: *const u8, yl: usize, a: *mut u64, al: usize) -> u32;
+        pub fn hive_column(s: *const u8, sl: usize, y: *const u8, yl: usize, c0: u8, c1: u8, c2: u8, a: *mut u64, al: usize) -> u32;
+        pub fn hive_column_number(
+            s: *const u8,
+            sl: usize,
+            y: *const u8,
+            yl: usize,
+            c0: u8,
+            c1: u8,
+            c2: u8,
+            a: *mut u64,
+            al: usize,
+            n: *mut i64,
+            nl: usize,
+        ) -> u32;
+        pub fn hive_column_at(y: *const u8, yl: usize, n: usize, a: *mut u64, al: usize) -> u32;
+        pub fn hive_presence(y: *const u8, yl: usize, a: *mut u64, al: usize) -> u32;
+        pub fn hive_degrees(lat: u64, latl: u8, lon: u64, lonl: u8, d: *mut f64, dl: usize) -> u32;
+        pub fn hive_write_fix(
+            seconds: u32,
+            lat: u64,
+            latl: u8,
+            lon: u64,
+            lonl: u8,
+            validity: u8,
+            pressure: i32,
+            gnss: i32,
+            c: *const u8,
+            cl: usize,
+            y: *const u8,
+            yl: usize,
+            place: usize,
+            o: *mut u8,
+            ol: usize,
+            a: *mut u64,
+            al: usize,
+        ) -> u32;
+        pub fn hive_write_extra(
+            seconds: u32,
+            c: *const u8,
+            cl: usize,
+            y: *const u8,
+            yl: usize,
+            place: usize,
+            o: *mut u8,
+            ol: usize,
+            a: *mut u64,
+            al: usize,
+        ) -> u32;
+        pub fn hive_date(s: *const u8, sl: usize, a: *mut u64, al: usize) -> u32;
+        pub fn hive_event(s: *const u8, sl: usize, a: *mut u64, al: usize) -> u32;
+        pub fn hive_satellites(s: *const u8, sl: usize, a: *mut u64, al: usize) -> u32;
+        pub fn hive_head(s: *const u8, sl: usize, a: *mut u64, al: usize) -> u32;
+        pub fn hive_point(s: *const u8, sl: usize, a: *mut u64, al: usize) -> u32;
+        pub fn hive_write_head(
+            day: u8,
+            month: u8,
+            year: u16,
+            seconds: u32,
+            flight_day: u8,
+            flight_month: u8,
+            flight_year: u16,
+            task: u16,
+            turns: u8,
+            t: *const u8,
+            tl: usize,
+            place: usize,
+            o: *mut u8,
+            ol: usize,
+            a: *mut u64,
+            al: usize,
+        ) -> u32;
+        pub fn hive_write_point(
+            lat: u64,
+            latl: u8,
+            lon: u64,
+            lonl: u8,
+            t: *const u8,
+            tl: usize,
+            place: usize,
+            o: *mut u8,
+            ol: usize,
+            a: *mut u64,
+            al: usize,
+        ) -> u32;
+    }
+}
+
+/// The answer of the check in C that the library is measured against (bench/check.h).
+#[repr(C)]
+struct ByHand {
+    number: u32,
+    place: [u32; 2],
+    values: [u32; 8],
+}
+
+unsafe extern "C" {
+    fn check(file: *const u8, length: usize, table: *mut u32, entries: usize) -> ByHand;
+}
+
+/// The check in C, told as the library tells its own.
+pub fn check_by_hand(file: &[u8], table: &mut [u32]) -> Told {
+    let said = unsafe { check(file.as_ptr(), file.len(), table.as_mut_ptr(), table.len()) };
+    let mut answer = [0; ANSWER];
+    for (n, value) in said.place.into_iter().chain(said.values).enumerate() {
+        answer[n] = value.into();
+    }
+    Told { number: said.number, answer }
+}
+
+/// One call with an answer lent to it.
+fn told(call: impl FnOnce(*mut u64, usize) -> u32) -> Told {
+    let mut answer = [BEFORE; ANSWER];
+    let number = call(answer.as_mut_ptr(), ANSWER);
+    Told { number, answer }
+}
+
+pub fn check_file(file: &[u8], table: &mut [u32]) -> Told {
+    told(|a, al| unsafe { c::hive_check(file.as_ptr(), file.len(), table.as_mut_ptr(), table.len(), a, al) })
+}
+
+/// The check with an answer of any length, which the library must refuse where it is not the one it asks for.
+pub fn check_answering(file: &[u8], table: &mut [u32], answer: &mut [u64]) -> u32 {
+    unsafe { c::hive_check(file.as_ptr(), file.len(), table.as_mut_ptr(), table.len(), answer.as_mut_ptr(), answer.len()) }
+}
+
+pub fn line(file: &[u8], table: &[u32], number: usize) -> Told {
+    told(|a, al| unsafe { c::hive_line(file.as_ptr(), file.len(), table.as_ptr(), table.len(), number, a, al) })
+}
+
+pub fn step(file: &[u8], place: usize) -> Told {
+    told(|a, al| unsafe { c::hive_step(file.as_ptr(), file.len(), place, a, al) })
+}
+
+pub fn fix(line: &[u8], layout: &[u8]) -> (Told, [i32; 2]) {
+    let mut heights = [0x5A5A_5A5A; 2];
+    let h = heights.as_mut_ptr();
+    let t = told(|a, al| unsafe { c::hive_fix(line.as_ptr(), line.len(), layout.as_ptr(), layout.len(), a, al, h, 2) });
+    (t, heights)
+}
+
+pub fn note(line: &[u8], layout: &[u8]) -> Told {
+    told(|a, al| unsafe { c::hive_extra(line.as_ptr(), line.len(), layout.as_ptr(), layout.len(), a, al) })
+}
+
+pub fn column(line: &[u8], layout: &[u8], code: [u8; 3]) -> Told {
+    let [x, y, z] = code;
+    told(|a, al| unsafe { c::hive_column(line.as_ptr(), line.len(), layout.as_ptr(), layout.len(), x, y, z, a, al) })
+}
+
+pub fn column_number(line: &[u8], layout: &[u8], code: [u8; 3]) -> (Told, i64) {
+    let [x, y, z] = code;
+    let mut number = BEFORE as i64;
+    let n = &raw mut number;
+    let t = told(|a, al| unsafe { c::hive_column_number(line.as_ptr(), line.len(), layout.as_ptr(), layout.len(), x, y, z, a, al, n, 1) });
+    (t, number)
+}
+
+pub fn column_at(layout: &[u8], n: usize) -> Told {
+    told(|a, al| unsafe { c::hive_column_at(layout.as_ptr(), layout.len(), n, a, al) })
+}
+
+pub fn presence(layout: &[u8]) -> Told {
+    told(|a, al| unsafe { c::hive_presence(layout.as_ptr(), layout.len(), a, al) })
+}
+
+/// The bits of both degrees, so that minus zero is not taken for zero.
+pub fn degrees(latitude: (u64, u8), longitude: (u64, u8)) -> (u32, [u64; 2]) {
+    let mut degrees = [f64::from_bits(BEFORE); 2];
+    let number = unsafe { c::hive_degrees(latitude.0, latitude.1, longitude.0, longitude.1, degrees.as_mut_ptr(), 2) };
+    (number, degrees.map(f64::to_bits))
+}
+
+/// A line reader that takes no layout.
+pub fn date(line: &[u8]) -> Told {
+    told(|a, al| unsafe { c::hive_date(line.as_ptr(), line.len(), a, al) })
+}
+
+pub fn event(line: &[u8]) -> Told {
+    told(|a, al| unsafe { c::hive_event(line.as_ptr(), line.len(), a, al) })
+}
+
+pub fn satellites(line: &[u8]) -> Told {
+    told(|a, al| unsafe { c::hive_satellites(line.as_ptr(), line.len(), a, al) })
+}
+
+pub fn head(line: &[u8]) -> Told {
+    told(|a, al| unsafe { c::hive_head(line.as_ptr(), line.len(), a, al) })
+}
+
+pub fn point(line: &[u8]) -> Told {
+    told(|a, al| unsafe { c::hive_point(line.as_ptr(), line.len(), a, al) })
+}
+
+/// What a fix is written from.
+#[derive(Clone, Copy, Debug)]
+pub struct FixValues {
+    pub seconds: u32,
+    pub latitude: (u64, u8),
+    pub longitude: (u64, u8),
+    pub validity: u8,
+    pub pressure: i32,
+    pub gnss: i32,
+}
+
+pub fn write_fix(v: &FixValues, columns: &[u8], layout: &[u8], place: usize, out: &mut [u8]) -> Told {
+    told(|a, al| unsafe {
+        c::hive_write_fix(
+            v.seconds,
+            v.latitude.0,
+            v.latitude.1,
+            v.longitude.0,
+            v.longitude.1,
+            v.validity,
+            v.pressure,
+            v.gnss,
+            columns.as_ptr(),
+            columns.len(),
+            layout.as_ptr(),
+            layout.len(),
+            place,
+            out.as_mut_ptr(),
+            out.len(),
+            a,
+            al,
+        )
+    })
+}
+
+pub fn write_note(seconds: u32, columns: &[u8], layout: &[u8], place: usize, out: &mut [u8]) -> Told {
+    told(|a, al| unsafe {
+        c::hive_write_extra(
+            seconds,
+            columns.as_ptr(),
+            columns.len(),
+            layout.as_ptr(),
+            layout.len(),
+            place,
+            out.as_mut_ptr(),
+            out.len(),
+            a,
+            al,
+        )
+    })
+}
+
+/// A date as day, month and year.
+pub type Day = (u8, u8, u16);
+
+/// What a declaration's head is written from; a flight date of zeros is one that is not given.
+#[derive(Clone, Copy, Debug)]
+pub struct HeadValues {
+    pub declared: Day,
+    pub seconds: u32,
+    pub flight: Day,
+    pub task: u16,
+    pub turns: u8,
+}
+
+pub fn write_head(v: &HeadValues, text: &[u8], place: usize, out: &mut [u8]) -> Told {
+    told(|a, al| unsafe {
+        c::hive_write_head(
+            v.declared.0,
+            v.declared.1,
+            v.declared.2,
+            v.seconds,
+            v.flight.0,
+            v.flight.1,
+            v.flight.2,
+            v.task,
+            v.turns,
+            text.as_ptr(),
+            text.len(),
+            place,
+            out.as_mut_ptr(),
+            out.len(),
+            a,
+            al,
+        )
+    })
+}
+
+pub fn write_point(latitude: (u64, u8), longitude: (u64, u8), text: &[u8], place: usize, out: &mut [u8]) -> Told {
+    told(|a, al| unsafe {
+        c::hive_write_point(
+            latitude.0,
+            latitude.1,
+            longitude.0,
+            longitude.1,
+            text.as_ptr(),
+            text.len(),
+            place,
+            out.as_mut_ptr(),
+            out.len(),
+            a,
+            al,
+        )
+    })
+}
+
+/// Every operation that a run must have asked.
+pub const OPERATIONS: [&str; 19] = [
+    "hive_check",
+    "hive_line",
+    "hive_step",
+    "hive_fix",
+    "hive_extra",
+    "hive_column",
+    "hive_column_number",
+    "hive_column_at",
+    "hive_presence",
+    "hive_degrees",
+    "hive_write_fix",
+    "hive_write_extra",
+    "hive_date",
+    "hive_event",
+    "hive_satellites",
+    "hive_head",
+    "hive_point",
+    "hive_write_head",
+    "hive_write_point",
+];
