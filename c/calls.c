@@ -129,6 +129,11 @@ static void writers(void) {
     say_out("write fix, answer of 11", hive_write_fix(43200, 3090000, 'N', 15000, 'W', 'A', -12, 120, TEXT("01208"), TEXT(I), 3, out, sizeof out, answer, 11));
     say_out("write extra", hive_write_extra(43205, TEXT("123"), TEXT(J), 0, out, sizeof out, answer, HIVE_ANSWER));
     say_out("write extra, its column too short", hive_write_extra(43205, TEXT("12"), TEXT(J), 0, out, sizeof out, answer, HIVE_ANSWER));
+    say_out("write layout", hive_write_layout(TEXT(I), 2, out, sizeof out, answer, HIVE_ANSWER));
+    say_out("write layout, no room", hive_write_layout(TEXT(J), 37, out, sizeof out, answer, HIVE_ANSWER));
+    say_out("write layout, a gap", hive_write_layout(TEXT("I023638FXA4041SIU"), 60, out, sizeof out, answer, HIVE_ANSWER));
+    say_out("write layout, a B line", hive_write_layout(TEXT(B), 0, out, sizeof out, answer, HIVE_ANSWER));
+    say_out("write layout, no bytes", hive_write_layout(NULL, 0, 0, out, sizeof out, answer, HIVE_ANSWER));
     say_out("write head", hive_write_head(15, 7, 2024, 34200, 0, 0, 0, 1, 2, NULL, 0, 0, out, sizeof out, answer, HIVE_ANSWER));
     say_out("write head, no such flight date", hive_write_head(15, 7, 2024, 34200, 0, 7, 2024, 1, 2, NULL, 0, 0, out, sizeof out, answer, HIVE_ANSWER));
     say_out("write point", hive_write_point(3090000, 'N', 15000, 'W', TEXT("HOME"), 1, out, sizeof out, answer, HIVE_ANSWER));

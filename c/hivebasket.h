@@ -180,6 +180,12 @@ uint32_t hive_write_extra(uint32_t seconds,
                          uint8_t *out, size_t out_length,
                          uint64_t *answer, size_t answer_length);
 
+/* An I or J line, given as its text: the line and its CR LF, where it tells a layout. */
+uint32_t hive_write_layout(const uint8_t *layout, size_t layout_length,
+                           size_t place,
+                           uint8_t *out, size_t out_length,
+                           uint64_t *answer, size_t answer_length);
+
 /* ---- further readers: 17 for another kind of line, then 7 to 9 with the byte */
 
 /* The date of a file's second line.

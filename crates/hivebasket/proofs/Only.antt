@@ -7,7 +7,7 @@ use lib.Ieee.{Float}
 use lib.IntN.{ℤ}
 use Rattle.hivebasket.specs.Answers.{Answered}
 use Rattle.hivebasket.specs.Calls.{CheckAnswered, LineAnswered, StepAnswered, FixAnswered, ExtraAnswered, ColumnAnswered, NumberAnswered, EntryAnswered, PresenceAnswered, DegreesAnswered, DateAnswered, EventAnswered, SatellitesAnswered, HeadAnswered, PointAnswered}
-use Rattle.hivebasket.specs.Writing.{WriteAnswered, WriteFixAnswered, WriteExtraAnswered, WriteHeadAnswered, WritePointAnswered}
+use Rattle.hivebasket.specs.Writing.{WriteAnswered, WriteFixAnswered, WriteExtraAnswered, WriteLayoutAnswered, WriteHeadAnswered, WritePointAnswered}
 use Rattle.rules.specs.Refusals.{Said}
 use Rattle.rules.specs.declared.Fix.{Fix}
 use Rattle.rules.specs.declared.Head.{Head}
@@ -74,6 +74,9 @@ module _ (answer : List ℕ) (r r′ : ℕ) (after after′ : List ℕ) where
 
   pub only-write-extra-answered : (t : ℕ) (columns l : List ℕ) (place : ℕ) (out now now′ : List ℕ) → WriteExtraAnswered t columns l place out answer r now after → WriteExtraAnswered t columns l place out answer r′ now′ after′ → (r ≡ r′) × (now ≡ now′) × (after ≡ after′)
   only-write-extra-answered t columns l place out now now′ = only-write-answered out now now′
+
+  pub only-write-layout-answered : (l : List ℕ) (place : ℕ) (out now now′ : List ℕ) → WriteLayoutAnswered l place out answer r now after → WriteLayoutAnswered l place out answer r′ now′ after′ → (r ≡ r′) × (now ≡ now′) × (after ≡ after′)
+  only-write-layout-answered l place out now now′ = only-write-answered out now now′
 
   pub only-write-head-answered : (h : Head) (text : List ℕ) (place : ℕ) (out now now′ : List ℕ) → WriteHeadAnswered h text place out answer r now after → WriteHeadAnswered h text place out answer r′ now′ after′ → (r ≡ r′) × (now ≡ now′) × (after ≡ after′)
   only-write-head-answered h text place out now now′ = only-write-answered out now now′

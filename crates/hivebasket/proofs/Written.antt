@@ -5,21 +5,24 @@ use mathlib.Core.List.{List}
 use mathlib.Core.Path.{_≡_, refl, _∙_}
 use lib.Ieee.{Float}
 use lib.ListN.{length}
+use native.Mathlib.Omega.{arith}
 use borrow.Author.Tests.{eq-eqb, ne-eqb}
 use Rattle.rules.specs.Degrees.{degreesTold, degreesOf}
-use Rattle.rules.specs.Layouts.{LayoutTold}
+use Rattle.rules.specs.Layouts.{LayoutTold, emptyLayout}
 use Rattle.rules.specs.Promises.{Written}
-use Rattle.rules.specs.Refusals.{Said, refusal, andThen}
+use Rattle.rules.specs.Refusals.{Said, says, refuses, refusal, andThen, outcomeTold, valueOr}
 use Rattle.rules.specs.Writes.{wroteTold, written, outAfter}
 use Rattle.rules.specs.declared.DegreesRead.{DegreesRead}
 use Rattle.rules.specs.declared.Layout.{Layout}
 use Rattle.rules.specs.declared.LayoutRead.{LayoutRead}
 use Rattle.rules.specs.declared.Outcome.the-variants as outcomes
 use Rattle.rules.specs.declared.Position.{Position}
+use Rattle.rules.specs.declared.Reason.the-variants.{BadValue}
 use Rattle.rules.specs.declared.Refusal.{Refusal}
 use Rattle.rules.specs.declared.Wrote.{Wrote}
 use Rattle.rules.specs.declared.Wrote.the-variants as wrote
 use Rattle.hivebasket.specs.Answers.{inNumbers, numberOf, hasRoom, Answered}
+use Rattle.hivebasket.specs.Given.{orBadValue}
 use Rattle.hivebasket.specs.Calls.{DegreesAnswered}
 use Rattle.hivebasket.specs.Values.{placeNumbers, anglesOf}
 use Rattle.hivebasket.specs.Writing.{SaidWritten, WriteAnswered}
@@ -54,6 +57,21 @@ module _ (text : List ℕ) (place : ℕ) (out : List ℕ) where
           told = given-said _ answer placeNumbers (wroteTold w) said n r answerNow (s .told) e a;
           bytes = rw (eq-eqb (length answer) 12 h) (s .bytes);
         }
+
+-- ---- a layout written from its line
+
+module _ (text : Layout → List ℕ) (good : Layout → Bool) (place : ℕ) (out : List ℕ) where
+  pub told-then : (s : Said Layout) (g : LayoutRead) → LayoutTold s g → g .outcome ≡ outcomes.Accepted → (r : Wrote) (after : List ℕ) → Written (good (g .layout)) (text (g .layout)) place out r after
+      → SaidWritten (andThen (orBadValue s) (λ l. written (good l) (text l) place out)) (text (valueOr emptyLayout s)) place out r after
+  unfolding outcomeTold
+  told-then (says v) g t e r after w = rw (← t .layout) (record { told = w .told; bytes = w .bytes })
+  told-then (refuses n l b) g t e r after w = let z : _≡_ {A = ℕ} 0 1 = cc in absurd (omega arith)
+
+  pub told-refused : (s : Said Layout) (g : LayoutRead) → LayoutTold s g → (w : Refusal) → g .outcome ≡ outcomes.Refused w → (t : List ℕ)
+      → SaidWritten (andThen (orBadValue s) (λ l. written (good l) (text l) place out)) t place out (wrote.Refused (record { reason = BadValue; line = 0; byte = 0 })) out
+  unfolding outcomeTold wroteTold outAfter
+  told-refused (says v) g l w e t = let z : _≡_ {A = ℕ} 0 1 = cc in absurd (omega arith)
+  told-refused (refuses n k b) g l w e t = record { told = refl; bytes = refl }
 
 -- ---- degrees
 

@@ -1,12 +1,15 @@
 -- The promises of the writers: the number returned, the answer and the lent output afterwards.
 use Prim.Native.Nat.{ℕ}
+use Prim.Native.Char.{code}
 use mathlib.Core.Bool.{_&&_, cond}
 use mathlib.Core.List.{List}
 use mathlib.Core.Path.{_≡_}
 use lib.Dec.{eqb}
 use lib.IntN.{ℤ}
-use Rattle.rules.specs.Refusals.{Said, andThen}
-use Rattle.rules.specs.Writes.{wroteTold, written, outAfter, fixText, isFix, extraText, isExtra, headText, isHead, pointText, isPoint}
+use Rattle.rules.specs.Layouts.{emptyLayout, firstStart, allowed}
+use Rattle.rules.specs.Reads.{layoutSaid}
+use Rattle.rules.specs.Refusals.{Said, andThen, valueOr}
+use Rattle.rules.specs.Writes.{wroteTold, written, outAfter, layoutText, fixText, isFix, extraText, isExtra, headText, isHead, pointText, isPoint}
 use Rattle.rules.specs.declared.Date.{Date}
 use Rattle.rules.specs.declared.Family.the-variants as family
 use Rattle.rules.specs.declared.Fix.{Fix}
@@ -16,7 +19,7 @@ use Rattle.rules.specs.declared.Planned.the-variants as planned
 use Rattle.rules.specs.declared.Point.{Point}
 use Rattle.rules.specs.declared.Wrote.{Wrote}
 use Rattle.hivebasket.specs.Answers.{inNumbers, hasRoom, Answered}
-use Rattle.hivebasket.specs.Given.{layoutBy}
+use Rattle.hivebasket.specs.Given.{orBadValue, layoutBy, familyBy}
 use Rattle.hivebasket.specs.Values.{placeNumbers}
 
 -- what is said of a text that is to be written, and the output afterwards
@@ -49,6 +52,15 @@ fixWritten f columns l place out = andThen (layoutBy family.B l) λ layout. writ
 unfoldable pub extraWritten : ℕ → List ℕ → List ℕ → ℕ → List ℕ → Said ℕ
 extraWritten t columns l place out = andThen (layoutBy family.K l) λ layout. written (isExtra t columns layout) (extraText t columns) place out
 
+-- an I or a J line from its text: 17 where it tells no layout, then what the writer of that layout says
+unfoldable pub layoutWritten : List ℕ → ℕ → List ℕ → Said ℕ
+layoutWritten l place out =
+    andThen (orBadValue (layoutSaid (familyBy (code "I") l) l)) λ layout.
+    written (allowed (firstStart (familyBy (code "I") l)) layout) (layoutText (familyBy (code "I") l) layout) place out
+
+unfoldable pub layoutTextBy : List ℕ → List ℕ
+layoutTextBy l = layoutText (familyBy (code "I") l) (valueOr emptyLayout (layoutSaid (familyBy (code "I") l) l))
+
 abbrev pub WriteFixAnswered : Fix → List ℕ → List ℕ → ℕ → List ℕ → List ℕ → ℕ → List ℕ → List ℕ → Type 0
 WriteFixAnswered f columns l place out answer r outNow answerNow =
     WriteAnswered (fixWritten f columns l place out) (fixText f columns) place out answer r outNow answerNow
@@ -56,6 +68,9 @@ WriteFixAnswered f columns l place out answer r outNow answerNow =
 abbrev pub WriteExtraAnswered : ℕ → List ℕ → List ℕ → ℕ → List ℕ → List ℕ → ℕ → List ℕ → List ℕ → Type 0
 WriteExtraAnswered t columns l place out answer r outNow answerNow =
     WriteAnswered (extraWritten t columns l place out) (extraText t columns) place out answer r outNow answerNow
+
+abbrev pub WriteLayoutAnswered : List ℕ → ℕ → List ℕ → List ℕ → ℕ → List ℕ → List ℕ → Type 0
+WriteLayoutAnswered l place out answer r outNow answerNow = WriteAnswered (layoutWritten l place out) (layoutTextBy l) place out answer r outNow answerNow
 
 -- "000000 means not given": so in numbers
 unfoldable pub plannedOf : Date → Planned

@@ -66,7 +66,7 @@ pub(crate) fn extra(line: &[u8], columns: &[u8]) -> TimeRead
 }
 
 // The family that a first byte tells: B for that letter, else K.
-fn family(letter: u8, line: &[u8]) -> Family
+pub(crate) fn family(letter: u8, line: &[u8]) -> Family
     ensures { λ r. ⌜ r ≡ familyBy letter (now (line .entry)) ⌝ }
 {
     if chars::byte(line, 0) == letter {

@@ -1,7 +1,7 @@
 // Lines written into a lent output.
 ghost use mathlib.Core.Path.{_≡_};
 ghost use Rattle.rules.specs.Writes.{fixText, extraText};
-ghost use Rattle.hivebasket.specs.Writing.{SaidWritten, fixOf, fixWritten, extraWritten, WriteFixAnswered, WriteExtraAnswered, plannedOf, headOf, pointOf, WriteHeadAnswered, WritePointAnswered};
+ghost use Rattle.hivebasket.specs.Writing.{SaidWritten, fixOf, fixWritten, extraWritten, layoutWritten, layoutTextBy, WriteFixAnswered, WriteExtraAnswered, WriteLayoutAnswered, plannedOf, headOf, pointOf, WriteHeadAnswered, WritePointAnswered};
 use crate::answers::give;
 use crate::given;
 use crate::values;
@@ -14,6 +14,8 @@ use rules::Outcome;
 use rules::Planned;
 use rules::Point;
 use rules::Position;
+use rules::Reason;
+use rules::Refusal;
 use rules::Wrote;
 
 fn height(metres: i32) -> Height
@@ -128,6 +130,41 @@ pub extern "C" fn hive_write_extra(
         return 17;
     }
     let wrote = write_extra(seconds, columns, layout, out, place);
+    give(answer, values::wrote(wrote))
+}
+
+// An I or a J line of the layout that its text tells.
+fn write_layout(line: &[u8], out: &mut [u8], place: usize) -> Wrote
+    ensures { λ r. ⌜ SaidWritten (layoutWritten (now (line .entry)) place (now (out .entry))) (layoutTextBy (now (line .entry))) place (now (out .entry)) r (now (out .exit)) ⌝ }
+{
+    let f = given::family(b'I', line);
+    let read = read::layout_of(f, line);
+    let outcome = read.outcome;
+    let l = read.layout;
+    if let Outcome::Refused(_) = outcome {
+        return Wrote::Refused(Refusal {
+            reason: Reason::BadValue,
+            line: 0,
+            byte: 0,
+        });
+    }
+    write::layout(f, l, out, place)
+}
+
+// An I or a J line, into an output from a place on.
+#[no_mangle]
+pub extern "C" fn hive_write_layout(
+    layout: &[u8],
+    place: usize,
+    out: &mut [u8],
+    answer: &mut [u64],
+) -> u32
+    ensures { λ r. ⌜ WriteLayoutAnswered (now (layout .entry)) place (now (out .entry)) (now (answer .entry)) r (now (out .exit)) (now (answer .exit)) ⌝ }
+{
+    if answer.len() != 12 {
+        return 17;
+    }
+    let wrote = write_layout(layout, out, place);
     give(answer, values::wrote(wrote))
 }
 

@@ -1,0 +1,17 @@
+-- `hive_write_layout` meets its contract. Assumes nothing.
+use borrow.Author.Needs.{needs}
+use Rattle.hivebasket.proofs.Written.{write-no-room, write-room}
+use Rattle.hivebasket.proofs.writers.hive_write_layout.Statement.{statement}
+use Rattle.hivebasket.proofs.writers.hive_write_layout.Tie as tie
+
+pub hive-write-layout-spec : {M : Type 1} → statement M
+hive-write-layout-spec =
+    tie.close
+    (tie.spec
+    (λ c. write-no-room _ _ _ _ _ (c .if1 .taken))
+    (λ c κs. search needs)
+    (λ c κs. search needs)
+    (λ c κs. search needs)
+    (λ c. search needs)
+    (λ c. search needs)
+    (λ c. write-room _ _ _ _ _ _ _ _ _ _ (c .before .before .before .before .before .before .before .before .before .if1 .left) (c .before .before .before .before .before .before .before .write-layout .ensures) (c .before .before .before .wrote .ensures) (c .before .before .give .ensures)))
