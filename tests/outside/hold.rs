@@ -166,7 +166,7 @@ pub fn line(tally: &mut Tally, random: &mut Random, line: &[u8], number: usize, 
         declaration(tally, random, line)?;
     }
     if all || kind == b'I' || kind == b'J' {
-        layout(tally, line)?;
+        layout(tally, random, line)?;
     }
     if all {
         let other = Layouts { fixes: given.notes, notes: given.fixes };
@@ -224,7 +224,7 @@ fn columns(tally: &mut Tally, random: &mut Random, line: &[u8], given: &[u8], la
 }
 
 /// An I or J line: each of its columns by its place, places that it has not, and the word of an I line.
-fn layout(tally: &mut Tally, line: &[u8]) -> Held<()> {
+fn layout(tally: &mut Tally, random: &mut Random, line: &[u8]) -> Held<()> {
     let start = if line.first() == Some(&b'J') { K_START } else { B_START };
     let answer = reading::read_layout(line, start);
     let count = answer.as_ref().map_or(0, |y| y.entries.len());
@@ -237,7 +237,13 @@ fn layout(tally: &mut Tally, line: &[u8]) -> Held<()> {
     let answer = reading::layout_given(line, B_START).ok_or(reading::BAD_VALUE);
     let raw = library::presence(line);
     let word = told(&answer, |y| [y.presence().0.into(), y.presence().1.into()]);
-    tally.same("hive_presence", &line, raw.number, raw, word)
+    tally.same("hive_presence", &line, raw.number, raw, word)?;
+    let (out, place) = output(random, line.len());
+    let (mut ours, mut theirs) = (out.clone(), out);
+    let raw = library::write_layout(line, place, &mut ours);
+    let answer = reading::write_layout(line, place, &mut theirs);
+    let expected = (told(&answer, |&after| [after as u64]), theirs);
+    tally.same("hive_write_layout", &(line, place), raw.number, (raw, ours), expected)
 }
 
 /// A fix's position for the map, and one that is spoiled.

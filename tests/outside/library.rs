@@ -67,6 +67,7 @@ mod c {
             a: *mut u64,
             al: usize,
         ) -> u32;
+        pub fn hive_write_layout(y: *const u8, yl: usize, place: usize, o: *mut u8, ol: usize, a: *mut u64, al: usize) -> u32;
         pub fn hive_date(s: *const u8, sl: usize, a: *mut u64, al: usize) -> u32;
         pub fn hive_event(s: *const u8, sl: usize, a: *mut u64, al: usize) -> u32;
         pub fn hive_satellites(s: *const u8, sl: usize, a: *mut u64, al: usize) -> u32;
@@ -247,6 +248,10 @@ pub fn write_fix(v: &FixValues, columns: &[u8], layout: &[u8], place: usize, out
     })
 }
 
+pub fn write_layout(text: &[u8], place: usize, out: &mut [u8]) -> Told {
+    told(|a, al| unsafe { c::hive_write_layout(text.as_ptr(), text.len(), place, out.as_mut_ptr(), out.len(), a, al) })
+}
+
 pub fn write_note(seconds: u32, columns: &[u8], layout: &[u8], place: usize, out: &mut [u8]) -> Told {
     told(|a, al| unsafe {
         c::hive_write_extra(
@@ -319,7 +324,7 @@ pub fn write_point(latitude: (u64, u8), longitude: (u64, u8), text: &[u8], place
 }
 
 /// Every operation that a run must have asked.
-pub const OPERATIONS: [&str; 19] = [
+pub const OPERATIONS: [&str; 20] = [
     "hive_check",
     "hive_line",
     "hive_step",
@@ -332,6 +337,7 @@ pub const OPERATIONS: [&str; 19] = [
     "hive_degrees",
     "hive_write_fix",
     "hive_write_extra",
+    "hive_write_layout",
     "hive_date",
     "hive_event",
     "hive_satellites",

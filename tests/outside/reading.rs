@@ -691,6 +691,13 @@ pub fn write_note(time: u32, columns: &[u8], layout: &Layout, place: usize, out:
     write(line, &time, |l| note_line(l, layout), place, out)
 }
 
+/// An I or a J line from its text: 17 where it is no such line by the rules.
+pub fn write_layout(text: &[u8], place: usize, out: &mut [u8]) -> Answer<usize> {
+    let start = if text.first() == Some(&b'I') { B_START } else { K_START };
+    read_layout(text, start).map_err(|_| BAD_VALUE)?;
+    put(text, place, out)
+}
+
 pub fn write_head(head: &Head, text: &[u8], place: usize, out: &mut [u8]) -> Answer<usize> {
     let flight = head.flight.map_or("000000".to_string(), |d| date_text(&d));
     let fixed = format!("C{}{}{flight}{:04}{:02}", date_text(&head.declared), clock_text(head.time), head.task, head.turns);
