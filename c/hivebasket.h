@@ -11,7 +11,7 @@
 
    THE NUMBER RETURNED is 0 where the call is good, else one of the refusal numbers below.
 
-   THE ANSWER is HIVE_ANSWER numbers, whatever the function:
+   THE ANSWER is HIVE_ANSWER numbers, of every function but hive_degrees:
        answer[0], answer[1]   line and byte of a refusal, counted from 1; 0 where none is told, and where the call is good
        answer[2] and on       the values, named with each function; all 0 where refused; 0 where no value is named
    An answer of another length (or heights, a number or degrees of another length than is said) is refused with 17 at once, and then nothing that is lent is changed.
@@ -19,7 +19,8 @@
    PLACES that lead into memory are told by how many bytes stand before them: text + answer[HIVE_START]. Bytes of refusals and of layouts count from 1.
 
    A LINE is given without its CR LF. A LAYOUT is given as the text of the file's own I line, for B lines, or J line, for K lines; length 0 says that the file has no such
-   line. One that is of the other kind, or breaks a rule, is 17. */
+   line. One that is of the other kind, or breaks a rule, is 17. (hive_column_at and hive_write_layout take that line itself: length 0 is 17 there, and hive_column_at
+   tells what the line is refused for.) */
 #ifndef HIVEBASKET_H
 #define HIVEBASKET_H
 

@@ -1,13 +1,13 @@
 -- Each field could be read exactly where the text of a value within its limits stands. From the laws of each field both ways. Assumes nothing.
 use Prim.Native.Nat.{ℕ, zero, suc, _+_, _≤_, _^_}
 use Prim.Native.Char.{code}
-use mathlib.Core.Bool.{Bool, true, _&&_}
+use mathlib.Core.Bool.{Bool, true, false, _&&_, _||_}
 use mathlib.Core.List.{List, [], _∷_, _++_}
-use mathlib.Core.Logic.{_↔_}
+use mathlib.Core.Logic.{_↔_, _⊎_, inl, inr}
 use mathlib.Core.Option.{Option, none, some}
 use mathlib.Core.Path.{_≡_, refl, _∙_, ap}
 use native.Mathlib.Omega.{arith}
-use borrow.Author.Tests.{lt-ltb, ltb-true, eqb-true}
+use borrow.Author.Tests.{lt-ltb, ltb-true, eqb-true, eq-eqb}
 use lib.Dec.{eqb, ltb}
 use lib.ListN.{length, getD, drop}
 use Rattle.rules.specs.Choice.{leads}
@@ -15,6 +15,7 @@ use Rattle.rules.specs.Chars.{isCode, codesAt}
 use Rattle.rules.specs.Numbers.{numberAt, digitsOf}
 use Rattle.rules.specs.Listed.{codeAt, codeText, isCodeWord}
 use Rattle.rules.specs.Lines.{isDateMark}
+use Rattle.rules.specs.Fields.{isEither}
 use Rattle.trips.proofs.Laws.{false-true, and-inv, past, byte-there, byte-here}
 use Rattle.trips.proofs.Digits.{number-there, number-here}
 use Rattle.trips.proofs.Trip.{Trip}
@@ -128,6 +129,25 @@ mark-field l = (out, in-again)
         let d = byte-here l 4 69 (w .rest) (past l 1 3 4 (70 ∷ 68 ∷ 84 ∷ []) _ refl refl (w .bytes)) in
         simp (a, b, c, d)
 
+-- ---- one of two letters
+
+either-field : (x a b : ℕ) → (isEither x a b ≡ true) ↔ ((x ≡ a) ⊎ (x ≡ b))
+unfolding isEither
+either-field x a b = (out (eqb x a) (eqb x b) refl refl, back)
+  where
+    out : (s t : Bool) → eqb x a ≡ s → eqb x b ≡ t → (s || t) ≡ true → (x ≡ a) ⊎ (x ≡ b)
+    out true t p q e = inl (eqb-true x a p)
+    out false true p q e = inr (eqb-true x b q)
+    out false false p q e = absurd (false-true e)
+
+    second : (s : Bool) → (s || true) ≡ true
+    second true = refl
+    second false = refl
+
+    back : (x ≡ a) ⊎ (x ≡ b) → (eqb x a || eqb x b) ≡ true
+    back (inl h) = rw (eq-eqb x a h)
+    back (inr h) = rw (eq-eqb x b h) (second (eqb x a))
+
 -- ---- all of them
 
 pub fields-told : FieldsTold
@@ -142,5 +162,6 @@ fields-told = record {
   number = number-field;
   word = word-field;
   codes = codes-field;
+  either = either-field;
   mark = mark-field;
 }

@@ -5,12 +5,15 @@ use Prim.Native.Char.{code}
 use mathlib.Core.Bool.{Bool, true, false, _||_, cond}
 use mathlib.Core.List.{List, [], _∷_, _++_, append-assoc, append-nil}
 use mathlib.Core.Logic.{_⊎_, inl, inr, _↔_}
+use mathlib.Core.Option.{Option, none, some}
 use mathlib.Core.Path.{_≡_, refl, sym, _∙_, ap, subst}
 use native.Mathlib.Omega.{arith}
 use borrow.Author.Tests.{le-leb, leb-true, leb-false, eqb-true, eqb-false, ne-eqb, eq-eqb, ltb-true, lt-ltb, not-false}
 use lib.Dec.{eqb, leb, ltb}
 use lib.ListN.{length, getD, length-append}
-use Rattle.rules.specs.Choice.{bytes}
+use Rattle.rules.specs.Choice.{byte, bytes}
+use Rattle.rules.specs.Choice as choice
+use Rattle.rules.specs.Fields.{timeAt}
 use Rattle.rules.specs.Refusals.{says}
 use Rattle.rules.specs.Order.{start, moved, judge}
 use Rattle.rules.specs.declared.Family.the-variants as family
@@ -18,7 +21,7 @@ use Rattle.rules.specs.declared.Head.{Head}
 use Rattle.rules.specs.declared.State.{State}
 use Rattle.trips.proofs.Laws.{false-true}
 use Rattle.demands.specs.Grammar.{Each, IsHeadLine, IsPointLine, IsELine, IsFLine, Untimed, differential, remark, other, Follows, AtMostOne, absent, given, beginning}
-use Rattle.demands.specs.Coming.{isOf, pointsOf, isOpen, Open, those, isInTime, Meant}
+use Rattle.demands.specs.Coming.{isOf, pointsOf, isOpen, Open, those, lastTime, NoTime, Latest, isInTime, Meant}
 use Rattle.demands.specs.Faults.{PassAfter}
 use Rattle.demands.proofs.Laws.{each-join}
 use Rattle.demands.proofs.Carried.{e-said, f-said}
@@ -248,6 +251,25 @@ follows t now = (out (leb t now) (ltb 43200 (t - now)) refl refl, back)
     back (inl h) = rw (le-leb t now h)
     back (inr h) = rw (lt-ltb 43200 (t - now) h) (sym (or-true (leb t now)))
 
+-- the last time is that of the last timed line
+abbrev Timing : List (List ℕ) → Option ℕ → Type 0
+Timing ls (some t) = Latest ls t
+Timing ls none = Each NoTime ls
+
+-- one line in front of lines whose last time is o
+timing-more : (l : List ℕ) (ls : List (List ℕ)) (o : Option ℕ) (b : Bool) (u : Option ℕ) → isOf (66 ∷ 69 ∷ 70 ∷ 75 ∷ []) (getD l 0 0) ≡ b → timeAt l (byte 2) ≡ u → Timing ls o
+    → Timing (l ∷ ls) (choice.given o (cond b u none) λ t. some t)
+timing-more l ls (some t) b u p q w =
+    record { before = l ∷ w .before; line = w .line; after = w .after; order = ap (λ x. l ∷ x) (w .order); timed = w .timed; time = w .time; no-later = w .no-later }
+timing-more l ls none true (some t) p q w = record { before = []; line = l; after = ls; order = refl; timed = p; time = q; no-later = w }
+timing-more l ls none true none p q w = (λ h. q, w)
+timing-more l ls none false u p q w = (λ h. absurd (false-true (sym p ∙ h)), w)
+
+timing : (ls : List (List ℕ)) → Timing ls (lastTime ls)
+unfolding lastTime bytes
+timing [] = tt
+timing (l ∷ ls) = timing-more l ls (lastTime ls) _ _ refl refl (timing ls)
+
 behind-meant : (ls : List (List ℕ)) (st : State) → Behind ls st → Meant ls
 unfolding isInTime
 behind-meant ls st w =
@@ -256,6 +278,8 @@ behind-meant ls st w =
       declaration = (λ e. opened ls st w .0 (leb-true 1 (st .points) (ap (leb 1) (v .points) ∙ sym (open-left ls) ∙ e)), open-there ls);
       fixes = subst (λ x. AtMostOne family.B x (those (code "I") ls)) (v .fixes) (w .tells .fixes);
       extras = subst (λ x. AtMostOne family.K x (those (code "J") ls)) (v .extras) (w .tells .extras);
+      latest = λ t e. subst (Timing ls) e (timing ls);
+      no-time = λ e. subst (Timing ls) e (timing ls);
       times = λ t now e. rw e (follows t now);
     }
 

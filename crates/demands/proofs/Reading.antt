@@ -24,7 +24,7 @@ use Rattle.rules.specs.declared.Fix.{Fix}
 use Rattle.rules.specs.declared.Flight.{Flight}
 use Rattle.laws.proofs.Splitting.{textsOf, steps, lengths-total}
 use Rattle.laws.proofs.Splitting as splitting
-use Rattle.laws.proofs.Counted.{accepted-whole, goodIn, entry-put, entry-kept, line-by-number}
+use Rattle.laws.proofs.Counted.{accepted-whole, goodIn, table-length, entry-put, entry-kept, line-by-number}
 use Rattle.trips.proofs.Fixes.{fix-there}
 use Rattle.trips.proofs.Extras.{extra-there}
 use Rattle.demands.specs.Grammar.{Each, IsLayoutLine, IsBLine, IsKLine, AtMostOne, absent, given, Timed, Untimed, differential, remark, other, Items, done, timed, untimed, Body, undeclared, Parts, linesIn, Keeps, Meets, written}
@@ -244,6 +244,7 @@ readable file table f e =
       ks = sym (ap (λ x. x .ks) (w .2));
       entries = λ i h. entry-put file table i 0 (omega arith) ∙ ap (λ x. getD (offsets 0 x) i 0) c ∙ offset-is ls 0 i h ∙ zero-add (total (take i ls));
       unchanged = λ i h. entry-kept file table i 0 (omega arith);
+      long = table-length file table;
       numbered = λ i h.
           let k : i + 1 - 1 ≡ i = omega arith in
           line-by-number file table (i + 1) (omega arith) (omega arith) .bytes ∙ ap (λ x. getD x (i + 1 - 1) []) t ∙ ap (λ x. getD ls x []) k;

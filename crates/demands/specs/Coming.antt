@@ -145,9 +145,26 @@ unfolding bytes
 lastTime [] = none
 lastTime (l ∷ ls) = given (lastTime ls) (cond (isOf (bytes "BEFK") (getD l 0 0)) (timeAt l (byte 2)) none) λ t. some t
 
+-- "B, E, F and K lines run in time order."
+abbrev pub IsTimed : List ℕ → Type 0
+IsTimed l = isOf (code "B" ∷ code "E" ∷ code "F" ∷ code "K" ∷ []) (getD l 0 0) ≡ true
+
+abbrev pub NoTime : List ℕ → Type 0
+NoTime l = IsTimed l → timeAt l (byte 2) ≡ none
+
 -- "A fall of more than 43,200 seconds from the one before counts as the next day; a smaller fall, or one of exactly 43,200, is refused (h). Equal times are fine."
 unfoldable pub isInTime : Option ℕ → ℕ → Bool
 isInTime before now = given before true λ t. leb t now || ltb 43200 (t - now)
+
+-- the last B, E, F or K line with a time, and that time; each that has passed has one
+pub record Latest (ls : List (List ℕ)) (t : ℕ) : Type 0 where
+  pub before : List (List ℕ)
+  pub line : List ℕ
+  pub after : List (List ℕ)
+  pub order : ls ≡ before ++ (line ∷ after)
+  pub timed : IsTimed line
+  pub time : timeAt line (byte 2) ≡ some t
+  pub no-later : Each NoTime after
 
 -- ---- what these tests mean, in the grammar's words, of lines that have passed
 
@@ -156,5 +173,7 @@ pub record Meant (ls : List (List ℕ)) : Type 0 where
   -- "at most one I", "at most one J", and their entries
   pub fixes : AtMostOne family.B (laid (entriesTold family.B ls)) (those (code "I") ls)
   pub extras : AtMostOne family.K (laid (entriesTold family.K ls)) (those (code "J") ls)
-  -- from the last time on, a time is in order where it follows it
+  -- the time before is that of the last timed line, and from it on a time is in order where it follows it
+  pub latest : (t : ℕ) → lastTime ls ≡ some t → Latest ls t
+  pub no-time : lastTime ls ≡ none → Each NoTime ls
   pub times : (t now : ℕ) → lastTime ls ≡ some t → (isInTime (lastTime ls) now ≡ true) ↔ Follows t now

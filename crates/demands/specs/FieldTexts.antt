@@ -12,7 +12,7 @@ use lib.ListN.{length, drop}
 use Rattle.rules.specs.Choice.{byte}
 use Rattle.rules.specs.Chars.{isCode, codesAt}
 use Rattle.rules.specs.Numbers.{numberAt, digitsOf}
-use Rattle.rules.specs.Fields.{timeAt, timeText, dateAt, dateText, latitudeAt, latitudeText, longitudeAt, longitudeText, altitudeAt, altitudeText}
+use Rattle.rules.specs.Fields.{timeAt, timeText, dateAt, dateText, latitudeAt, latitudeText, longitudeAt, longitudeText, altitudeAt, altitudeText, isEither}
 use Rattle.rules.specs.Degrees.{isLatitude, isLongitude}
 use Rattle.rules.specs.Listed.{codeAt, codeText, isCodeWord}
 use Rattle.rules.specs.Lines.{kindOf, isDateMark, plannedAt}
@@ -55,7 +55,7 @@ pub record Codes (n : ℕ) (t : List ℕ) : Type 0 where
   pub count : length t ≡ n
   pub each : Each (λ b. isCode b ≡ true) t
 
--- the kind, and each field that a check of 9 reads
+-- the kind, and each field that a check of 9 reads; the pairs of an F line are tested by `isCode` itself
 pub record FieldsTold : Type 0 where
   pub kind : (b : ℕ) → Letter (kindOf b) b
   -- "Time: HHMMSS, 00 to 23, 00 to 59, 00 to 59, read as seconds of the day."
@@ -75,5 +75,7 @@ pub record FieldsTold : Type 0 where
   pub word : Field codeAt codeText isCodeWord
   -- "'Code' characters are A to Z and 0 to 9."
   pub codes : (l : List ℕ) (at n : ℕ) → (codesAt l at n ≡ true) ↔ ((t : List ℕ) × Codes n t × Stood l at t)
+  -- "F or O", "1 or 2", "A or V"
+  pub either : (x a b : ℕ) → (isEither x a b ≡ true) ↔ ((x ≡ a) ⊎ (x ≡ b))
   -- "FDTE at 2 to 5 as one field"
   pub mark : (l : List ℕ) → (isDateMark l ≡ true) ↔ Stood l (byte 2) (code "F" ∷ code "D" ∷ code "T" ∷ code "E" ∷ [])

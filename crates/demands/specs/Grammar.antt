@@ -1,5 +1,5 @@
 -- Document 01's rules of a whole file as a grammar, apart from any check: what a line of each kind is, which kind may follow which, and the order of times.
--- A line with a date, a time, a layout or a position is the text of such values within their limits.
+-- A line with a date, a time, a layout or a position is the text of such values within their limits; the limits of a time, a position and an altitude are those of trips (Limits).
 use Prim.Native.Nat.{ℕ, _+_, _-_, _%_, _≤_, _<_}
 use Prim.Native.Char.{code}
 use mathlib.Core.Bool.{Bool, true, false, cond}

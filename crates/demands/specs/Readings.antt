@@ -137,6 +137,7 @@ pub record Readable (file table : List ℕ) (f : Flight) : Type 0 where
   -- "a lent table of u32 numbers whose entry for each line is the offset of its first byte"; the rest unchanged
   pub entries : (n : ℕ) → n < length lines → getD (tableAfter file table) n 0 ≡ total (take n lines)
   pub unchanged : (n : ℕ) → length lines ≤ n → getD (tableAfter file table) n 0 ≡ getD table n 0
+  pub long : length (tableAfter file table) ≡ length table
   -- "any line, without its CR LF, can be asked for as a part of the lent file": line n + 1, with the table
   pub numbered : (n : ℕ) → n < length lines → lineText file (boundsOf file (tableAfter file table) (n + 1)) ≡ getD lines n []
   -- stepping from place 0 gives exactly the lines in their order, and then none

@@ -149,6 +149,22 @@ module _ (file table : List ℕ) (lines : ℕ) (layout : Layout) where
 
 -- ---- the whole listing
 
+-- behind the first line of an accepted file, by its table and what the check said of it
+pages-left : (file table : List ℕ) (f : Flight) → verdict file (length table) ≡ says f
+    → joined file (tableAfter file table) (f .lines) (f .fixes) (14 * f .lines) (page 0 0) ≡ fixesShown 1 (f .fixes) (linesOf file)
+unfolding goodLines
+pages-left file table f e =
+    let many = lines-counted file (length table) f e in
+    let there : (i : ℕ) → i < length (textsOf (linesOf file)) → lineText file (boundsOf file (tableAfter file table) (0 + i + 1)) ≡ getD (textsOf (linesOf file)) i [] =
+    λ i h. by-place i (line-by-number file table (i + 1) (omega arith) (rw e (omega (arith, many))) .bytes) in
+    lines-joined file (tableAfter file table) (f .lines) (f .fixes) (linesOf file) 0 (14 * f .lines) (omega (arith, many)) there (omega (arith, many))
+  where
+    by-place : (i : ℕ) → lineText file (boundsOf file (tableAfter file table) (i + 1)) ≡ textOf file (i + 1)
+        → lineText file (boundsOf file (tableAfter file table) (0 + i + 1)) ≡ getD (textsOf (linesOf file)) i []
+    by-place i h =
+        let z : 0 + i + 1 ≡ i + 1 = omega arith in
+        ap (λ n. lineText file (boundsOf file (tableAfter file table) n)) z ∙ h ∙ ap (λ n. getD (textsOf (linesOf file)) n []) (back-one i)
+
 module _ (most : ℕ) (file table : List ℕ) where
   abbrev kept : List ℕ
   kept = cond (leb (length file) most) (tableAfter file table) table
@@ -157,24 +173,21 @@ module _ (most : ℕ) (file table : List ℕ) where
   lefts s = joined file kept ((valueOr noFlight s) .lines) ((valueOr noFlight s) .fixes) (14 * (valueOr noFlight s) .lines) (page 0 0)
 
   accepted-pages : (f : Flight) → opened most file (length table) ≡ says f → lefts (says f) ≡ fixesShown 1 (f .fixes) (linesOf file)
-  unfolding opened goodLines
+  unfolding opened
   accepted-pages f e =
       let a = need-inv (leb (length file) most) (no InputOver 0) (says f) (λ _. verdict file (length table)) refuses-says e in
-      let many = lines-counted file (length table) f (a .1) in
-      let there : (i : ℕ) → i < length (textsOf (linesOf file)) → lineText file (boundsOf file (tableAfter file table) (0 + i + 1)) ≡ getD (textsOf (linesOf file)) i [] =
-      λ i h. by-place i (line-by-number file table (i + 1) (omega arith) (rw (a .1) (omega (arith, many))) .bytes) in
-      rw (a .0) (lines-joined file (tableAfter file table) (f .lines) (f .fixes) (linesOf file) 0 (14 * f .lines) (omega (arith, many)) there (omega (arith, many)))
-    where
-      by-place : (i : ℕ) → lineText file (boundsOf file (tableAfter file table) (i + 1)) ≡ textOf file (i + 1)
-          → lineText file (boundsOf file (tableAfter file table) (0 + i + 1)) ≡ getD (textsOf (linesOf file)) i []
-      by-place i h =
-          let z : 0 + i + 1 ≡ i + 1 = omega arith in
-          ap (λ n. lineText file (boundsOf file (tableAfter file table) n)) z ∙ h ∙ ap (λ n. getD (textsOf (linesOf file)) n []) (back-one i)
+      rw (a .0) (pages-left file table f (a .1))
 
   listed-by : (s : Said Flight) → opened most file (length table) ≡ s → firstLine s ++ lefts s ≡ listedAs file s
   unfolding firstLine listedAs joined
   listed-by (says f) e = ap (λ x. okText f ++ x) (accepted-pages f e)
   listed-by (refuses n l b) e = append-nil _
+
+-- The OK line of an accepted file and behind it the texts of its pages, by its table and what the check said of it, are its listing.
+pub accepted-whole : (file table : List ℕ) (f : Flight) → verdict file (length table) ≡ says f
+    → okText f ++ joined file (tableAfter file table) (f .lines) (f .fixes) (14 * f .lines) (page 0 0) ≡ listedAs file (verdict file (length table))
+unfolding listedAs
+accepted-whole file table f e = rw e (ap (λ x. okText f ++ x) (pages-left file table f e))
 
 -- What `begin` put, and behind it the texts of the pages from the first on, 14 for each line at most, are the listing of the file.
 pub listed-whole : (most : ℕ) (file table out : List ℕ) (r : Begun) (entries after : List ℕ) → Begins most file table out r entries after
