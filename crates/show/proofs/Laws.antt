@@ -7,19 +7,19 @@ use native.Mathlib.Nat.{min-le-left, add-zero, zero-add, div-lt-iff-lt-mul, pow-
 use native.Mathlib.Numerals.{add-one}
 use native.Mathlib.Omega.{arith}
 use borrow.Author.Tests.{lt-ltb, le-ltb, ne-eqb}
-use lib.Dec.{ltb, lit<, leb·zero}
+use lib.Dec.{leb, ltb, lit<, leb·zero}
 use lib.IntN.{ℤ, pos, negsuc, natAbs, _-ℤ_}
 use lib.ListN.{length, take, drop, set, length-append, length-take, length-drop, length-set, length-map, drop-of-length-le, List·getD-eq-default}
 use lib.Seq.{sets, length-sets, sets-eq, set-split, drop-at, length-take-le, take-all, take-nil, append-snoc}
 use lib.Signed.{mag, nonNeg, leZ}
-use Rattle.rules.specs.Choice.{part, bytes}
+use Rattle.rules.specs.Choice.{need, part, bytes}
 use Rattle.rules.specs.Layouts.{lineLength, unused}
 use Rattle.rules.specs.Listing.{decimalIn, decimal, shown, shownLetter, shownMetres, refusedText, okText, fixShown, columnShown}
 use Rattle.rules.specs.declared.Entry.{Entry}
 use Rattle.rules.specs.declared.Layout.{Layout}
 use Rattle.rules.specs.declared.Fix.{Fix}
 use Rattle.rules.specs.declared.Flight.{Flight}
-use Rattle.show.specs.Lines.{Shown, Fills, positionShown, fixPlaces, fixHeights}
+use Rattle.show.specs.Lines.{Shown, Fills, columnLine, positionShown, fixPlaces, fixHeights}
 
 -- ---- pieces
 
@@ -221,6 +221,14 @@ fix-room n f =
 taken : (n : ℕ) (l : List ℕ) → length (take n l) ≤ n
 taken n l = rw length-take (min-le-left n (length l))
 
-pub column-room : (l : List ℕ) (e : Entry) → e .last < 256 → length (columnShown l e) ≤ 288
+spelt-room : (l : List ℕ) (e : Entry) → e .last < 256 → length (columnShown l e) ≤ 288
 unfolding columnShown bytes
-column-room l e h = simp length-append (omega (arith, taken (e .last - (e .first - 1)) (drop (e .first - 1) l)))
+spelt-room l e h = simp length-append (omega (arith, taken (e .last - (e .first - 1)) (drop (e .first - 1) l)))
+
+pub column-room : (l : List ℕ) (e : Entry) → e .last < 256 → length (columnLine l e) ≤ 288
+unfolding columnLine
+column-room l e h = by (leb (e .code) 0xFFFFFF)
+  where
+    by : (t : Bool) → length (need t [] λ _. columnShown l e) ≤ 288
+    by true = spelt-room l e h
+    by false = omega arith

@@ -3,8 +3,8 @@ mod lines;
 mod pieces;
 
 ghost use Rattle.show.specs.Lines.{NumberOf, RefusalShown, FlightShown, FixShown, ColumnShown};
-use lines::put_column;
-use lines::put_fix;
+pub use lines::put_column;
+pub use lines::put_fix;
 use lines::put_flight;
 use lines::put_refusal;
 pub use pieces::put_byte;
@@ -65,15 +65,12 @@ pub fn ok(f: Flight, out: &mut [u8; 288]) -> usize
 pub fn fix(line: u32, f: Fix, out: &mut [u8; 288]) -> usize
     ensures { λ r. ⌜ FixShown line f (now (out .entry)) r (now (out .exit)) ⌝ }
 {
-    put_fix(out, line, f)
+    put_fix(out, 0, line, f)
 }
 
 // COL, a column's code and its text in a line: how many bytes the line has. 0, and nothing is put, where the code is no three bytes.
 pub fn column(line: &[u8], e: Entry, out: &mut [u8; 288]) -> usize
     ensures { λ r. ⌜ ColumnShown (now (line .entry)) e (now (out .entry)) r (now (out .exit)) ⌝ }
 {
-    if 0xFFFFFF < e.code {
-        return 0;
-    }
-    put_column(out, line, e)
+    put_column(out, 0, line, e)
 }
