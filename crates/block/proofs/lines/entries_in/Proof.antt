@@ -1,11 +1,11 @@
--- `pages::entries_in` meets its contract: a layout value has 13 slots. Assumes nothing.
+-- `block::lines::entries_in` meets its contract: a layout value has 13 slots. Assumes nothing.
 use mathlib.Core.Path.{_≡_}
 use borrow.Author.Needs.{needs}
 use lib.ListN.{length}
 use Rattle.layout.proofs.Laws.{unmapped}
-use Rattle.pages.proofs.Laws.{all-slots, some-slots}
-use Rattle.pages.proofs.entries_in.Statement.{statement}
-use Rattle.pages.proofs.entries_in.Tie as tie
+use Rattle.block.proofs.Laws.{all-slots, some-slots}
+use Rattle.block.proofs.lines.entries_in.Statement.{statement}
+use Rattle.block.proofs.lines.entries_in.Tie as tie
 
 slots : (c : tie.Start) → length (c .args .layout .entries) ≡ 13
 slots c = search unmapped
