@@ -105,28 +105,28 @@ module _ (file table : List ℕ) (lines : ℕ) (layout : Layout) where
       moves : (k passed : ℕ) → passed + suc k ≡ lines → passed < leafFrom file table lines layout room (suc k) passed 0 .next
       unfolding leafFrom
       moves k passed c =
-          let open : ltb room (0 + 4096) ≡ false = le-ltb room (0 + 4096) (omega arith) in
-          rw open (omega (arith, parted k (passed + 1) (0 + length (printedFor passed)) (omega arith) .on))
+          let free : ltb room (0 + 4096) ≡ false = le-ltb room (0 + 4096) (omega arith) in
+          rw free (omega (arith, parted k (passed + 1) (0 + length (printedFor passed)) (omega arith) .on))
 
       pages-printed : allowed 36 layout ≡ true → (k passed : ℕ) → lines - passed ≤ k → joined file table lines layout room k passed ≡ allPrinted (lines - passed) passed
       unfolding joined leafAt
       pages-printed ok zero passed h = let z : lines - passed ≡ 0 = omega arith in rw z
-      pages-printed ok (suc k) passed h = by (leb lines passed) refl
+      pages-printed ok (suc k) passed h = by (leb lines passed) refl (λ p. pages-printed ok k p)
         where
+          one-less : passed < lines → lines - passed ≡ suc (lines - (passed + 1))
+          one-less low = omega arith
+
           page : Leaf
           page = leafFrom file table lines layout room (lines - passed) passed 0
 
-          by : (b : Bool) → leb lines passed ≡ b
+          by : (b : Bool) → leb lines passed ≡ b → ((p : ℕ) → lines - p ≤ k → joined file table lines layout room k p ≡ allPrinted (lines - p) p)
               → cond b [] (leafAt file table lines layout room passed .text ++ joined file table lines layout room k (leafAt file table lines layout room passed .next)) ≡ allPrinted (lines - passed) passed
-          by true e = let z : lines - passed ≡ 0 = omega (arith, leb-true lines passed e) in rw z
-          by false e =
+          by true e later = let z : lines - passed ≡ 0 = omega (arith, leb-true lines passed e) in rw z
+          by false e later =
               let low : passed < lines = leb-false lines passed e in
               let more : passed < page .next = rw (one-less low) (moves (lines - (passed + 1)) passed (omega arith)) in
               let p : Parted (lines - passed) passed page = parted (lines - passed) passed 0 (omega arith) in
-              rw ok (ap (λ (r : List ℕ). page .text ++ r) (pages-printed ok k (page .next) (omega arith)) ∙ p .text)
-
-          one-less : passed < lines → lines - passed ≡ suc (lines - (passed + 1))
-          one-less low = omega arith
+              rw ok (ap (λ (r : List ℕ). page .text ++ r) (later (page .next) (omega arith)) ∙ p .text)
 
   -- ---- a layout that is not allowed reads no fix
 
