@@ -12,11 +12,10 @@ use lib.Dec.{leb, ltb, eqb}
 use lib.ListN.{length, getD, take, drop, length-append, take-append-drop}
 use lib.Seq.{take-all, length-take-le, getD-take, take-suc, take-at, drop-at, drop-drop, sets-eq, length-sets}
 use Rattle.rules.specs.Choice.{part}
-use Rattle.rules.specs.Refusals.{says, refuses, refusal, no}
 use Rattle.rules.specs.Layouts.{unused, entriesOf, allowed}
-use Rattle.rules.specs.Lines.{bLine}
-use Rattle.rules.specs.Reads.{fixSaid, fixTold}
-use Rattle.rules.specs.Listing.{fixShown, columnsShown, lineShown}
+use Rattle.rules.specs.Lines.{fixFields}
+use Rattle.rules.specs.Reads.{fixTold}
+use Rattle.rules.specs.Listing.{fixShown, lineShown}
 use Rattle.rules.specs.declared.Refusal.{Refusal}
 use Rattle.rules.specs.declared.Entry.{Entry}
 use Rattle.rules.specs.declared.Layout.{Layout}
@@ -87,22 +86,18 @@ module _ (l : List ℕ) (layout : Layout) (out : List ℕ) (at : ℕ) where
 
 module _ (passed : ℕ) (l : List ℕ) (layout : Layout) (out : List ℕ) (at : ℕ) where
   pub no-b : (b : ℕ) → b ≡ getD l 0 0 → (b ≡ code "B" → ⊥) → Fills out at (printed passed layout l) at out
-  unfolding printed lineShown fixSaid
+  unfolding printed
   no-b b e h = rw (← e, ne-eqb b 66 h) (nothing out at)
 
-  module _ (ok : allowed 36 layout ≡ true) (b : ℕ) (e : b ≡ getD l 0 0) (h : b ≡ code "B") (r : FixRead) (g : fixTold r ≡ bLine layout l) where
-    said : fixSaid l layout ≡ fixTold r
-    unfolding fixSaid
-    said = rw (← e, eq-eqb b 66 h, ok) (sym g)
-
+  module _ (b : ℕ) (e : b ≡ getD l 0 0) (h : b ≡ code "B") (r : FixRead) (g : fixTold r ≡ fixFields l) where
     pub no-fix : (w : Refusal) → r ≡ fixRead.Refused w → Fills out at (printed passed layout l) at out
     unfolding printed lineShown fixTold
-    no-fix w is = rw (said, is) (nothing out at)
+    no-fix w is = rw (← e, eq-eqb b 66 h, ← g, is) (nothing out at)
 
-    pub a-fix : (f : Fix) (mid after : List ℕ) (m n : ℕ) → r ≡ fixRead.Is f → Fills out at (fixShown (passed + 1) f) m mid → Fills mid m (columnLines l (entriesOf layout)) n after
-        → Fills out at (printed passed layout l) n after
+    pub a-fix : (f : Fix) (mid after : List ℕ) (m n : ℕ) → allowed 36 layout ≡ true → r ≡ fixRead.Is f → Fills out at (fixShown (passed + 1) f) m mid
+        → Fills mid m (columnLines l (entriesOf layout)) n after → Fills out at (printed passed layout l) n after
     unfolding printed lineShown fixTold
-    a-fix f mid after m n is p q = rw (said, is, ← lines-shown l layout ok) (then p q)
+    a-fix f mid after m n ok is p q = rw (← e, eq-eqb b 66 h, ← g, is, ← lines-shown l layout ok) (then p q)
 
 -- ---- a block that fills
 
@@ -182,13 +177,13 @@ module _ (file table : List ℕ) (lines : ℕ) (layout : Layout) (block : List �
     pub filled-full : t ≡ true → LeafPut page block (record { used = used; passed = next }) now
     filled-full g = part-last block now page used next (rw (one-left file table lines layout (length block) next used h, ← asked, g) at p)
 
-    pub filled-more : (l after : List ℕ) (r : ℕ) → t ≡ false → l ≡ textAt file table lines next → Fills now used (printed next layout l) r after
+    pub filled-more : (l after : List ℕ) (r : ℕ) → allowed 36 layout ≡ true → t ≡ false → l ≡ textAt file table lines next → Fills now used (printed next layout l) r after
         → Part block page (leafFrom file table lines layout (length block) (lines - (next + 1)) (next + 1) r) r after
     unfolding printedAt
-    filled-more l after r g is f =
+    filled-more l after r ok g is f =
         let same : printed next layout l ≡ printedAt file table lines layout next = printed-there l is in
         let f′ : Fills now used (printedAt file table lines layout next) r after = rw same at f in
-        let most : length (printedAt file table lines layout next) ≤ 4096 = rw (← same) (printed-room next layout l) in
+        let most : length (printedAt file table lines layout next) ≤ 4096 = rw (← same) (printed-room next layout l ok) in
         let room : used + 4096 ≤ length now = ltb-false (length now) (used + 4096) (sym e ∙ g) in
         let q = rw (one-left file table lines layout (length block) next used h, ← asked, g) at p in
         let n : used + length (printedAt file table lines layout next) ≡ r = sym (put-whole (omega arith) f′) in

@@ -1,28 +1,25 @@
 -- The entries of a layout that is allowed are 13 at most, each spelt, so that each is shown and a line's text has room in 4,096 bytes. Assumes nothing.
 use Prim.Native.Nat.{ℕ, zero, suc, _+_, _*_, _≤_, _<_}
-use mathlib.Core.Bool.{true, _&&_}
+use mathlib.Core.Bool.{Bool, true, false, _&&_}
 use mathlib.Core.List.{List, [], _∷_, _++_}
-use mathlib.Core.Path.{_≡_, refl, sym, ap, ap₂, _∙_, subst}
+use mathlib.Core.Path.{_≡_, refl, ap₂}
 use native.Mathlib.Omega.{arith}
 use borrow.Author.Tests.{leb-true}
 use lib.Dec.{leb, eqb}
 use lib.ListN.{length, getD, take, length-append}
 use Prim.Native.Char.{code}
-use Rattle.rules.specs.Refusals.{Said, says, refuses, no}
+use Rattle.rules.specs.Choice.{need}
+use Rattle.rules.specs.Refusals.{Said, says, refuses}
 use Rattle.rules.specs.Layouts.{entriesOf, emptyLayout, withEntry, isSpelt, isSaid, placed, allPlaced, allowed}
 use Rattle.rules.specs.Listed.{isCodeWord}
-use Rattle.rules.specs.Lines.{bLine}
-use Rattle.rules.specs.Reads.{fixSaid, withLayout}
-use Rattle.rules.specs.Listing.{fixShown, columnShown, columnsShown, lineShown}
-use Rattle.rules.specs.declared.Reason.the-variants.{BadValue}
-use Rattle.rules.specs.declared.Family.the-variants as family
+use Rattle.rules.specs.Lines.{fixFields}
+use Rattle.rules.specs.Listing.{columnsShown, lineShown}
 use Rattle.rules.specs.declared.Entry.{Entry}
 use Rattle.rules.specs.declared.Layout.{Layout}
 use Rattle.rules.specs.declared.Fix.{Fix}
-use Rattle.show.specs.Lines.{columnLine}
 use Rattle.show.proofs.Laws.{fix-room, column-room}
 use Rattle.show.proofs.Callers.{column-spelt}
-use Rattle.trips.proofs.Laws.{and-inv, need-inv, refuses-says}
+use Rattle.trips.proofs.Laws.{and-inv}
 use Rattle.block.specs.Blocks.{columnLines, printed}
 
 pub take-most : {A : Type 0} (n : ℕ) (l : List A) → length (take n l) ≤ n
@@ -73,20 +70,14 @@ unfolding columnLines
 columns-room l [] s = omega arith
 columns-room l (e ∷ es) s = simp length-append (omega (arith, column-room l e (last-low e (s .0)), columns-room l es (s .1)))
 
-fix-by : (l : List ℕ) (layout : Layout) (f : Fix) → fixSaid l layout ≡ says f → allowed 36 layout ≡ true
-unfolding fixSaid
-fix-by l layout f h =
-    let laid = need-inv (eqb (getD l 0 0) (code "B")) (no BadValue 0) (says f) (λ _. withLayout family.B layout λ _. bLine layout l) refuses-says h .1 in
-    need-inv (allowed 36 layout) (no BadValue 0) (says f) (λ _. bLine layout l) refuses-says laid .0
-
-pub printed-room : (passed : ℕ) (layout : Layout) (l : List ℕ) → length (printed passed layout l) ≤ 4096
+pub printed-room : (passed : ℕ) (layout : Layout) (l : List ℕ) → allowed 36 layout ≡ true → length (printed passed layout l) ≤ 4096
 unfolding printed lineShown
-printed-room passed layout l = by (fixSaid l layout) refl
+printed-room passed layout l ok = by (eqb (getD l 0 0) (code "B")) (fixFields l)
   where
-    by : (s : Said Fix) → fixSaid l layout ≡ s → length (lineShown (passed + 1) layout l s) ≤ 4096
-    by (says f) e =
-        let h = fix-by l layout f e in
-        let w = showable layout h in
+    by : (t : Bool) (s : Said Fix) → length (need t [] λ _. lineShown (passed + 1) layout l s) ≤ 4096
+    by false s = omega arith
+    by true (refuses n k b) = omega arith
+    by true (says f) =
+        let w = showable layout ok in
         let c = columns-room l (entriesOf layout) (w .1) in
-        rw (← lines-shown l layout h) (simp length-append (omega (arith, fix-room (passed + 1) f, c, w .0)))
-    by (refuses n k b) e = omega arith
+        rw (← lines-shown l layout ok) (simp length-append (omega (arith, fix-room (passed + 1) f, c, w .0)))

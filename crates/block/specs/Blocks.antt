@@ -4,11 +4,12 @@ use Prim.Native.Nat.{ℕ, zero, suc, _+_, _-_}
 use mathlib.Core.Bool.{cond}
 use mathlib.Core.List.{List, [], _∷_, _++_}
 use mathlib.Core.Path.{_≡_}
-use lib.Dec.{leb, ltb}
+use Prim.Native.Char.{code}
+use lib.Dec.{leb, ltb, eqb}
 use lib.ListN.{length, getD}
 use Rattle.rules.specs.Choice.{need, part}
 use Rattle.rules.specs.Layouts.{allowed}
-use Rattle.rules.specs.Reads.{fixSaid}
+use Rattle.rules.specs.Lines.{fixFields}
 use Rattle.rules.specs.Listing.{lineShown}
 use Rattle.rules.specs.declared.Entry.{Entry}
 use Rattle.rules.specs.declared.Layout.{Layout}
@@ -28,9 +29,10 @@ textAt file table lines passed =
     need (leb (endOf table lines passed (length file)) (length file)) [] λ _.
     part (getD table passed 0) (endOf table lines passed (length file)) file
 
--- what is printed for it: its fix with its columns where it is a good B line; the line's number is one more than the lines passed
+-- what is printed for it: its fix with its columns where it is a B line and its fields are good; the line's number is one more than the lines passed. What else the check
+-- asks of a B line, each of an accepted file has passed.
 unfoldable pub printed : ℕ → Layout → List ℕ → List ℕ
-printed passed layout l = lineShown (passed + 1) layout l (fixSaid l layout)
+printed passed layout l = need (eqb (getD l 0 0) (code "B")) [] λ _. lineShown (passed + 1) layout l (fixFields l)
 
 -- the columns' lines, one after the other
 unfoldable pub columnLines : List ℕ → List Entry → List ℕ

@@ -82,7 +82,7 @@ fn put_columns(out: &mut [u8], at: usize, line: &[u8], layout: Layout) -> usize
     next
 }
 
-// FIX and its values with its columns where the line is a good B line, and nothing where it is another line: the place behind.
+// FIX and its values with its columns where the line is a B line and its fields are good, and nothing where it is another line: the place behind.
 pub(crate) fn put_line(passed: u32, line: &[u8], layout: Layout, out: &mut [u8], at: usize) -> usize
     requires { ⌜ (passed < 4294967295) × (allowed 36 layout ≡ true) ⌝ }
     ensures { λ r. ⌜ Fills (now (out .entry)) at (printed passed layout (now (line .entry))) r (now (out .exit)) ⌝ }
@@ -90,7 +90,7 @@ pub(crate) fn put_line(passed: u32, line: &[u8], layout: Layout, out: &mut [u8],
     if chars::byte(line, 0) != b'B' {
         return at;
     }
-    let FixRead::Is(f) = line::fix_line(line, layout) else {
+    let FixRead::Is(f) = fix::fix_fields(line) else {
         return at;
     };
     let next = show::put_fix(out, at, passed + 1, f);

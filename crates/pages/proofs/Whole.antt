@@ -2,19 +2,19 @@
 use Prim.Native.Nat.{ℕ, zero, suc, _+_, _-_, _≤_, _<_}
 use mathlib.Core.Bool.{Bool, true, false, cond}
 use mathlib.Core.List.{List, [], _∷_, _++_, append-assoc, append-nil}
-use mathlib.Core.Path.{_≡_, refl, sym, ap, _∙_}
+use mathlib.Core.Path.{_≡_, refl, sym, ap, subst, _∙_}
 use native.Mathlib.Nat.{add-zero, zero-add}
 use native.Mathlib.Omega.{arith}
-use borrow.Author.Tests.{le-leb, lt-ltb, le-ltb, leb-true, leb-false}
+use borrow.Author.Tests.{le-leb, lt-ltb, le-ltb, leb-true, leb-false, eqb-true}
 use Prim.Native.Char.{code}
 use lib.Dec.{leb, ltb, eqb}
 use lib.ListN.{length, getD, take, drop, length-drop}
 use Rattle.rules.specs.Choice.{need, part}
 use Rattle.rules.specs.Refusals.{Said, says, refuses, no, valueOr}
-use Rattle.rules.specs.Layouts.{allowed}
+use Rattle.rules.specs.Layouts.{allowed, columns}
 use Rattle.rules.specs.Split.{Lines, end, broken, line, linesOf, offsets}
 use Rattle.rules.specs.Reads.{fixSaid}
-use Rattle.rules.specs.Lines.{bLine}
+use Rattle.rules.specs.Lines.{shapedBy, fixFields, bLine}
 use Rattle.rules.specs.Order.{noFlight}
 use Rattle.rules.specs.Files.{verdict, tableAfter, goodLines}
 use Rattle.rules.specs.Listing.{okText, lineShown, fixesShown, listedAs, listing}
@@ -22,10 +22,13 @@ use Rattle.rules.specs.declared.Reason.the-variants.{BadValue, InputOver}
 use Rattle.rules.specs.declared.Layout.{Layout}
 use Rattle.rules.specs.declared.Flight.{Flight}
 use Rattle.show.proofs.Callers.{shown-text}
-use Rattle.trips.proofs.Laws.{need-inv, refuses-says}
+use Rattle.trips.proofs.Laws.{need-inv, then-inv, refuses-says}
 use Rattle.laws.proofs.Splitting.{Whole, textsOf, line-at, none-left}
-use Rattle.laws.proofs.Counted.{lines-counted, entry-put}
+use Rattle.laws.proofs.Counted.{lines-counted, entry-put, line-by-number}
 use Rattle.laws.proofs.Counted as counted
+use Rattle.demands.specs.Grammar.{Each}
+use Rattle.demands.specs.Readings.{ReadsFix, ReadsLine}
+use Rattle.demands.proofs.Demands.{readable}
 use Rattle.block.specs.Blocks.{endOf, textAt, printed, Leaf, leaf, before, printedAt, leafFrom, leafAt, joined}
 use Rattle.pages.specs.Pages.{opened, firstLine, Begins}
 use Rattle.pages.specs.declared.Begun.{Begun}
@@ -64,17 +67,39 @@ module _ (file table : List ℕ) (lines : ℕ) (layout : Layout) where
       let to = end-there ls t at passed (l .inside) (l .after) w c g in
       rw (from, to, le-leb at (at + length t) (omega arith), le-leb (at + length t) (length file) (omega (arith, l .inside))) (l .text)
 
-  -- what is printed for the lines that are left
-  lines-printed : (ls : Lines) (at passed : ℕ) → linesOf (drop at file) ≡ ls → Whole ls → passed + length (textsOf ls) ≡ lines → Entered passed at ls
+  -- ---- what is printed for each
+
+  -- a line by the fields alone, where a B line has passed all that the check asks of it
+  as-read : (passed : ℕ) (t : List ℕ) → (getD t 0 0 ≡ code "B" → ReadsFix layout t) → printed passed layout t ≡ lineShown (passed + 1) layout t (fixSaid t layout)
+  unfolding printed lineShown fixSaid bLine
+  as-read passed t reads = by (eqb (getD t 0 0) (code "B")) refl
+    where
+      by : (b : Bool) → eqb (getD t 0 0) (code "B") ≡ b → (need b [] λ _. lineShown (passed + 1) layout t (fixFields t)) ≡ lineShown (passed + 1) layout t (fixSaid t layout)
+      by false e = rw e
+      by true e =
+          let r = reads (eqb-true (getD t 0 0) (code "B") e) in
+          let b = need-inv (eqb (getD t 0 0) (code "B")) _ (says (r .fix)) _ refuses-says (r .reads) in
+          let c = need-inv (allowed 36 layout) _ (says (r .fix)) _ refuses-says (b .1) in
+          let d = then-inv (shapedBy 36 layout t) (r .fix) _ (c .1) in
+          let f = then-inv (fixFields t) (r .fix) _ (d .2) in
+          let g = then-inv (columns t layout) (r .fix) _ (f .2) in
+          let same : fixFields t ≡ fixSaid t layout = f .1 ∙ g .2 ∙ sym (r .reads) in
+          ap (lineShown (passed + 1) layout t) same
+
+  abbrev Read : Lines → Type 0
+  Read ls = (i : ℕ) → i < length (textsOf ls) → getD (getD (textsOf ls) i []) 0 0 ≡ code "B" → ReadsFix layout (getD (textsOf ls) i [])
+
+  -- the lines that are left
+  lines-printed : (ls : Lines) (at passed : ℕ) → linesOf (drop at file) ≡ ls → Whole ls → passed + length (textsOf ls) ≡ lines → Entered passed at ls → Read ls
       → allPrinted (length (textsOf ls)) passed ≡ fixesShown (passed + 1) layout ls
-  unfolding fixesShown printedAt printed offsets
-  lines-printed end at passed e w c g = refl
-  lines-printed (broken n) at passed e w c g = absurd w
-  lines-printed (line t ls) at passed e w c g =
+  unfolding fixesShown printedAt offsets
+  lines-printed end at passed e w c g r = refl
+  lines-printed (broken n) at passed e w c g r = absurd w
+  lines-printed (line t ls) at passed e w c g r =
       let l = line-at file at t ls e in
       let later : Entered (passed + 1) (at + length t + 2) ls = λ i h. ap (λ (n : ℕ). getD table n 0) (one-on passed i) ∙ g (suc i) (omega (arith, h)) in
-      rw (text-there ls t at passed e w c g)
-      (ap (λ (r : List ℕ). lineShown (passed + 1) layout t (fixSaid t layout) ++ r) (lines-printed ls (at + length t + 2) (passed + 1) (l .after) w (omega arith) later))
+      rw (text-there ls t at passed e w c g, as-read passed t (r 0 (omega arith)))
+      (ap (λ (r : List ℕ). lineShown (passed + 1) layout t (fixSaid t layout) ++ r) (lines-printed ls (at + length t + 2) (passed + 1) (l .after) w (omega arith) later (λ i h. r (suc i) (omega (arith, h)))))
     where
       one-on : (n i : ℕ) → n + 1 + i ≡ n + suc i
       one-on n i = omega arith
@@ -161,6 +186,14 @@ module _ (file table : List ℕ) (lines : ℕ) (layout : Layout) where
 
 -- ---- the whole listing
 
+back-one : (n : ℕ) → n + 1 - 1 ≡ n
+back-one n = omega arith
+
+each-at : (P : List ℕ → Type 0) (ls : List (List ℕ)) (i : ℕ) → i < length ls → Each P ls → P (getD ls i [])
+each-at P [] i h p = let z : ⊥ = omega arith in absurd z
+each-at P (l ∷ ls) zero h p = p .0
+each-at P (l ∷ ls) (suc i) h p = each-at P ls i (omega arith) (p .1)
+
 -- behind the first line of an accepted file, by its table and what the check said of it
 pages-left : (file table : List ℕ) (f : Flight) (room : ℕ) → 4096 ≤ room → verdict file (length table) ≡ says f
     → joined file (tableAfter file table) (f .lines) (f .fixes) room (f .lines) 0 ≡ fixesShown 1 (f .fixes) (linesOf file)
@@ -173,12 +206,19 @@ pages-left file table f room enough e = by (allowed 36 (f .fixes)) refl
     there : (i : ℕ) → i < length (textsOf (linesOf file)) → getD (tableAfter file table) (0 + i) 0 ≡ getD (offsets 0 (linesOf file)) i 0
     there i h = rw zero-add (entry-put file table i 0 (rw e (omega (arith, many))))
 
+    read : (i : ℕ) → i < length (textsOf (linesOf file)) → getD (getD (textsOf (linesOf file)) i []) 0 0 ≡ code "B" → ReadsFix (f .fixes) (getD (textsOf (linesOf file)) i [])
+    read i h =
+        let r = readable file table f e in
+        let low : i < length (r .lines) = omega (arith, many, r .counted) in
+        let same : getD (r .lines) i [] ≡ getD (textsOf (linesOf file)) i [] = sym (r .numbered i low) ∙ line-by-number file table (i + 1) (omega arith) (rw e (omega (arith, many))) .bytes ∙ ap (λ n. getD (textsOf (linesOf file)) n []) (back-one i) in
+        subst (λ (l : List ℕ). getD l 0 0 ≡ code "B" → ReadsFix (f .fixes) l) same (each-at (ReadsLine (f .fixes) (f .extras)) (r .lines) i low (r .reads) .b)
+
     by : (b : Bool) → allowed 36 (f .fixes) ≡ b
         → joined file (tableAfter file table) (f .lines) (f .fixes) room (f .lines) 0 ≡ fixesShown 1 (f .fixes) (linesOf file)
     by true ok =
         let all : f .lines - 0 ≡ length (textsOf (linesOf file)) = omega (arith, many) in
         pages-printed file (tableAfter file table) (f .lines) (f .fixes) room enough ok (f .lines) 0 (omega arith)
-        ∙ rw all (lines-printed file (tableAfter file table) (f .lines) (f .fixes) (linesOf file) 0 0 refl (counted.accepted-whole file (length table) f e) (omega (arith, many)) there)
+        ∙ rw all (lines-printed file (tableAfter file table) (f .lines) (f .fixes) (linesOf file) 0 0 refl (counted.accepted-whole file (length table) f e) (omega (arith, many)) there read)
     by false not-ok = no-pages file (tableAfter file table) (f .lines) (f .fixes) not-ok room (f .lines) 0 ∙ sym (no-lines file (tableAfter file table) (f .lines) (f .fixes) not-ok (linesOf file) 1)
 
 module _ (most : ℕ) (file table : List ℕ) (room : ℕ) (enough : 4096 ≤ room) where
