@@ -3,12 +3,12 @@ ghost use mathlib.Core.Path.{_≡_};
 ghost use Prim.Native.Nat.{_-_, _%_};
 ghost use lib.Dec.{eqb};
 ghost use lib.ListN.{length, drop};
-ghost use Rattle.rules.specs.Lines.{isDateMark, plannedAt, headFields, badPair, fixFields, shapedBy};
+ghost use Rattle.rules.specs.Lines.{isDateMark, plannedAt, headFields, badPair, shapedBy};
 ghost use Rattle.rules.specs.Layouts.{firstStart, columns};
 ghost use Rattle.rules.specs.Refusals.{outcomeTold, andThen, says};
 ghost use Rattle.rules.specs.Reads.{headTold, fixTold};
 ghost use Rattle.rules.specs.Promises.{RecorderChecked, DateLineChecked, HeaderChecked, HeadChecked, PointChecked, DifferentialChecked, EventChecked, SatellitesChecked, FixChecked, ExtraChecked, foundTold};
-ghost use Rattle.line.specs.Parts.{formAt, plannedTold};
+ghost use Rattle.line.specs.Parts.{formAt, plannedTold, FieldsChecked};
 use rules::Altitude;
 use rules::DateRead;
 use rules::Day;
@@ -213,9 +213,9 @@ pub fn point_line(line: &[u8]) -> PointRead
     PointRead::Is(Point { lat, lon })
 }
 
-// The fields of a B line before its columns.
-fn fix_fields(line: &[u8]) -> FixRead
-    ensures { λ r. ⌜ fixTold r ≡ fixFields (now (line .entry)) ⌝ }
+// The fields of a B line before its columns, whatever its length and characters. Refusals: FORM at 2, 8, 16, 25, 26 or 31.
+pub fn fix_fields(line: &[u8]) -> FixRead
+    ensures { λ r. ⌜ FieldsChecked (now (line .entry)) r ⌝ }
 {
     let Time::Secs(time) = field::time_at(line, 1) else {
         return FixRead::Refused(form(2));
