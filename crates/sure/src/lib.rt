@@ -75,16 +75,6 @@ fn keeps_pattern(line: &[u8], pattern: &[u8]) -> bool
     true
 }
 
-// Whether the columns of a line are digits alone, from an offset on, or hold what the pattern says.
-fn keeps_columns(line: &[u8], from: usize, pattern: &[u8]) -> bool
-    ensures { λ r. ⌜ r ≡ (isDigits (drop from (now (line .entry))) || keepsPattern (now (line .entry)) (now (pattern .entry))) ⌝ }
-{
-    if plain::is_digits_from(line, from) {
-        return true;
-    }
-    keeps_pattern(line, pattern)
-}
-
 // Whether every byte is mild; most lines have plain bytes alone.
 fn is_clean(line: &[u8]) -> bool
     ensures { λ r. ⌜ r ≡ every isMild (now (line .entry)) ⌝ }
@@ -118,6 +108,16 @@ fn columns_from(family: Family) -> usize
     }
 }
 
+// Whether the columns of a line are digits alone, or hold what the pattern says.
+fn keeps_columns(family: Family, line: &[u8], pattern: &[u8]) -> bool
+    ensures { λ r. ⌜ r ≡ (isDigits (drop (byte (firstStart family)) (now (line .entry))) || keepsPattern (now (line .entry)) (now (pattern .entry))) ⌝ }
+{
+    if plain::is_digits_from(line, columns_from(family)) {
+        return true;
+    }
+    keeps_pattern(line, pattern)
+}
+
 // The time of a line of this many bytes, all mild, whose fields keep their rules and whose columns are digits alone or hold what the pattern says. NoTime for any other line.
 pub fn sure_line(family: Family, line: &[u8], size: usize, pattern: &[u8]) -> Time
     ensures { λ r. ⌜ SureTold family (now (line .entry)) size (now (pattern .entry)) r ⌝ }
@@ -131,7 +131,7 @@ pub fn sure_line(family: Family, line: &[u8], size: usize, pattern: &[u8]) -> Ti
     let Time::Secs(t) = fields_time(family, line) else {
         return Time::NoTime;
     };
-    if !keeps_columns(line, columns_from(family), pattern) {
+    if !keeps_columns(family, line, pattern) {
         return Time::NoTime;
     }
     Time::Secs(t)
