@@ -55,8 +55,11 @@ NoFlight r = r ≡ noFlight
 abbrev pub BeforeAll : State → Type 0
 BeforeAll r = r ≡ start
 
+abbrev pub movedTo : ℕ → State → State
+movedTo stage st = cond (isFew (st .flight .lines)) (moved stage st) st
+
 abbrev pub Moved : ℕ → State → State → Type 0
-Moved stage st r = r ≡ cond (isFew (st .flight .lines)) (moved stage st) st
+Moved stage st r = r ≡ movedTo stage st
 
 abbrev pub Dated : Date → State → State → Type 0
 Dated date st r = r ≡ dated date st
@@ -67,11 +70,17 @@ FixesSet layout st r = r ≡ withFixes layout st
 abbrev pub ExtrasSet : Layout → State → State → Type 0
 ExtrasSet layout st r = r ≡ withExtras layout st
 
+abbrev pub fixCounted : State → State
+fixCounted st = cond (isFew (st .flight .bs)) (counted 1 0 st) st
+
 abbrev pub FixCounted : State → State → Type 0
-FixCounted st r = r ≡ cond (isFew (st .flight .bs)) (counted 1 0 st) st
+FixCounted st r = r ≡ fixCounted st
+
+abbrev pub extraCounted : State → State
+extraCounted st = cond (isFew (st .flight .ks)) (counted 0 1 st) st
 
 abbrev pub ExtraCounted : State → State → Type 0
-ExtraCounted st r = r ≡ cond (isFew (st .flight .ks)) (counted 0 1 st) st
+ExtraCounted st r = r ≡ extraCounted st
 
 abbrev pub Begun : Head → State → State → Type 0
 Begun head st r = r ≡ begun head st
