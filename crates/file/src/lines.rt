@@ -5,12 +5,9 @@ ghost use lib.ListN.{length};
 ghost use Rattle.rules.specs.Files.{CheckedTold, finish};
 ghost use Rattle.rules.specs.Promises.{FileChecked};
 ghost use Rattle.rules.specs.Refusals.{refusal};
-ghost use Rattle.file.specs.Judges.{Few, inNext};
-ghost use Rattle.file.specs.Turns.{Turned};
-use crate::judge;
-use crate::order;
-use crate::scan;
-use crate::scan::Ended;
+ghost use Rattle.order.specs.States.{Few};
+ghost use Rattle.file.specs.Turns.{Turned, inNext};
+use cut::Ended;
 use rules::Checked;
 use rules::Outcome;
 use rules::Reason;
@@ -73,7 +70,7 @@ fn take_turn(file: &[u8], at: usize, st: State) -> Turn
     requires { ⌜ (at < length (now file)) × (length (now file) ≤ 16777216) × Few st ⌝ }
     ensures { λ r. ⌜ Turned (now (file .entry)) at st (r .what) (r .state) ⌝ }
 {
-    match scan::line_end(file, at) {
+    match cut::line_end(file, at) {
         Ended::Broken(end) => Turn {
             what: What::Stop(in_next(Reason::LineEnd, (end - at + 1) as u32, st)),
             state: st,

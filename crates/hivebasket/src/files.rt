@@ -2,7 +2,7 @@
 ghost use Rattle.hivebasket.specs.Calls.{CheckAnswered, LineAnswered, StepAnswered};
 use crate::answers::give;
 use crate::values;
-use file::Cursor;
+use cut::Cursor;
 
 // The check of a whole file, with the table of its lines' offsets.
 #[no_mangle]
@@ -21,7 +21,7 @@ pub extern "C" fn hive_check(file: &[u8], table: &mut [u32], answer: &mut [u64])
 pub extern "C" fn hive_line(file: &[u8], table: &[u32], number: usize, answer: &mut [u64]) -> u32
     ensures { λ r. ⌜ LineAnswered (now (file .entry)) (now (table .entry)) number (now (answer .entry)) r (now (answer .exit)) ⌝ }
 {
-    give(answer, values::line(file::bounds(file, table, number)))
+    give(answer, values::line(cut::bounds(file, table, number)))
 }
 
 // The line at a reading place, and the place after it.

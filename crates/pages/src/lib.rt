@@ -149,7 +149,7 @@ impl Page {
         if lines <= passed {
             return Turn::Done;
         }
-        let line = file::line(file, table, (passed + 1) as usize);
+        let line = cut::line(file, table, (passed + 1) as usize);
         if entry == 0 {
             return fix_page(passed, line, layout, out);
         }

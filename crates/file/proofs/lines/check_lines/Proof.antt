@@ -3,7 +3,9 @@ use Prim.Native.Nat.{_-_}
 use native.Mathlib.Omega.{arith}
 use borrow.Author.Needs.{needs}
 use lib.ListN.{length}
-use Rattle.file.proofs.Turns.{Here, here-first, here-few, here-next, here-stop, here-full, here-end, went, halted}
+use Rattle.order.specs.Turns.{Here}
+use Rattle.order.proofs.Turns.{here-first, here-few, here-next}
+use Rattle.file.proofs.Turns.{here-stop, here-full, here-end, went, halted}
 use Rattle.file.proofs.lines.check_lines.Statement.{statement}
 use Rattle.file.proofs.lines.check_lines.Tie as tie
 

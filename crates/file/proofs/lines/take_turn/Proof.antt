@@ -2,7 +2,7 @@
 use mathlib.Core.Path.{sym, _∙_}
 use native.Mathlib.Omega.{arith}
 use borrow.Author.Needs.{needs}
-use Rattle.file.proofs.Cuts.{cut, torn}
+use Rattle.cut.proofs.Cuts.{cut, torn}
 use Rattle.file.proofs.Turns.{turn-passed, turn-stopped, turn-torn}
 use Rattle.file.proofs.lines.take_turn.Statement.{statement}
 use Rattle.file.proofs.lines.take_turn.Tie as tie
@@ -27,5 +27,5 @@ take-turn-spec =
     (λ c. search needs)
     (λ c κs. search needs)
     (λ c. turn-torn _ _ _ _ (torn _ _ _ (sym (c .before .before .end .given .1) ∙ c .before .before .before .before .line-end .ensures) (search needs)) _ (c .in-next .ensures))
-    (λ c. turn-passed _ (cut _ _ _ (sym (c .before .before .before .before .before .before .end2 .given .1) ∙ c .before .before .before .before .before .before .before .before .line-end .ensures)) _ (c .before .before .before .judge-line .ensures) (c .enum-told .given .1))
-    (λ c. turn-stopped _ (cut _ _ _ (sym (c .before .before .before .before .before .before .before .before .end2 .given .1) ∙ c .before .before .before .before .before .before .before .before .before .before .line-end .ensures)) _ (c .before .before .before .before .before .judge-line .ensures) _ (c .before .before .outcome .given .1) _ (c .in-next2 .ensures)))
+    (λ c. turn-passed _ (search needs) (cut _ _ _ (sym (c .before .before .before .before .before .before .end2 .given .1) ∙ c .before .before .before .before .before .before .before .before .line-end .ensures)) _ (c .before .before .before .judge-line .ensures) (c .enum-told .given .1))
+    (λ c. turn-stopped _ (search needs) (cut _ _ _ (sym (c .before .before .before .before .before .before .before .before .end2 .given .1) ∙ c .before .before .before .before .before .before .before .before .before .before .line-end .ensures)) _ (c .before .before .before .before .before .judge-line .ensures) _ (c .before .before .outcome .given .1) _ (c .in-next2 .ensures)))

@@ -1,6 +1,6 @@
 -- `values::step` meets its contract. Assumes nothing.
 use borrow.Author.Needs.{needs}
-use Rattle.file.specs.Steps.{stepTold}
+use Rattle.cut.specs.Steps.{stepTold}
 use Rattle.hivebasket.proofs.values.step.Statement.{statement}
 use Rattle.hivebasket.proofs.values.step.Tie as tie
 
