@@ -34,7 +34,7 @@ use Rattle.plain.proofs.Laws.{mild-text}
 use Rattle.sure.specs.Sure.{patternOf, sureTime}
 use Rattle.sure.proofs.Said.{Parts, parts, sure-fix, sure-extra}
 use Rattle.cut.proofs.Cuts.{Cut}
-use Rattle.ahead.specs.Paces.{letterOf, layoutFor, fixesIn, extrasIn, paced, onward, takenTold, AfterTime, Going, Known, Judges, JudgedAs, Takes, TakenAs}
+use Rattle.ahead.specs.Paces.{letterOf, layoutFor, fixesIn, extrasIn, paced, onward, takenTold, AfterTime, Going, Known, Judges, JudgedAs, MildAs, Takes, TakenAs}
 use Rattle.ahead.specs.declared.Pace.{Pace}
 use Rattle.ahead.specs.declared.Taken.{Taken}
 use Rattle.ahead.specs.declared.Taken.the-variants as taken
@@ -93,30 +93,42 @@ pub by-taken : {l : List ℕ} {st : State} {p : Pace} {next : ℕ} (r : Taken) �
 by-taken (taken.Next q) h = h q refl
 by-taken taken.Unsure h = tt
 
+by-mild : {l : List ℕ} {st : State} {p : Pace} {next : ℕ} (r : Taken) → ((q : Pace) → r ≡ taken.Next q → Judges l st p next q × (every isMild l ≡ true)) → MildAs l st p next r
+by-mild (taken.Next q) h = h q refl
+by-mild taken.Unsure h = tt
+
 module _ (l : List ℕ) (st : State) (p : Pace) (next : ℕ) (g : Going st p) (long : 1 ≤ length l) where
-  pub columned-told : (f : Family) (size : ℕ) (pattern : List ℕ) (time : Time) (r : Taken) → Known f st size pattern → getD l 0 0 ≡ letterOf f → timeTold time ≡ sureTime f l size pattern
-      → AfterTime time p next (fixesIn f) (extrasIn f) r → JudgedAs l st p next r
-  columned-told family.B size pattern time r k e s a =
-      by-taken r λ q h.
+  columned-as : (f : Family) (size : ℕ) (pattern : List ℕ) (time : Time) (r : Taken) → Known f st size pattern → getD l 0 0 ≡ letterOf f → timeTold time ≡ sureTime f l size pattern
+      → AfterTime time p next (fixesIn f) (extrasIn f) r → MildAs l st p next r
+  columned-as family.B size pattern time r k e s a =
+      by-mild r λ q h.
       let d = timed-is time p q next 1 0 r a h in
       let m : Parts family.B l (lineLength (firstStart family.B) (st .flight .fixes)) (patternOf (entriesOf (st .flight .fixes))) (d .t) =
-          rw (k .size, k .pattern) at (parts family.B l size pattern (d .t) (sym s ∙ d .is)) in
-      let f = sure-fix (st .flight .fixes) l (d .t) (k .allowed) m in
-      rw (d .numbers) (record {
-        judged = judged-fix l (paced st p) (g .points) (g .low) (g .high) long (f .fix) (d .t) e (f .read) (f .time) (d .forth);
-        at = refl;
-        stage = refl;
-      })
-  columned-told family.K size pattern time r k e s a =
-      by-taken r λ q h.
+      rw (k .sized, k .columned) at (parts family.B l size pattern (d .t) (sym s ∙ d .is)) in
+      let f = sure-fix (st .flight .fixes) l (d .t) (k .told) m in (
+        rw (d .numbers) (record {
+          judged = judged-fix l (paced st p) (g .points) (g .low) (g .high) long (f .fix) (d .t) e (f .read) (f .time) (d .forth);
+          at = refl;
+          stage = refl;
+        }),
+        m .mild,
+      )
+  columned-as family.K size pattern time r k e s a =
+      by-mild r λ q h.
       let d = timed-is time p q next 0 1 r a h in
       let m : Parts family.K l (lineLength (firstStart family.K) (st .flight .extras)) (patternOf (entriesOf (st .flight .extras))) (d .t) =
-          rw (k .size, k .pattern) at (parts family.K l size pattern (d .t) (sym s ∙ d .is)) in
-      rw (d .numbers) (record {
-        judged = judged-extra l (paced st p) (g .points) (g .low) (g .high) long (d .t) e (sure-extra (st .flight .extras) l (d .t) (k .allowed) m) (d .forth);
-        at = refl;
-        stage = refl;
-      })
+      rw (k .sized, k .columned) at (parts family.K l size pattern (d .t) (sym s ∙ d .is)) in (
+        rw (d .numbers) (record {
+          judged = judged-extra l (paced st p) (g .points) (g .low) (g .high) long (d .t) e (sure-extra (st .flight .extras) l (d .t) (k .told) m) (d .forth);
+          at = refl;
+          stage = refl;
+        }),
+        m .mild,
+      )
+
+  pub columned-told : (f : Family) (size : ℕ) (pattern : List ℕ) (time : Time) (bs ks : ℕ) (r : Taken) → Known f st size pattern → getD l 0 0 ≡ letterOf f → timeTold time ≡ sureTime f l size pattern
+      → bs ≡ fixesIn f → ks ≡ extrasIn f → AfterTime time p next bs ks r → MildAs l st p next r
+  columned-told f size pattern time bs ks r k e s b x a = columned-as f size pattern time r k e s (rw (b, x) at a)
 
   -- a line with no columns that the check judges so
   other : (t : ℕ) (r : Taken) → (isBack (passing (p .clock) t) ≡ false → judge l (paced st p) ≡ says (clocked t (moved 5 (paced st p)))) → AfterTime (Secs t) p next 0 0 r → JudgedAs l st p next r
@@ -190,3 +202,8 @@ module _ (f : List ℕ) (at size : ℕ) (w : at + size + 2 ≤ length f) (cr : g
         fits = w;
         lines = rw n (ap linesOf bytes ∙ lines-of-line (take size (drop at f)) (drop (at + size + 2) f) (mild-text (take size (drop at f)) (rw n at m)));
       }
+
+pub taken-mild : (f : List ℕ) (st : State) (p : Pace) (size : ℕ) (r : Taken) → p .at + size + 2 ≤ length f → getD f (p .at + size) 0 ≡ 13 → getD f (p .at + size + 1) 0 ≡ 10
+    → MildAs (take (p .at + size - p .at) (drop (p .at) f)) st p (p .at + size + 2) r → TakenAs f st p r
+taken-mild f st p size (taken.Next q) w cr lf j = taken-by f st p (p .at + size) (taken.Next q) (cut-mild f (p .at) size w cr lf (j .1)) (j .0)
+taken-mild f st p size taken.Unsure w cr lf j = tt

@@ -4,7 +4,7 @@ use mathlib.Core.Bool.{Bool, true, false, not}
 use mathlib.Core.List.{List}
 use mathlib.Core.Option.{Option, none, some}
 use mathlib.Core.Path.{_≡_}
-use lib.ListN.{length, getD}
+use lib.ListN.{length, getD, take}
 use Rattle.rules.specs.Choice.{given, need}
 use Rattle.rules.specs.Fields.{timeTold}
 use Rattle.rules.specs.Layouts.{firstStart, allowed, lineLength, entriesOf}
@@ -17,8 +17,10 @@ use Rattle.rules.specs.declared.State.{State}
 use Rattle.rules.specs.declared.Time.{Time}
 use Rattle.order.specs.States.{Few}
 use Rattle.order.specs.Turns.{Passed, Here}
+use Rattle.plain.specs.Plain.{isMild, every}
 use Rattle.sure.specs.Sure.{patternOf}
 use Rattle.ahead.specs.declared.Ahead.{Ahead}
+use Rattle.ahead.specs.declared.Gauge.{Gauge}
 use Rattle.ahead.specs.declared.Pace.{Pace}
 use Rattle.ahead.specs.declared.Taken.{Taken}
 use Rattle.ahead.specs.declared.Taken.the-variants as taken
@@ -85,9 +87,9 @@ pub record Going (st : State) (p : Pace) : Type 0 where
 
 -- what a run knows of the lines of a family: their layout is allowed, and gives their length and pattern
 pub record Known (f : Family) (st : State) (size : ℕ) (pattern : List ℕ) : Type 0 where
-  pub allowed : allowed (firstStart f) (layoutFor f st) ≡ true
-  pub size : size ≡ lineLength (firstStart f) (layoutFor f st)
-  pub pattern : pattern ≡ patternOf (entriesOf (layoutFor f st))
+  pub told : allowed (firstStart f) (layoutFor f st) ≡ true
+  pub sized : size ≡ lineLength (firstStart f) (layoutFor f st)
+  pub columned : pattern ≡ patternOf (entriesOf (layoutFor f st))
 
 -- the line is good, and q has the numbers after it
 pub record Judges (l : List ℕ) (st : State) (p : Pace) (next : ℕ) (q : Pace) : Type 0 where
@@ -99,10 +101,15 @@ abbrev pub JudgedAs : List ℕ → State → Pace → ℕ → Taken → Type 0
 JudgedAs l st p next (taken.Next q) = Judges l st p next q
 JudgedAs l st p next taken.Unsure = Unit {0}
 
+-- the same of a line whose bytes are all mild
+abbrev pub MildAs : List ℕ → State → Pace → ℕ → Taken → Type 0
+MildAs l st p next (taken.Next q) = Judges l st p next q × (every isMild l ≡ true)
+MildAs l st p next taken.Unsure = Unit {0}
+
 -- a line of a family, wherever it may come and its columns are known
 abbrev pub ColumnedTold : Family → List ℕ → ℕ → List ℕ → Pace → ℕ → Taken → Type 0
 ColumnedTold f l size pattern p next r =
-    (st : State) → Going st p → Known f st size pattern → getD l 0 0 ≡ letterOf f → 1 ≤ length l → JudgedAs l st p next r
+    (st : State) → Going st p → Known f st size pattern → getD l 0 0 ≡ letterOf f → 1 ≤ length l → MildAs l st p next r
 
 -- any other line, wherever it may come
 abbrev pub OtherTold : ℕ → List ℕ → Pace → ℕ → Taken → Type 0
@@ -141,6 +148,13 @@ pub record MayRun (file : List ℕ) (from : ℕ) (st : State) : Type 0 where
 pub record BothAllowed (st : State) : Type 0 where
   pub fixes : allowed (firstStart family.B) (st .flight .fixes) ≡ true
   pub extras : allowed (firstStart family.K) (st .flight .extras) ≡ true
+
+-- what is known of the lines of a family with this layout
+pub record Gauged (f : Family) (l : Layout) (r : Gauge) : Type 0 where
+  pub sized : r .size ≡ lineLength (firstStart f) l
+  pub small : r .size ≤ 255
+  pub ended : r .end ≤ length (r .pattern)
+  pub columned : take (r .end) (r .pattern) ≡ patternOf (entriesOf l)
 
 -- what held before the run holds after it: the lines between are passed, and their entries put
 pub record Ran (file table : List ℕ) (from : ℕ) (st : State) (r : Ahead) (table′ : List ℕ) : Type 0 where

@@ -3,12 +3,14 @@ ghost use Prim.Native.Nat.{_≤_, _<_};
 ghost use mathlib.Core.Bool.{true};
 ghost use mathlib.Core.Path.{_≡_};
 ghost use lib.ListN.{length, getD};
+ghost use Rattle.rules.specs.Layouts.{firstStart, allowed};
 ghost use Rattle.rules.specs.Order.{afterH, inBody};
 ghost use Rattle.rules.specs.declared.Family.the-variants as family;
 ghost use Rattle.order.specs.States.{Few};
-ghost use Rattle.ahead.specs.Paces.{letterOf, paced, AfterTime, Known, ColumnedTold, OtherTold, FamilyTaken, OtherTaken, LineTaken, MayRun, BothAllowed, Ran};
+ghost use Rattle.ahead.specs.Paces.{letterOf, paced, AfterTime, Known, ColumnedTold, OtherTold, FamilyTaken, OtherTaken, LineTaken, MayRun, BothAllowed, Gauged, Ran};
 use cut::Ended;
 use rules::Family;
+use rules::Layout;
 use rules::Outcome;
 use rules::State;
 use rules::Time;
@@ -217,7 +219,7 @@ fn run_lines(
 
 // Whether body lines may come at a place of a file of allowed size, and the layouts are allowed.
 fn may_run(file: &[u8], from: usize, st: State) -> bool
-    ensures { λ r. ⌜ r ≡ true → MayRun (now (file .entry)) from st ⌝ }
+    ensures { λ r. ⌜ (r ≡ true → MayRun (now (file .entry)) from st) ⌝ }
 {
     if st.points != 0 {
         return false;
@@ -239,7 +241,7 @@ fn may_run(file: &[u8], from: usize, st: State) -> bool
 
 // Whether both layouts are allowed.
 fn are_allowed(st: State) -> bool
-    ensures { λ r. ⌜ r ≡ true → BothAllowed st ⌝ }
+    ensures { λ r. ⌜ (r ≡ true → BothAllowed st) ⌝ }
 {
     let flight = st.flight;
     let fixes = flight.fixes;
@@ -250,6 +252,44 @@ fn are_allowed(st: State) -> bool
     layout::allowed(Family::K, extras)
 }
 
+// What a run knows of the lines of a family: their length, and the pattern of their columns, in the first `end` bytes.
+pub struct Gauge {
+    pub size: usize,
+    pub end: usize,
+    pub pattern: [u8; 39],
+}
+
+fn gauge_of(family: Family, layout: Layout) -> Gauge
+    requires { ⌜ allowed (firstStart family) layout ≡ true ⌝ }
+    ensures { λ r. ⌜ Gauged family layout r ⌝ }
+{
+    let size = layout::line_length(family, layout) as usize;
+    let end = 3 * layout.count;
+    let pattern = sure::pattern(layout);
+    Gauge { size, end, pattern }
+}
+
+// The lines from a place on where they may come, by what is known of their families.
+fn run_known(
+    file: &[u8],
+    table: &mut [u32],
+    from: usize,
+    fixes: Gauge,
+    extras: Gauge,
+    st: State,
+) -> Ahead
+    requires { ⌜ MayRun (now file) from st × BothAllowed st × Gauged family.B (st .flight .fixes) fixes × Gauged family.K (st .flight .extras) extras ⌝ }
+    ensures { λ r. ⌜ Ran (now (file .entry)) (now (table .entry)) from st r (now (table .exit)) ⌝ }
+{
+    let b = fixes.size;
+    let m = fixes.end;
+    let columns = fixes.pattern;
+    let k = extras.size;
+    let n = extras.end;
+    let others = extras.pattern;
+    run_lines(file, table, from, b, &columns[..m], k, &others[..n], st)
+}
+
 // The lines from a place on where they may come, with what the layouts say of them.
 fn run_body(file: &[u8], table: &mut [u32], from: usize, st: State) -> Ahead
     requires { ⌜ MayRun (now file) from st × BothAllowed st ⌝ }
@@ -258,13 +298,9 @@ fn run_body(file: &[u8], table: &mut [u32], from: usize, st: State) -> Ahead
     let flight = st.flight;
     let fixes = flight.fixes;
     let extras = flight.extras;
-    let b = layout::line_length(Family::B, fixes) as usize;
-    let k = layout::line_length(Family::K, extras) as usize;
-    let columns = sure::pattern(fixes);
-    let others = sure::pattern(extras);
-    let m = 3 * fixes.count;
-    let n = 3 * extras.count;
-    run_lines(file, table, from, b, &columns[..m], k, &others[..n], st)
+    let b = gauge_of(Family::B, fixes);
+    let k = gauge_of(Family::K, extras);
+    run_known(file, table, from, b, k, st)
 }
 
 // The B, K, E, F and L lines from a place on, as far as they may come, are surely good and the table has room: the place after them and the state there, with their
@@ -273,10 +309,16 @@ pub fn run_ahead(file: &[u8], table: &mut [u32], from: usize, st: State) -> Ahea
     ensures { λ r. ⌜ Ran (now (file .entry)) (now (table .entry)) from st r (now (table .exit)) ⌝ }
 {
     if !may_run(file, from, st) {
-        return Ahead { at: from, state: st };
+        return Ahead {
+            at: from,
+            state: st,
+        };
     }
     if !are_allowed(st) {
-        return Ahead { at: from, state: st };
+        return Ahead {
+            at: from,
+            state: st,
+        };
     }
     run_body(file, table, from, st)
 }

@@ -123,7 +123,7 @@ unfolding columns badColumn allowed
 columns-said f l layout a e =
     let p = and-inv (leb (layout .count) 13) _ (and-inv _ _ a .0) .1 in
     let none : firstOf (bad l) (λ k x. x .first) (entriesOf layout) 0 ≡ none =
-        or-inv (isDigits (drop (byte (firstStart f)) l)) _ e (λ d. none-by-digits l (firstStart f) (least f) d (entriesOf layout) (firstStart f) _ 0 (omega arith) p) (none-by-pattern l (entriesOf layout) 0) in
+    or-inv (isDigits (drop (byte (firstStart f)) l)) _ e (λ d. none-by-digits l (firstStart f) (least f) d (entriesOf layout) (firstStart f) _ 0 (omega arith) p) (none-by-pattern l (entriesOf layout) 0) in
     rw none
   where
     least : (f : Family) → 1 ≤ firstStart f
