@@ -1,46 +1,17 @@
--- How the first line of a file lies in it. Assumes nothing.
+-- How the first line of a file lies in it, or the text that no CR LF ends. Assumes nothing.
 use Prim.Native.Nat.{ℕ, suc, suc-le-suc, _+_, _-_, _≤_, _<_}
-use mathlib.Core.Bool.{Bool, true, false, cond}
 use mathlib.Core.List.{List, [], _∷_}
-use mathlib.Core.Path.{_≡_, refl, sym, ap}
+use mathlib.Core.Path.{_≡_, refl, sym, ap, _∙_}
 use native.Mathlib.Omega.{arith}
 use lib.Dec.{eqb}
 use lib.ListN.{length, take, drop, length-drop}
-use lib.Seq.{drop-drop}
 use Rattle.rules.specs.Split.{Lines, end, broken, line, text, linesOf, afterCR}
+use Rattle.laws.proofs.Chains.{by-cond}
+use Rattle.laws.proofs.Splitting.{none-left, line-at}
 use Rattle.cut.specs.Steps.{endedAt}
 use Rattle.cut.specs.declared.scan.Ended.the-variants as ended
 
--- what the lines of l say of l
-abbrev Good : List ℕ → Lines → Type 0
-Good l end = l ≡ []
-Good l (broken n) = n ≤ length l
-Good l (line t ls) = (suc (suc (length t)) ≤ length l) × (take (length t) l ≡ t) × (linesOf (drop (suc (suc (length t))) l) ≡ ls)
-
-good-text : (b : ℕ) (r : List ℕ) (k : Lines) → Good r k → Good (b ∷ r) (text b k)
-unfolding text
-good-text b r end g = omega arith
-good-text b r (broken n) g = suc-le-suc g
-good-text b r (line t ls) g = (suc-le-suc (g .0), ap (λ (x : List ℕ). b ∷ x) (g .1), g .2)
-
-good-lf : (b c : ℕ) (r : List ℕ) (z : Bool) → Good (b ∷ c ∷ r) (cond z (line [] (linesOf r)) (broken 0))
-good-lf b c r true = (omega arith, refl, refl)
-good-lf b c r false = omega arith
-
-good-cr : (b : ℕ) (r : List ℕ) → Good (b ∷ r) (afterCR r)
-unfolding afterCR
-good-cr b [] = omega arith
-good-cr b (c ∷ r) = good-lf b c r (eqb c 10)
-
-good-cond : (b : ℕ) (r : List ℕ) (x y : Bool) → Good r (linesOf r) → Good (b ∷ r) (cond x (afterCR r) (cond y (broken 0) (text b (linesOf r))))
-good-cond b r true y g = good-cr b r
-good-cond b r false true g = omega arith
-good-cond b r false false g = good-text b r (linesOf r) g
-
-good : (l : List ℕ) → Good l (linesOf l)
-unfolding linesOf
-good [] = refl
-good (b ∷ r) = good-cond b r (eqb b 13) (eqb b 10) (good r)
+-- ---- a line
 
 -- a line that ends at e lies between at and e, its CR LF is in the file, and the lines after it are those of what is left
 pub record Cut (f : List ℕ) (at e : ℕ) : Type 0 where
@@ -48,19 +19,42 @@ pub record Cut (f : List ℕ) (at e : ℕ) : Type 0 where
   pub fits : e + 2 ≤ length f
   pub lines : linesOf (drop at f) ≡ line (take (e - at) (drop at f)) (linesOf (drop (e + 2) f))
 
-cut-by : (f : List ℕ) (at e : ℕ) (k : Lines) → Good (drop at f) k → endedAt at k ≡ ended.At e
-    → (at ≤ e) × (e + 2 ≤ length f) × (k ≡ line (take (e - at) (drop at f)) (linesOf (drop (e + 2) f)))
+cut-by : (f : List ℕ) (at e : ℕ) (k : Lines) → linesOf (drop at f) ≡ k → endedAt at k ≡ ended.At e → Cut f at e
 unfolding endedAt
 cut-by f at e end g q = let z : _≡_ {A = ℕ} 0 1 = cc in absurd (omega arith)
 cut-by f at e (broken n) g q = let z : _≡_ {A = ℕ} 0 1 = cc in absurd (omega arith)
 cut-by f at e (line t ls) g q =
     let w : at + length t ≡ e = cc in
-    let n : e - at ≡ length t = omega arith in
-    let m : at + suc (suc (length t)) ≡ e + 2 = omega arith in
-    (omega arith, omega (arith, g .0, length-drop at f), cc (drop-drop (suc (suc (length t))) at f))
+    let p = line-at f at t ls g in
+    record { start = omega arith; fits = omega (arith, p .inside); lines = rw (← w) (rw (p .text, p .after) g) }
 
 pub cut : (f : List ℕ) (at e : ℕ) → ended.At e ≡ endedAt at (linesOf (drop at f)) → Cut f at e
-cut f at e q = let r = cut-by f at e (linesOf (drop at f)) (good (drop at f)) (sym q) in record { start = r .0; fits = r .1; lines = r .2 }
+cut f at e q = cut-by f at e (linesOf (drop at f)) refl (sym q)
+
+-- ---- text that no CR LF ends
+
+-- it is no longer than the bytes
+abbrev Short : ℕ → Lines → Type 0
+Short size end = Unit {0}
+Short size (broken n) = n ≤ size
+Short size (line t ls) = Unit {0}
+
+short-text : (b size : ℕ) (k : Lines) → Short size k → Short (suc size) (text b k)
+unfolding text
+short-text b size end h = omega arith
+short-text b size (broken n) h = suc-le-suc h
+short-text b size (line t ls) h = tt
+
+short-cr : (r : List ℕ) → Short (suc (length r)) (afterCR r)
+unfolding afterCR
+short-cr [] = omega arith
+short-cr (c ∷ r) = by-cond (Short (suc (suc (length r)))) (eqb c 10) _ _ tt (omega arith)
+
+short : (l : List ℕ) → Short (length l) (linesOf l)
+unfolding linesOf
+short [] = tt
+short (b ∷ r) =
+    by-cond (Short (suc (length r))) (eqb b 13) _ _ (short-cr r) (by-cond (Short (suc (length r))) (eqb b 10) _ _ (omega arith) (short-text b (length r) (linesOf r) (short r)))
 
 -- bytes are left, and no CR LF ends the line: text up to e, which is in the file
 pub record Torn (f : List ℕ) (at e : ℕ) : Type 0 where
@@ -68,14 +62,14 @@ pub record Torn (f : List ℕ) (at e : ℕ) : Type 0 where
   pub within : e ≤ length f
   pub lines : linesOf (drop at f) ≡ broken (e - at)
 
-torn-by : (f : List ℕ) (at e : ℕ) (k : Lines) → Good (drop at f) k → at < length f → endedAt at k ≡ ended.Broken e → (at ≤ e) × (e ≤ length f) × (k ≡ broken (e - at))
+torn-by : (f : List ℕ) (at e : ℕ) (k : Lines) → linesOf (drop at f) ≡ k → Short (length (drop at f)) k → at < length f → endedAt at k ≡ ended.Broken e → Torn f at e
 unfolding endedAt
-torn-by f at e end g h q = absurd (omega (arith, simp length-drop at (ap length g)))
-torn-by f at e (broken n) g h q =
+torn-by f at e end g s h q = absurd (omega (arith, simp length-drop at (ap length (none-left (drop at f) g))))
+torn-by f at e (broken n) g s h q =
     let w : at + n ≡ e = cc in
     let v : n ≡ e - at = omega arith in
-    (omega arith, omega (arith, g, length-drop at f), ap broken v)
-torn-by f at e (line t ls) g h q = let z : _≡_ {A = ℕ} 0 1 = cc in absurd (omega arith)
+    record { start = omega arith; within = omega (arith, s, length-drop at f); lines = g ∙ ap broken v }
+torn-by f at e (line t ls) g s h q = let z : _≡_ {A = ℕ} 0 1 = cc in absurd (omega arith)
 
 pub torn : (f : List ℕ) (at e : ℕ) → ended.Broken e ≡ endedAt at (linesOf (drop at f)) → at < length f → Torn f at e
-torn f at e q h = let r = torn-by f at e (linesOf (drop at f)) (good (drop at f)) h (sym q) in record { start = r .0; within = r .1; lines = r .2 }
+torn f at e q h = torn-by f at e (linesOf (drop at f)) refl (short (drop at f)) h (sym q)
