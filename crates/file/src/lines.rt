@@ -103,15 +103,21 @@ pub(crate) fn check_lines(file: &[u8], table: &mut [u32]) -> Checked
     let mut at: usize = 0;
     let mut st = order::start_state();
     while at < file.len() {
-        let turn = take_turn(file, at, st);
+        let run = ahead::run_ahead(file, table, at, st);
+        let from = run.at;
+        let reached = run.state;
+        if file.len() <= from {
+            return finished(reached);
+        }
+        let turn = take_turn(file, from, reached);
         let what = turn.what;
         match what {
             What::Next(next) => {
-                let n = st.flight.lines as usize;
+                let n = reached.flight.lines as usize;
                 if table.len() <= n {
-                    return refused(in_next(Reason::TableFull, 0, st));
+                    return refused(in_next(Reason::TableFull, 0, reached));
                 }
-                table[n] = at as u32;
+                table[n] = from as u32;
                 st = turn.state;
                 at = next;
             }
