@@ -1,7 +1,9 @@
 // Digits as a number, and a text as a whole number with its sign.
-ghost use Prim.Native.Nat.{_<_, _^_};
+ghost use Prim.Native.Nat.{_+_, _≤_, _<_, _^_};
 ghost use mathlib.Core.Path.{_≡_};
+ghost use lib.Dec.{leb};
 ghost use lib.IntN.{pos, negℤ};
+ghost use lib.ListN.{length};
 ghost use Rattle.rules.specs.Promises.{DigitTest, DigitsRead, WholeRead};
 use rules::Number;
 use rules::Signed;
@@ -37,6 +39,105 @@ pub fn digits(s: &[u8], at: usize, n: usize) -> Number
         left -= 1;
     }
     Number::Value(v)
+}
+
+// Whether a text of `size` bytes has n bytes from a place on.
+fn reaches(size: usize, at: usize, n: usize) -> bool
+    ensures { λ r. ⌜ r ≡ leb (at + n) size ⌝ }
+{
+    n <= size && at <= size - n
+}
+
+// One digit of s.
+fn one(s: &[u8], at: usize) -> Number
+    requires { ⌜ at + 1 ≤ length (now s) ⌝ }
+    ensures { λ r. ⌜ DigitsRead (now (s .entry)) at 1 r ⌝ }
+{
+    let b = s[at];
+    if is_digit(b) {
+        return Number::Value((b - 48) as u64);
+    }
+    Number::NoNumber
+}
+
+// Two digits of s: one and one.
+fn pair(s: &[u8], at: usize) -> Number
+    requires { ⌜ at + 2 ≤ length (now s) ⌝ }
+    ensures { λ r. ⌜ DigitsRead (now (s .entry)) at 2 r ⌝ }
+{
+    let Number::Value(v) = one(s, at) else {
+        return Number::NoNumber;
+    };
+    let Number::Value(w) = one(s, at + 1) else {
+        return Number::NoNumber;
+    };
+    Number::Value(v * 10 + w)
+}
+
+// Three digits of s: one and two.
+fn triple(s: &[u8], at: usize) -> Number
+    requires { ⌜ at + 3 ≤ length (now s) ⌝ }
+    ensures { λ r. ⌜ DigitsRead (now (s .entry)) at 3 r ⌝ }
+{
+    let Number::Value(v) = one(s, at) else {
+        return Number::NoNumber;
+    };
+    let Number::Value(w) = pair(s, at + 1) else {
+        return Number::NoNumber;
+    };
+    Number::Value(v * 100 + w)
+}
+
+// `digits(s, at, 2)`, with one test of the length.
+pub fn two(s: &[u8], at: usize) -> Number
+    ensures { λ r. ⌜ DigitsRead (now (s .entry)) at 2 r ⌝ }
+{
+    if !reaches(s.len(), at, 2) {
+        return Number::NoNumber;
+    }
+    pair(s, at)
+}
+
+// `digits(s, at, 3)`, with one test of the length.
+pub fn three(s: &[u8], at: usize) -> Number
+    ensures { λ r. ⌜ DigitsRead (now (s .entry)) at 3 r ⌝ }
+{
+    if !reaches(s.len(), at, 3) {
+        return Number::NoNumber;
+    }
+    triple(s, at)
+}
+
+// `digits(s, at, 4)`, with one test of the length: two and two.
+pub fn four(s: &[u8], at: usize) -> Number
+    ensures { λ r. ⌜ DigitsRead (now (s .entry)) at 4 r ⌝ }
+{
+    if !reaches(s.len(), at, 4) {
+        return Number::NoNumber;
+    }
+    let Number::Value(v) = pair(s, at) else {
+        return Number::NoNumber;
+    };
+    let Number::Value(w) = pair(s, at + 2) else {
+        return Number::NoNumber;
+    };
+    Number::Value(v * 100 + w)
+}
+
+// `digits(s, at, 5)`, with one test of the length: two and three.
+pub fn five(s: &[u8], at: usize) -> Number
+    ensures { λ r. ⌜ DigitsRead (now (s .entry)) at 5 r ⌝ }
+{
+    if !reaches(s.len(), at, 5) {
+        return Number::NoNumber;
+    }
+    let Number::Value(v) = pair(s, at) else {
+        return Number::NoNumber;
+    };
+    let Number::Value(w) = triple(s, at + 2) else {
+        return Number::NoNumber;
+    };
+    Number::Value(v * 1000 + w)
 }
 
 // v with its sign.
