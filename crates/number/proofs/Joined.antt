@@ -1,5 +1,5 @@
 -- Reading m + n digits is reading m and then n, whatever stands there; and where a text ends before, there is no number. Assumes nothing.
-use Prim.Native.Nat.{ℕ, zero, suc, _+_, _-_, _*_, _^_, _≤_, _<_}
+use Prim.Native.Nat.{ℕ, zero, suc, _+_, _-_, _*_, _^_, _≤_}
 use mathlib.Core.Bool.{Bool, true, false, not, cond}
 use mathlib.Core.List.{List, [], _∷_}
 use mathlib.Core.Option.{Option, none, some}
@@ -98,15 +98,5 @@ none-or-long (some w) s at n e p f = let g = le-leb (at + n) (length s) (number-
 pub short : (s : List ℕ) (at n : ℕ) (t : Bool) → t ≡ leb (at + n) (length s) → not t ≡ true → 1 ≤ n → none ≡ numberAt s at n
 short s at n t e f p = none-or-long (numberAt s at n) s at n refl p (sym e ∙ not-true t f)
 
-module _ (at n b : ℕ) (t : Bool) (e : t ≡ leb (at + n) b) (f : not t ≡ false) where
-  -- m of the n bytes
-  pub long : (m : ℕ) → m ≤ n → at + m ≤ b
-  long m h = omega (arith, leb-true (at + n) b (sym e ∙ not-false t f))
-
-  -- k of them behind m
-  pub behind : (m k : ℕ) → m + k ≤ n → at + m + k ≤ b
-  behind m k h = omega (arith, leb-true (at + n) b (sym e ∙ not-false t f))
-
-  -- the place behind m is a usize
-  pub behind-fits : (m : ℕ) → m ≤ n → b * 1 < 2 ^ 63 → Fits w64 (at + m)
-  behind-fits m h g = omega (arith, long m h)
+pub long : (a b : ℕ) (t : Bool) → t ≡ leb a b → not t ≡ false → a ≤ b
+long a b t e f = leb-true a b (sym e ∙ not-false t f)

@@ -48,96 +48,112 @@ fn reaches(size: usize, at: usize, n: usize) -> bool
     n <= size && at <= size - n
 }
 
-// One digit of s.
-fn one(s: &[u8], at: usize) -> Number
+// One digit that is there, as a number.
+fn one_there(s: &[u8], at: usize) -> Number
     requires { ⌜ at + 1 ≤ length (now s) ⌝ }
     ensures { λ r. ⌜ DigitsRead (now (s .entry)) at 1 r ⌝ }
 {
     let b = s[at];
     if is_digit(b) {
-        return Number::Value((b - 48) as u64);
+        return Number::Value(b as u64 - 48);
     }
     Number::NoNumber
 }
 
-// Two digits of s: one and one.
-fn pair(s: &[u8], at: usize) -> Number
+// Two digits that are there: one and one.
+fn two_there(s: &[u8], at: usize) -> Number
     requires { ⌜ at + 2 ≤ length (now s) ⌝ }
     ensures { λ r. ⌜ DigitsRead (now (s .entry)) at 2 r ⌝ }
 {
-    let Number::Value(v) = one(s, at) else {
+    let Number::Value(v) = one_there(s, at) else {
         return Number::NoNumber;
     };
-    let Number::Value(w) = one(s, at + 1) else {
+    let Number::Value(w) = one_there(s, at + 1) else {
         return Number::NoNumber;
     };
     Number::Value(v * 10 + w)
 }
 
-// Three digits of s: one and two.
-fn triple(s: &[u8], at: usize) -> Number
+// Three digits that are there: two and one.
+fn three_there(s: &[u8], at: usize) -> Number
     requires { ⌜ at + 3 ≤ length (now s) ⌝ }
     ensures { λ r. ⌜ DigitsRead (now (s .entry)) at 3 r ⌝ }
 {
-    let Number::Value(v) = one(s, at) else {
+    let Number::Value(v) = two_there(s, at) else {
         return Number::NoNumber;
     };
-    let Number::Value(w) = pair(s, at + 1) else {
+    let Number::Value(w) = one_there(s, at + 2) else {
         return Number::NoNumber;
     };
-    Number::Value(v * 100 + w)
+    Number::Value(v * 10 + w)
 }
 
-// `digits(s, at, 2)`, with one test of the length.
+// Four digits that are there: three and one.
+fn four_there(s: &[u8], at: usize) -> Number
+    requires { ⌜ at + 4 ≤ length (now s) ⌝ }
+    ensures { λ r. ⌜ DigitsRead (now (s .entry)) at 4 r ⌝ }
+{
+    let Number::Value(v) = three_there(s, at) else {
+        return Number::NoNumber;
+    };
+    let Number::Value(w) = one_there(s, at + 3) else {
+        return Number::NoNumber;
+    };
+    Number::Value(v * 10 + w)
+}
+
+// Five digits that are there: four and one.
+fn five_there(s: &[u8], at: usize) -> Number
+    requires { ⌜ at + 5 ≤ length (now s) ⌝ }
+    ensures { λ r. ⌜ DigitsRead (now (s .entry)) at 5 r ⌝ }
+{
+    let Number::Value(v) = four_there(s, at) else {
+        return Number::NoNumber;
+    };
+    let Number::Value(w) = one_there(s, at + 4) else {
+        return Number::NoNumber;
+    };
+    Number::Value(v * 10 + w)
+}
+
+// `digits(s, at, 2)`, in a straight line.
 pub fn two(s: &[u8], at: usize) -> Number
     ensures { λ r. ⌜ DigitsRead (now (s .entry)) at 2 r ⌝ }
 {
     if !reaches(s.len(), at, 2) {
         return Number::NoNumber;
     }
-    pair(s, at)
+    two_there(s, at)
 }
 
-// `digits(s, at, 3)`, with one test of the length.
+// `digits(s, at, 3)`, in a straight line.
 pub fn three(s: &[u8], at: usize) -> Number
     ensures { λ r. ⌜ DigitsRead (now (s .entry)) at 3 r ⌝ }
 {
     if !reaches(s.len(), at, 3) {
         return Number::NoNumber;
     }
-    triple(s, at)
+    three_there(s, at)
 }
 
-// `digits(s, at, 4)`, with one test of the length: two and two.
+// `digits(s, at, 4)`, in a straight line.
 pub fn four(s: &[u8], at: usize) -> Number
     ensures { λ r. ⌜ DigitsRead (now (s .entry)) at 4 r ⌝ }
 {
     if !reaches(s.len(), at, 4) {
         return Number::NoNumber;
     }
-    let Number::Value(v) = pair(s, at) else {
-        return Number::NoNumber;
-    };
-    let Number::Value(w) = pair(s, at + 2) else {
-        return Number::NoNumber;
-    };
-    Number::Value(v * 100 + w)
+    four_there(s, at)
 }
 
-// `digits(s, at, 5)`, with one test of the length: two and three.
+// `digits(s, at, 5)`, in a straight line.
 pub fn five(s: &[u8], at: usize) -> Number
     ensures { λ r. ⌜ DigitsRead (now (s .entry)) at 5 r ⌝ }
 {
     if !reaches(s.len(), at, 5) {
         return Number::NoNumber;
     }
-    let Number::Value(v) = pair(s, at) else {
-        return Number::NoNumber;
-    };
-    let Number::Value(w) = triple(s, at + 2) else {
-        return Number::NoNumber;
-    };
-    Number::Value(v * 1000 + w)
+    five_there(s, at)
 }
 
 // v with its sign.

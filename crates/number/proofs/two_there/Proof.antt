@@ -1,22 +1,22 @@
--- `number::pair` meets its contract: one digit and one joined. Assumes nothing.
-use borrow.Author.Needs.{needs}
+-- `number::two_there` meets its contract: one and one joined. Assumes nothing.
 use native.Mathlib.Omega.{arith}
+use borrow.Author.Needs.{needs}
 use Rattle.rules.specs.Numbers.{numberTold}
 use Rattle.number.proofs.Joined.{first-none, then-none, both, up-fits, sum-fits}
-use Rattle.number.proofs.pair.Statement.{statement}
-use Rattle.number.proofs.pair.Tie as tie
+use Rattle.number.proofs.two_there.Statement.{statement}
+use Rattle.number.proofs.two_there.Tie as tie
 
-pub pair-spec : {M : Type 1} → statement M
+pub two-there-spec : {M : Type 1} → statement M
 unfolding numberTold
-pair-spec =
+two-there-spec =
     tie.close
     (tie.spec
     (λ c κs. search needs)
     (λ c. search needs)
     (λ c. search needs)
     (λ c. search (first-none 1 1 (omega arith)))
-    (λ c. search (needs))
-    (λ c κs. search (needs))
+    (λ c. search needs)
+    (λ c κs. search needs)
     (λ c. search needs)
     (λ c. search needs)
     (λ c. search (then-none 1 1 (omega arith)))
