@@ -6,6 +6,7 @@ use borrow.Author.Needs.{needs}
 use Rattle.rules.specs.Fields.{positionAt, placeTold}
 use Rattle.rules.proofs.Links.{numbers}
 use Rattle.number.proofs.Laws.{reads, count-fits}
+use Rattle.field.proofs.Laws.{wide}
 use Rattle.field.proofs.position_at.Statement.{statement}
 use Rattle.field.proofs.position_at.Tie as tie
 
@@ -32,7 +33,7 @@ position-at-spec =
     (λ c. search (numbers, reads, needs) depth 16)
     (λ c. search (numbers, reads, needs) depth 16)
     (λ c. search (numbers, reads, needs) depth 16)
-    (λ c. search (numbers, reads, needs) depth 16)
+    (λ c. search (reads, wide, needs))
     (λ c κs. search (numbers, reads, needs) depth 16)
     (λ c. search (numbers, reads, needs) depth 16)
     (λ c. search (numbers, reads, needs) depth 16)
@@ -41,7 +42,7 @@ position-at-spec =
     (λ c. search (numbers, reads, needs) depth 16)
     (λ c. search count-fits)
     (λ c. search (numbers, reads, needs) depth 16)
-    (λ c. search (numbers, reads, needs) depth 16)
+    (λ c. search (reads, wide, needs))
     (λ c. search (numbers, reads, needs) depth 16)
     (λ c κs. search (numbers, reads, needs) depth 16)
     (λ c κs. search (numbers, reads, needs) depth 16)
