@@ -1,12 +1,13 @@
--- `put::altitude` meets its contract. Assumes nothing.
+-- `height::altitude` meets its contract. Assumes nothing.
 use mathlib.Core.Logic.{⊎-elim}
 use mathlib.Core.Path.{refl}
 use native.Mathlib.Omega.{arith}
 use borrow.Author.Needs.{needs}
 use borrow.Author.Tests.{ltb-true, ltb-false}
-use Rattle.put.proofs.Laws.{puts, put-past, put-there, altitude-length, plain-fills, minus-fills}
-use Rattle.put.proofs.altitude.Statement.{statement}
-use Rattle.put.proofs.altitude.Tie as tie
+use Rattle.put.proofs.Laws.{puts, put-past, put-there}
+use Rattle.height.proofs.Laws.{altitude-length, plain-fills, minus-fills}
+use Rattle.height.proofs.altitude.Statement.{statement}
+use Rattle.height.proofs.altitude.Tie as tie
 
 pub altitude-spec : {M : Type 1} → statement M
 altitude-spec =

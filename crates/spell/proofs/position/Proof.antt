@@ -1,13 +1,14 @@
--- `put::position` meets its contract. Assumes nothing.
+-- `spell::position` meets its contract. Assumes nothing.
 use mathlib.Core.Logic.{⊎-elim}
 use mathlib.Core.Path.{refl}
 use native.Mathlib.Omega.{arith}
 use borrow.Author.Needs.{needs}
 use borrow.Author.Tests.{ltb-true, ltb-false}
 use Rattle.rules.specs.Fields.{positionText}
-use Rattle.put.proofs.Laws.{puts, put-past, put-there, position-length}
-use Rattle.put.proofs.position.Statement.{statement}
-use Rattle.put.proofs.position.Tie as tie
+use Rattle.put.proofs.Laws.{puts, put-past, put-there}
+use Rattle.spell.proofs.Laws.{position-length}
+use Rattle.spell.proofs.position.Statement.{statement}
+use Rattle.spell.proofs.position.Tie as tie
 
 pub position-spec : {M : Type 1} → statement M
 unfolding positionText

@@ -1,4 +1,4 @@
--- `put::magnitude` meets its contract: `back` takes the machine's bits away, and `turned` and `one-more` are the laws on what is left. Assumes nothing.
+-- `height::magnitude` meets its contract: `back` takes the machine's bits away, and `turned` and `one-more` are the laws on what is left. Assumes nothing.
 use mathlib.Core.Bool.{false}
 use mathlib.Core.Path.{_≡_, sym, ap, _∙_, subst}
 use native.Mathlib.Nat.{lt-of-le-of-lt}
@@ -9,9 +9,9 @@ use lib.Signed.{mag, nonNeg, leZ, natAbs-le}
 use mir.Syntax.{w32}
 use mir.Val.{toZ, ofZ}
 use mir.ValLaws.{toZ-ofZ}
-use Rattle.put.proofs.Laws.{turned, one-more, zero-below}
-use Rattle.put.proofs.magnitude.Statement.{statement}
-use Rattle.put.proofs.magnitude.Tie as tie
+use Rattle.height.proofs.Laws.{turned, one-more, zero-below}
+use Rattle.height.proofs.magnitude.Statement.{statement}
+use Rattle.height.proofs.magnitude.Tie as tie
 
 back : (c : tie.After-struct-told) → toZ w32 (ofZ w32 (c .before .args .h .metres)) ≡ c .before .args .h .metres
 back c = toZ-ofZ w32 (c .before .args .h .metres) (record { sfits = c .struct-told .given .0 .1 })
