@@ -1,4 +1,4 @@
--- `field::position_at` meets its contract: each way out is a way through `positionAt`. Assumes nothing.
+-- `position::position_at` meets its contract: each way out is a way through `positionAt`. Assumes nothing.
 use Prim.Native.Nat.{_+_, _*_}
 use mathlib.Core.Option.{some}
 use mathlib.Core.Path.{_≡_}
@@ -6,8 +6,8 @@ use borrow.Author.Needs.{needs}
 use Rattle.rules.specs.Fields.{positionAt, placeTold}
 use Rattle.rules.proofs.Links.{numbers}
 use Rattle.number.proofs.Laws.{reads, count-fits}
-use Rattle.field.proofs.position_at.Statement.{statement}
-use Rattle.field.proofs.position_at.Tie as tie
+use Rattle.position.proofs.position_at.Statement.{statement}
+use Rattle.position.proofs.position_at.Tie as tie
 
 abbrev start : tie.Then3 → tie.Start
 start c = c .before .before .before .before .before .before .before .before .before .before .before .before .before .before

@@ -1,11 +1,11 @@
--- `field::altitude_at` meets its contract: each way out is a way through `altitudeAt`. Assumes nothing.
+-- `altitude::altitude_at` meets its contract: each way out is a way through `altitudeAt`. Assumes nothing.
 use borrow.Author.Needs.{needs}
 use Rattle.rules.specs.Fields.{altitudeAt, altitudeTold}
 use Rattle.rules.proofs.Links.{numbers}
 use Rattle.number.proofs.Laws.{reads}
-use Rattle.field.proofs.Laws.{next-fits}
-use Rattle.field.proofs.altitude_at.Statement.{statement}
-use Rattle.field.proofs.altitude_at.Tie as tie
+use Rattle.altitude.proofs.Laws.{next-fits}
+use Rattle.altitude.proofs.altitude_at.Statement.{statement}
+use Rattle.altitude.proofs.altitude_at.Tie as tie
 
 pub altitude-at-spec : {M : Type 1} → statement M
 unfolding altitudeAt altitudeTold

@@ -1,10 +1,10 @@
--- `field::below` meets its contract. Assumes nothing.
+-- `altitude::below` meets its contract. Assumes nothing.
 use native.Mathlib.Omega.{arith}
 use borrow.Author.Needs.{needs}
 use mir.Syntax.{w32}
 use Rattle.number.proofs.Signs.{neg-stays, neg-back}
-use Rattle.field.proofs.below.Statement.{statement}
-use Rattle.field.proofs.below.Tie as tie
+use Rattle.altitude.proofs.below.Statement.{statement}
+use Rattle.altitude.proofs.below.Tie as tie
 
 pub below-spec : {M : Type 1} → statement M
 below-spec =
