@@ -7,7 +7,7 @@ use lib.ListN.{length, take}
 use Rattle.rules.specs.Layouts.{entriesOf}
 use Rattle.rules.specs.Writes.{entryTexts}
 use Rattle.put.specs.Puts.{Fills}
-use Rattle.layout.proofs.Laws.{unmapped}
+use Rattle.entry.proofs.Turns.{unmapped}
 use Rattle.write.proofs.Entries.{entry-more, entries-none, entries-all}
 use Rattle.write.proofs.layouts.fill_entries.Statement.{statement}
 use Rattle.write.proofs.layouts.fill_entries.Tie as tie

@@ -3,7 +3,7 @@ use mathlib.Core.Path.{_≡_}
 use native.Mathlib.Omega.{arith}
 use borrow.Author.Needs.{needs}
 use lib.ListN.{length}
-use Rattle.layout.proofs.Laws.{unmapped}
+use Rattle.entry.proofs.Turns.{unmapped}
 use Rattle.write.proofs.Entries.{layout-filled}
 use Rattle.write.proofs.layouts.fill_layout.Statement.{statement}
 use Rattle.write.proofs.layouts.fill_layout.Tie as tie

@@ -6,7 +6,7 @@ use native.Mathlib.Omega.{arith}
 use borrow.Author.Needs.{needs}
 use borrow.Author.Tests.{ltb-true, ltb-false, not-false}
 use lib.ListN.{length}
-use Rattle.layout.proofs.Laws.{unmapped}
+use Rattle.entry.proofs.Turns.{unmapped}
 use Rattle.write.specs.Parts.{Spells}
 use Rattle.write.proofs.Laws.{bad, short, done}
 use Rattle.write.proofs.Entries.{spells, layout-length}
