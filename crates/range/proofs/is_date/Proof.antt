@@ -1,9 +1,9 @@
--- `limits::fields::is_date` meets its contract: each way out is a way through `isDate`. Assumes nothing.
+-- `range::is_date` meets its contract: each way out is a way through `isDate`. Assumes nothing.
 use borrow.Author.Needs.{needs}
 use Rattle.rules.proofs.Links.{tests}
 use Rattle.trips.specs.Limits.{isDate}
-use Rattle.limits.proofs.fields.is_date.Statement.{statement}
-use Rattle.limits.proofs.fields.is_date.Tie as tie
+use Rattle.range.proofs.is_date.Statement.{statement}
+use Rattle.range.proofs.is_date.Tie as tie
 
 pub is-date-spec : {M : Type 1} → statement M
 unfolding isDate

@@ -1,9 +1,9 @@
--- `limits::fields::is_position` meets its contract. Assumes nothing.
+-- `range::is_position` meets its contract. Assumes nothing.
 use borrow.Author.Needs.{needs}
 use Rattle.rules.specs.Degrees.{isPosition}
 use Rattle.chars.proofs.Laws.{joined}
-use Rattle.limits.proofs.fields.is_position.Statement.{statement}
-use Rattle.limits.proofs.fields.is_position.Tie as tie
+use Rattle.range.proofs.is_position.Statement.{statement}
+use Rattle.range.proofs.is_position.Tie as tie
 
 pub is-position-spec : {M : Type 1} → statement M
 unfolding isPosition

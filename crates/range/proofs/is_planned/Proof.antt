@@ -1,9 +1,9 @@
--- `limits::fields::is_planned` meets its contract. Assumes nothing.
+-- `range::is_planned` meets its contract. Assumes nothing.
 use mathlib.Core.Path.{sym, ap, _∙_}
 use borrow.Author.Needs.{needs}
 use Rattle.trips.specs.Limits.{isPlanned}
-use Rattle.limits.proofs.fields.is_planned.Statement.{statement}
-use Rattle.limits.proofs.fields.is_planned.Tie as tie
+use Rattle.range.proofs.is_planned.Statement.{statement}
+use Rattle.range.proofs.is_planned.Tie as tie
 
 pub is-planned-spec : {M : Type 1} → statement M
 unfolding isPlanned

@@ -1,12 +1,12 @@
--- `limits::fields::is_altitude` meets its contract. Assumes nothing.
+-- `range::is_altitude` meets its contract. Assumes nothing.
 use mathlib.Core.Path.{_≡_}
 use mir.Syntax.{w32}
 use mir.Val.{toZ, ofZ}
 use mir.ValLaws.{toZ-ofZ}
 use Rattle.trips.specs.Limits.{isAltitude}
-use Rattle.limits.proofs.Laws.{too-low, low-enough}
-use Rattle.limits.proofs.fields.is_altitude.Statement.{statement}
-use Rattle.limits.proofs.fields.is_altitude.Tie as tie
+use Rattle.range.proofs.Laws.{too-low, low-enough}
+use Rattle.range.proofs.is_altitude.Statement.{statement}
+use Rattle.range.proofs.is_altitude.Tie as tie
 
 back : (c : tie.After-struct-told) → toZ w32 (ofZ w32 (c .before .args .h .metres)) ≡ c .before .args .h .metres
 back c = toZ-ofZ w32 (c .before .args .h .metres) (record { sfits = c .struct-told .given .0 .1 })

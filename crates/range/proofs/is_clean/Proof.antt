@@ -1,9 +1,9 @@
--- `limits::fields::is_clean` meets its contract. Assumes nothing.
+-- `range::is_clean` meets its contract. Assumes nothing.
 use borrow.Author.Needs.{needs}
 use Rattle.rules.proofs.Links.{found-at, found-nothing}
 use Rattle.trips.specs.Limits.{isClean}
-use Rattle.limits.proofs.fields.is_clean.Statement.{statement}
-use Rattle.limits.proofs.fields.is_clean.Tie as tie
+use Rattle.range.proofs.is_clean.Statement.{statement}
+use Rattle.range.proofs.is_clean.Tie as tie
 
 pub is-clean-spec : {M : Type 1} → statement M
 unfolding isClean

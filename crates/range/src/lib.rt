@@ -1,7 +1,7 @@
-// One field's value, and the text of a line.
+// Whether one field's value, or the text of a line, keeps to its limits.
 ghost use mathlib.Core.Path.{_≡_};
-ghost use Rattle.rules.specs.Degrees.{isPosition, isLatitude, isLongitude};
-ghost use Rattle.trips.specs.Limits.{isClean, isDate, isPlanned, isAltitude};
+ghost use Rattle.rules.specs.Degrees.{isPosition};
+ghost use Rattle.range.specs.Tests.{CleanTest, DateTest, PlannedTest, LatitudeTest, LongitudeTest, AltitudeTest};
 use rules::Date;
 use rules::Found;
 use rules::Height;
@@ -9,8 +9,8 @@ use rules::Planned;
 use rules::Position;
 
 // Whether no character of a text is invalid outside H lines.
-pub(crate) fn is_clean(text: &[u8]) -> bool
-    ensures { λ r. ⌜ r ≡ isClean (now (text .entry)) ⌝ }
+pub fn is_clean(text: &[u8]) -> bool
+    ensures { λ r. ⌜ CleanTest (now (text .entry)) r ⌝ }
 {
     let Found::At(_) = chars::first_invalid(false, text) else {
         return true;
@@ -19,8 +19,8 @@ pub(crate) fn is_clean(text: &[u8]) -> bool
 }
 
 // Whether a day exists, in a year of 1980 to 2079.
-pub(crate) fn is_date(d: Date) -> bool
-    ensures { λ r. ⌜ r ≡ isDate d ⌝ }
+pub fn is_date(d: Date) -> bool
+    ensures { λ r. ⌜ DateTest d r ⌝ }
 {
     if d.year < 1980 {
         return false;
@@ -39,8 +39,8 @@ pub(crate) fn is_date(d: Date) -> bool
 }
 
 // Whether a flight date is not given, or exists.
-pub(crate) fn is_planned(f: Planned) -> bool
-    ensures { λ r. ⌜ r ≡ isPlanned f ⌝ }
+pub fn is_planned(f: Planned) -> bool
+    ensures { λ r. ⌜ PlannedTest f r ⌝ }
 {
     let Planned::On(d) = f else {
         return true;
@@ -58,21 +58,23 @@ fn is_position(p: Position, most: u64, a: u8, b: u8) -> bool
     chars::is_either(p.letter, a, b)
 }
 
-pub(crate) fn is_latitude(p: Position) -> bool
-    ensures { λ r. ⌜ r ≡ isLatitude p ⌝ }
+// Whether a latitude is 5,400,000 at most, N or S.
+pub fn is_latitude(p: Position) -> bool
+    ensures { λ r. ⌜ LatitudeTest p r ⌝ }
 {
     is_position(p, 5400000, b'N', b'S')
 }
 
-pub(crate) fn is_longitude(p: Position) -> bool
-    ensures { λ r. ⌜ r ≡ isLongitude p ⌝ }
+// Whether a longitude is 10,800,000 at most, E or W.
+pub fn is_longitude(p: Position) -> bool
+    ensures { λ r. ⌜ LongitudeTest p r ⌝ }
 {
     is_position(p, 10800000, b'E', b'W')
 }
 
 // Whether an altitude is one of -9,999 to 99,999.
-pub(crate) fn is_altitude(h: Height) -> bool
-    ensures { λ r. ⌜ r ≡ isAltitude h ⌝ }
+pub fn is_altitude(h: Height) -> bool
+    ensures { λ r. ⌜ AltitudeTest h r ⌝ }
 {
     let z = h.metres;
     if z < -9999 {

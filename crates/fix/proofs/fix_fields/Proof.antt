@@ -1,13 +1,13 @@
--- `line::fix_fields` meets its contract: each way out is a way through `fixFields`. Assumes nothing.
+-- `fix::fix_fields` meets its contract: each way out is a way through `fixFields`. Assumes nothing.
 use mathlib.Core.Path.{refl}
 use borrow.Author.Needs.{needs}
 use borrow.Author.Tests.{not-false}
 use Rattle.rules.specs.Lines.{fixFields}
 use Rattle.rules.specs.Reads.{fixTold}
 use Rattle.rules.proofs.Links.{time-secs, place-is, on-is, need-true, altitude-metres, altitude-none}
-use Rattle.line.proofs.Laws.{fixes, refuses-form}
-use Rattle.line.proofs.fix_fields.Statement.{statement}
-use Rattle.line.proofs.fix_fields.Tie as tie
+use Rattle.fix.proofs.Laws.{fixes, refuses-form}
+use Rattle.fix.proofs.fix_fields.Statement.{statement}
+use Rattle.fix.proofs.fix_fields.Tie as tie
 
 pub fix-fields-spec : {M : Type 1} → statement M
 unfolding fixFields fixTold
