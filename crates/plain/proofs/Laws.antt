@@ -56,13 +56,13 @@ pub digits-first : (from : ℕ) (t : List ℕ) → (true && everyFrom isDigit fr
 unfolding isDigits
 digits-first from t = rw length-drop
 
-pub told-byte : (m n r : ℕ) → r ≡ m → r ≡ n → true ≡ eqb m n
-told-byte m n r e h = sym (eq-eqb m n (sym e ∙ h))
+pub told-eq : (m n r : ℕ) → r ≡ m → r ≡ n → true ≡ eqb m n
+told-eq m n r e h = sym (eq-eqb m n (sym e ∙ h))
 
-pub told-not-byte : (m n r : ℕ) → r ≡ m → (r ≡ n → ⊥) → false ≡ eqb m n
-told-not-byte m n r e h = sym (ne-eqb m n λ z. h (e ∙ z))
+pub told-ne : (m n r : ℕ) → r ≡ m → (r ≡ n → ⊥) → false ≡ eqb m n
+told-ne m n r e h = sym (ne-eqb m n λ z. h (e ∙ z))
 
-pub ruleset signs = (joined, told, not-true, not-false, told-byte, told-not-byte)
+pub ruleset signs = (joined, told, not-true, not-false, told-eq, told-ne)
 
 -- ---- plain bytes are mild, and mild bytes are valid
 

@@ -22,9 +22,9 @@ use Rattle.rules.specs.declared.Whole.{Whole}
 use Rattle.rules.specs.declared.Whole.the-variants as whole
 use Rattle.rules.specs.declared.ColumnRead.{ColumnRead}
 use Rattle.rules.specs.declared.ColumnRead.the-variants as columnRead
-use Rattle.layout.specs.Parts.{spotTold}
-use Rattle.layout.specs.declared.entries.Spot.{Spot}
-use Rattle.layout.specs.declared.entries.Spot.the-variants as spot
+use Rattle.entry.specs.Parts.{spotTold}
+use Rattle.entry.specs.declared.Spot.{Spot}
+use Rattle.entry.specs.declared.Spot.the-variants as spot
 use Rattle.rules.specs.declared.Head.{Head}
 use Rattle.rules.specs.declared.HeadRead.{HeadRead}
 use Rattle.rules.specs.declared.HeadRead.the-variants as headRead

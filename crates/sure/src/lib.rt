@@ -17,10 +17,10 @@ use rules::Time;
 fn rule_of(code: u32) -> u8
     ensures { λ r. ⌜ r ≡ ruleOf code ⌝ }
 {
-    if layout::keeps_rule(code, b"A") {
+    if listed::keeps_rule(code, b"A") {
         return 0;
     }
-    if layout::keeps_rule(code, b"-0") {
+    if listed::keeps_rule(code, b"-0") {
         return 2;
     }
     1
@@ -90,7 +90,7 @@ fn fields_time(family: Family, line: &[u8]) -> Time
     ensures { λ r. ⌜ timeTold r ≡ fieldsTime family (now (line .entry)) ⌝ }
 {
     match family {
-        Family::B => match line::fix_fields(line) {
+        Family::B => match fix::fix_fields(line) {
             FixRead::Is(f) => Time::Secs(f.time),
             FixRead::Refused(_) => Time::NoTime,
         },

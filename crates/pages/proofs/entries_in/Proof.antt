@@ -2,7 +2,7 @@
 use mathlib.Core.Path.{_≡_}
 use borrow.Author.Needs.{needs}
 use lib.ListN.{length}
-use Rattle.layout.proofs.Laws.{unmapped}
+use Rattle.entry.proofs.Turns.{unmapped}
 use Rattle.pages.proofs.Laws.{all-slots, some-slots}
 use Rattle.pages.proofs.entries_in.Statement.{statement}
 use Rattle.pages.proofs.entries_in.Tie as tie
