@@ -3,7 +3,7 @@ use Prim.Native.Nat.{ℕ}
 use mathlib.Core.List.{List}
 use mathlib.Core.Path.{_≡_, sym, _∙_}
 use Rattle.rules.specs.declared.Refusal.{Refusal}
-use Rattle.show.proofs.Only.{only-shown}
+use Rattle.pieces.proofs.Only.{only-shown}
 use Rattle.explain.specs.Faulty.{LineTextGiven}
 use Rattle.explain.specs.Explanation.{RefusalExplained}
 

@@ -1,4 +1,3 @@
--- What is told of a refusal: the names of document 01's table, the text of the line refused, and the explanation.
-pub mod Names
+-- What is told of a refusal: the text of the line refused, and the explanation.
 pub mod Faulty
 pub mod Explanation

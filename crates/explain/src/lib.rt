@@ -1,7 +1,5 @@
 // A refusal told to a person: its number and name, the line and the byte, when the number is given, and the line's text with a caret under the byte.
 mod faulty;
-mod names;
-mod quote;
 mod told;
 
 ghost use Rattle.explain.specs.Explanation.{RefusalExplained};
