@@ -3,7 +3,6 @@ use Prim.Native.Nat.{ℕ, _+_}
 use mathlib.Core.List.{List, _++_, append-nil}
 use mathlib.Core.Path.{_≡_}
 use borrow.Author.Tests.{eq-eqb, ne-eqb}
-use lib.Dec.{eqb}
 use Rattle.rules.specs.Choice.{bytes}
 use Rattle.rules.specs.Listing.{shown}
 use Rattle.rules.specs.Refusals.{number}
@@ -12,20 +11,8 @@ use Rattle.rules.specs.declared.Refusal.{Refusal}
 use Rattle.pieces.specs.Buffer.{Fills}
 use Rattle.pieces.proofs.Laws.{then, nothing}
 use Rattle.quote.specs.Quote.{before, quote}
-use Rattle.explain.specs.Faulty.{isEnd, textOf}
+use Rattle.faulty.specs.Faulty.{textOf}
 use Rattle.explain.specs.Explanation.{counted, begun, head, explanation}
-
--- ---- tests of a byte
-
-pub cr-ends : (b : ℕ) → b ≡ 13 → eqb b 13 ≡ isEnd b
-unfolding isEnd
-cr-ends b e = rw e
-
-pub else-ends : (b : ℕ) → (b ≡ 13 → ⊥) → eqb b 10 ≡ isEnd b
-unfolding isEnd
-else-ends b n = rw (ne-eqb b 13 n)
-
--- ---- pieces one after the other
 
 module _ {out mid after : List ℕ} {at m r : ℕ} where
   pub number-fills : {t : List ℕ} (n : ℕ) (reason : Reason) → n ≡ number reason → Fills out at (shown n) m mid → Fills mid m t r after → Fills out at (shown (number reason) ++ t) r after

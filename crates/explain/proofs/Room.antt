@@ -13,7 +13,7 @@ use Rattle.pieces.proofs.Laws.{number-room}
 use Rattle.refusals.proofs.Words.{name-room, meaning-room}
 use Rattle.quote.specs.Quote.{before, quote}
 use Rattle.quote.proofs.Room.{by-cond, quote-room}
-use Rattle.explain.specs.Faulty.{textOf}
+use Rattle.faulty.specs.Faulty.{textOf}
 use Rattle.explain.specs.Explanation.{called, counted, placed, begun, meant, head, explanation}
 
 called-room : (reason : Reason) → length (called reason) ≤ 39

@@ -13,7 +13,7 @@ use Rattle.rules.specs.Listing.{shown, lf}
 use Rattle.rules.specs.Refusals.{number}
 use Rattle.rules.specs.declared.Reason.{Reason}
 use Rattle.rules.specs.declared.Refusal.{Refusal}
-use Rattle.explain.specs.Faulty.{textOf}
+use Rattle.faulty.specs.Faulty.{textOf}
 
 -- ---- the first line
 

@@ -1,3 +1,2 @@
--- What is told of a refusal: the text of the line refused, and the explanation.
-pub mod Faulty
+-- What is told of a refusal.
 pub mod Explanation

@@ -1,7 +1,7 @@
 // The first line of an explanation, and the whole, put into a buffer, with the place behind them as the answer.
 ghost use Rattle.pieces.specs.Buffer.{Fills};
 ghost use Rattle.explain.specs.Explanation.{called, counted, placed, begun, meant, head, explanation};
-use crate::line_text;
+use faulty::line_text;
 use pieces::put_byte;
 use pieces::put_shown;
 use pieces::put_text;

@@ -1,12 +1,10 @@
 -- Words that stand one after the other are found again by where they end; the constants of this crate are the words of document 01's table; and how long these are at most.
 -- Assumes nothing.
-use Prim.Native.Nat.{ℕ, zero, suc, _+_, _-_, _≤_, _<_}
-use mathlib.Core.Bool.{Bool, true, false, _&&_}
+use Prim.Native.Nat.{ℕ, zero, suc, _+_, _-_, _≤_, _<_, max}
 use mathlib.Core.List.{List, [], _∷_, _++_}
 use mathlib.Core.Path.{_≡_, refl, sym, _∙_, ap}
+use native.Mathlib.Nat.{le-max-left, le-max-right, le-trans}
 use native.Mathlib.Omega.{arith}
-use borrow.Author.Tests.{leb-true}
-use lib.Dec.{leb}
 use lib.ListN.{length, getD, take, drop, length-append}
 use lib.Seq.{drop-drop, drop-append-seam, take-append-seam}
 use Rattle.pieces.specs.Buffer.{Fills}
@@ -135,27 +133,19 @@ module _ (reason : Reason) (n : ℕ) (e : n ≡ number reason) where
 
 -- ---- how long they are
 
-abbrev short : ℕ → List (List ℕ) → Bool
-short k [] = true
-short k (w ∷ ws) = leb (length w) k && short k ws
+abbrev longest : List (List ℕ) → ℕ
+longest [] = 0
+longest (w ∷ ws) = max (length w) (longest ws)
 
-and-left : (a b : Bool) → (a && b) ≡ true → a ≡ true
-and-left true b e = refl
-and-left false b e = e
-
-and-right : (a b : Bool) → (a && b) ≡ true → b ≡ true
-and-right true b e = e
-and-right false b e = cc
-
-short-at : (k : ℕ) (ws : List (List ℕ)) (n : ℕ) → short k ws ≡ true → length (getD ws n []) ≤ k
-short-at k [] n e = omega arith
-short-at k (w ∷ ws) zero e = leb-true (length w) k (and-left (leb (length w) k) (short k ws) e)
-short-at k (w ∷ ws) (suc n) e = short-at k ws n (and-right (leb (length w) k) (short k ws) e)
+none-longer : (ws : List (List ℕ)) (n : ℕ) → length (getD ws n []) ≤ longest ws
+none-longer [] n = omega arith
+none-longer (w ∷ ws) zero = le-max-left (length w) (longest ws)
+none-longer (w ∷ ws) (suc n) = le-trans (none-longer ws n) (le-max-right (length w) (longest ws))
 
 pub name-room : (reason : Reason) → length (name reason) ≤ 10
 unfolding name names rows bytes
-name-room reason = short-at 10 names (number reason - 1) refl
+name-room reason = none-longer names (number reason - 1)
 
 pub meaning-room : (reason : Reason) → length (meaning reason) ≤ 60
 unfolding meaning meanings rows bytes
-meaning-room reason = short-at 60 meanings (number reason - 1) refl
+meaning-room reason = omega (arith, none-longer meanings (number reason - 1))

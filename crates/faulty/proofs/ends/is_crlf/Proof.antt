@@ -1,9 +1,9 @@
--- `explain::faulty::is_crlf` meets its contract. Assumes nothing.
+-- `faulty::ends::is_crlf` meets its contract. Assumes nothing.
 use native.Mathlib.Omega.{arith}
 use borrow.Author.Needs.{needs}
-use Rattle.explain.proofs.Places.{begins-short, begins-cr, begins-not}
-use Rattle.explain.proofs.faulty.is_crlf.Statement.{statement}
-use Rattle.explain.proofs.faulty.is_crlf.Tie as tie
+use Rattle.faulty.proofs.Places.{begins-short, begins-cr, begins-not}
+use Rattle.faulty.proofs.ends.is_crlf.Statement.{statement}
+use Rattle.faulty.proofs.ends.is_crlf.Tie as tie
 
 pub is-crlf-spec : {M : Type 1} → statement M
 is-crlf-spec =

@@ -3,7 +3,7 @@ ghost use Prim.Native.Nat.{_+_, _≤_};
 ghost use mathlib.Core.Path.{_≡_};
 ghost use lib.ListN.{length, drop};
 ghost use Rattle.rules.specs.Split.{beginsCRLF};
-ghost use Rattle.explain.specs.Faulty.{isEnd, textLength, Onward};
+ghost use Rattle.faulty.specs.Faulty.{isEnd, textLength, Onward};
 
 fn is_end(b: u8) -> bool
     ensures { λ r. ⌜ r ≡ isEnd b ⌝ }

@@ -1,10 +1,10 @@
--- `explain::faulty::next_line` meets its contract. Assumes nothing.
+-- `faulty::ends::next_line` meets its contract. Assumes nothing.
 use mathlib.Core.Path.{sym, _∙_}
 use native.Mathlib.Omega.{arith}
 use borrow.Author.Needs.{needs}
-use Rattle.explain.proofs.Places.{begins-within, onward, nowhere}
-use Rattle.explain.proofs.faulty.next_line.Statement.{statement}
-use Rattle.explain.proofs.faulty.next_line.Tie as tie
+use Rattle.faulty.proofs.Places.{begins-within, onward, nowhere}
+use Rattle.faulty.proofs.ends.next_line.Statement.{statement}
+use Rattle.faulty.proofs.ends.next_line.Tie as tie
 
 add-result : tie.Need-add-result
 add-result c =

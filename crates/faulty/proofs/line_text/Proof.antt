@@ -1,8 +1,8 @@
--- `explain::line_text` meets its contract. Assumes nothing.
+-- `faulty::line_text` meets its contract. Assumes nothing.
 use borrow.Author.Needs.{needs}
-use Rattle.explain.proofs.Places.{text-zero, text-ends, text-found}
-use Rattle.explain.proofs.line_text.Statement.{statement}
-use Rattle.explain.proofs.line_text.Tie as tie
+use Rattle.faulty.proofs.Places.{text-zero, text-ends, text-found}
+use Rattle.faulty.proofs.line_text.Statement.{statement}
+use Rattle.faulty.proofs.line_text.Tie as tie
 
 part-result-end-2 : tie.Need-part-result-end-2
 part-result-end-2 c =

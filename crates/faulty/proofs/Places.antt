@@ -11,9 +11,17 @@ use lib.Dec.{eqb, leb}
 use lib.ListN.{length, getD, take, drop, length-drop, drop-of-length-le, List·getD-eq-default}
 use lib.Seq.{drop-cons, drop-drop, getD-drop, length-take-le, drop-length}
 use Rattle.rules.specs.Split.{Lines, end, broken, line, text, linesOf, afterCR, beginsCRLF}
-use Rattle.explain.specs.Faulty.{textBehind, textOf, isEnd, textLength, Onward}
+use Rattle.faulty.specs.Faulty.{textBehind, textOf, isEnd, textLength, Onward}
 
 -- ---- a byte at a time
+
+pub cr-ends : (b : ℕ) → b ≡ 13 → eqb b 13 ≡ isEnd b
+unfolding isEnd
+cr-ends b e = rw e
+
+pub else-ends : (b : ℕ) → (b ≡ 13 → ⊥) → eqb b 10 ≡ isEnd b
+unfolding isEnd
+else-ends b n = rw (ne-eqb b 13 n)
 
 and-false : (t : Bool) → (t && false) ≡ false
 and-false true = refl

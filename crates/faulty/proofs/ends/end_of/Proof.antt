@@ -1,13 +1,13 @@
--- `explain::faulty::end_of` meets its contract: the bytes passed are text. Assumes nothing.
+-- `faulty::ends::end_of` meets its contract: the bytes passed are text. Assumes nothing.
 use Prim.Native.Nat.{_+_, _-_, _≤_}
 use mathlib.Core.Path.{_≡_, sym, _∙_}
 use native.Mathlib.Omega.{arith}
 use lib.ListN.{length, drop}
 use borrow.Author.Needs.{needs}
-use Rattle.explain.specs.Faulty.{textLength}
-use Rattle.explain.proofs.Places.{ends-here, goes-on, ends-past}
-use Rattle.explain.proofs.faulty.end_of.Statement.{statement}
-use Rattle.explain.proofs.faulty.end_of.Tie as tie
+use Rattle.faulty.specs.Faulty.{textLength}
+use Rattle.faulty.proofs.Places.{ends-here, goes-on, ends-past}
+use Rattle.faulty.proofs.ends.end_of.Statement.{statement}
+use Rattle.faulty.proofs.ends.end_of.Tie as tie
 
 abbrev Inv-loop : tie.InvT-loop
 Inv-loop file at i₀ i = (i ≤ length file) × (at + textLength (drop at file) ≡ i + textLength (drop i file))

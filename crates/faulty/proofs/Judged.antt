@@ -17,7 +17,7 @@ use Rattle.rules.specs.declared.Flight.{Flight}
 use Rattle.rules.specs.declared.State.{State}
 use Rattle.laws.proofs.Chains.{Sure, by-need}
 use Rattle.laws.proofs.Counted.{OneMore, judge-counts}
-use Rattle.explain.specs.Faulty.{textBehind, textOf}
+use Rattle.faulty.specs.Faulty.{textBehind, textOf}
 
 -- the state of the check behind the first i lines, where they pass
 abbrev pub behindLines : State → ℕ → Lines → Said State

@@ -1,8 +1,8 @@
--- `explain::faulty::line_start` meets its contract. Assumes nothing.
+-- `faulty::ends::line_start` meets its contract. Assumes nothing.
 use borrow.Author.Needs.{needs}
-use Rattle.explain.proofs.Places.{Walked, walk-start, walk-on, walk-none, walk-end}
-use Rattle.explain.proofs.faulty.line_start.Statement.{statement}
-use Rattle.explain.proofs.faulty.line_start.Tie as tie
+use Rattle.faulty.proofs.Places.{Walked, walk-start, walk-on, walk-none, walk-end}
+use Rattle.faulty.proofs.ends.line_start.Statement.{statement}
+use Rattle.faulty.proofs.ends.line_start.Tie as tie
 
 abbrev Inv-loop : tie.InvT-loop
 Inv-loop file lines at₀ left₀ at left = Walked file lines at left
