@@ -4,12 +4,12 @@ use mathlib.Core.Bool.{Bool, true, false, _&&_, _||_, cond}
 use mathlib.Core.List.{List, [], _∷_}
 use mathlib.Core.Path.{_≡_, refl, sym, _∙_, ap}
 use native.Mathlib.Nat.{add-zero}
-use native.Mathlib.Numerals.{add-one}
 use native.Mathlib.Omega.{arith}
-use borrow.Author.Tests.{eq-eqb, ne-eqb, leb-true, leb-false}
-use lib.Dec.{eqb, leb}
-use lib.ListN.{length, getD, take, drop, length-drop, drop-of-length-le, List·getD-eq-default}
-use lib.Seq.{drop-cons, drop-drop, getD-drop, length-take-le, drop-length}
+use borrow.Author.Tests.{eq-eqb, ne-eqb}
+use lib.Dec.{eqb}
+use lib.ListN.{length, getD, take, drop, length-drop, drop-of-length-le}
+use lib.Seq.{drop-drop, length-take-le}
+use Rattle.laws.proofs.LineEnds.{rest, begins-within}
 use Rattle.rules.specs.Split.{Lines, end, broken, line, text, linesOf, afterCR, beginsCRLF}
 use Rattle.faulty.specs.Faulty.{textBehind, textOf, isEnd, textLength, Onward}
 
@@ -23,46 +23,18 @@ pub else-ends : (b : ℕ) → (b ≡ 13 → ⊥) → eqb b 10 ≡ isEnd b
 unfolding isEnd
 else-ends b n = rw (ne-eqb b 13 n)
 
-and-false : (t : Bool) → (t && false) ≡ false
-and-false true = refl
-and-false false = refl
-
 module _ (f : List ℕ) (i : ℕ) where
-  rest : i < length f → drop i f ≡ getD f i 0 ∷ drop (i + 1) f
-  rest h = rw add-one (drop-cons f i 0 h)
-
   pub ends-here : i < length f → isEnd (getD f i 0) ≡ true → textLength (drop i f) ≡ 0
   unfolding textLength
-  ends-here h e = rw (rest h, e)
+  ends-here h e = rw (rest f i h, e)
 
   pub goes-on : i < length f → isEnd (getD f i 0) ≡ false → textLength (drop i f) ≡ suc (textLength (drop (i + 1) f))
   unfolding textLength
-  goes-on h e = rw (rest h, e)
+  goes-on h e = rw (rest f i h, e)
 
   pub ends-past : length f ≤ i → textLength (drop i f) ≡ 0
   unfolding textLength
   ends-past h = rw (drop-of-length-le f h)
-
-  begins-at : beginsCRLF (drop i f) ≡ (eqb (getD f i 0) 13 && eqb (getD f (i + 1) 0) 10)
-  unfolding beginsCRLF
-  begins-at = simp (getD-drop, add-zero)
-
-  pub begins-short : length f < i + 2 → false ≡ beginsCRLF (drop i f)
-  begins-short h =
-      let l : length f ≤ i + 1 = omega arith in rw (begins-at, List·getD-eq-default f 0 l) (sym (and-false (eqb (getD f i 0) 13)))
-
-  pub begins-cr : getD f i 0 ≡ 13 → eqb (getD f (i + 1) 0) 10 ≡ beginsCRLF (drop i f)
-  begins-cr e = rw (begins-at, e)
-
-  pub begins-not : (getD f i 0 ≡ 13 → ⊥) → eqb (getD f i 0) 13 ≡ beginsCRLF (drop i f)
-  begins-not n = rw begins-at (simp (ne-eqb _ _ n))
-
-  pub begins-within : beginsCRLF (drop i f) ≡ true → i + 2 ≤ length f
-  begins-within g = by (leb (i + 2) (length f)) refl
-    where
-      by : (t : Bool) → leb (i + 2) (length f) ≡ t → i + 2 ≤ length f
-      by true e = leb-true _ _ e
-      by false e = let n = begins-short (leb-false (i + 2) (length f) e) in let z : _≡_ {A = ℕ} 0 1 = cc in absurd (omega arith)
 
 -- ---- the text of the first line
 

@@ -1,7 +1,7 @@
 -- `faulty::ends::is_crlf` meets its contract. Assumes nothing.
 use native.Mathlib.Omega.{arith}
 use borrow.Author.Needs.{needs}
-use Rattle.faulty.proofs.Places.{begins-short, begins-cr, begins-not}
+use Rattle.laws.proofs.LineEnds.{begins-short, begins-cr, begins-not}
 use Rattle.faulty.proofs.ends.is_crlf.Statement.{statement}
 use Rattle.faulty.proofs.ends.is_crlf.Tie as tie
 

@@ -2,7 +2,8 @@
 use mathlib.Core.Path.{sym, _∙_}
 use native.Mathlib.Omega.{arith}
 use borrow.Author.Needs.{needs}
-use Rattle.faulty.proofs.Places.{begins-within, onward, nowhere}
+use Rattle.laws.proofs.LineEnds.{begins-within}
+use Rattle.faulty.proofs.Places.{onward, nowhere}
 use Rattle.faulty.proofs.ends.next_line.Statement.{statement}
 use Rattle.faulty.proofs.ends.next_line.Tie as tie
 
