@@ -40,7 +40,7 @@ pub(crate) fn refused(why: Refusal) -> Numbers
     ensures { λ r. ⌜ r ≡ refusing (number (why .reason)) (why .line) (why .byte) ⌝ }
 {
     let reason = why.reason;
-    let number = show::reason_number(reason) as u32;
+    let number = refusals::number(reason) as u32;
     Numbers {
         number,
         values: [

@@ -35,7 +35,7 @@ fn number(read: DegreesRead) -> u32
         DegreesRead::Both(_) => 0,
         DegreesRead::Refused(why) => {
             let reason = why.reason;
-            show::reason_number(reason) as u32
+            refusals::number(reason) as u32
         }
     }
 }

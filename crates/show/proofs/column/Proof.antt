@@ -3,7 +3,8 @@ use mathlib.Core.Path.{refl}
 use borrow.Author.Needs.{needs}
 use borrow.Author.Tests.{le-leb, lt-leb}
 use Rattle.show.specs.Lines.{columnLine}
-use Rattle.show.proofs.Laws.{whole, column-room}
+use Rattle.pieces.proofs.Laws.{whole}
+use Rattle.show.proofs.Laws.{column-room}
 use Rattle.show.proofs.column.Statement.{statement}
 use Rattle.show.proofs.column.Tie as tie
 

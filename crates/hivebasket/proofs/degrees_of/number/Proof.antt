@@ -14,4 +14,4 @@ number-spec =
     (λ c κs. search needs)
     (λ c. search needs)
     (λ c. rw (c .enum-told .given .1))
-    (λ c. rw (c .before .before .read .given .1) (c .reason-number .ensures)))
+    (λ c. rw (c .before .before .read .given .1) (c .number .ensures)))
