@@ -1,4 +1,3 @@
-pub mod Begins
 pub mod Places
 pub mod Cuts
 pub mod Only

@@ -1,7 +1,7 @@
 -- `cut::scan::is_crlf` meets its contract. Assumes nothing.
 use borrow.Author.Needs.{needs}
 use native.Mathlib.Omega.{arith}
-use Rattle.cut.proofs.Begins.{begins-short, begins-cr, begins-not}
+use Rattle.laws.proofs.LineEnds.{begins-short, begins-cr, begins-not}
 use Rattle.cut.proofs.scan.is_crlf.Statement.{statement}
 use Rattle.cut.proofs.scan.is_crlf.Tie as tie
 
