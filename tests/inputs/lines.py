@@ -1,15 +1,11 @@
-#!/usr/bin/env python3
-"""Writes what the program `lines` is run on: crates/lines/{args, stdout}.
+"""The lines that the program `try_inputs` reads, good or damaged at their limits, and what their readers are expected to say.
 
-Each argument is a line, good or damaged at its limits; what its readers say comes from tests/oracle/igc.py, the second reading of document 01, and never from the program.
+    LINES   the lines
+    read()  what is printed for all of them
+
+The readings come from tests/oracle/igc.py, the second reading of document 01, and never from the program.
 """
-import sys
-from pathlib import Path
-
-sys.dont_write_bytecode = True
-root = Path(__file__).resolve().parent.parent
-sys.path.insert(0, str(root / "tests" / "oracle"))
-import igc  # noqa: E402
+import igc
 
 FIX = "1200005130000N00015000WA0010000120"
 
@@ -63,7 +59,7 @@ def told(reading):
     return "PASS\n" if reading[0] == "ok" else "REFUSED %d 0 %d\n" % reading[1:]
 
 
-def main():
+def read():
     fixes, notes = [], []
     out = ""
     for text in LINES:
@@ -98,10 +94,4 @@ def main():
             out += told(igc.answer(lambda: igc.begin(line, role)))
         else:
             out += "REFUSED 17 0 0\n"
-    crate = root / "crates" / "lines"
-    (crate / "args").write_text("".join(text + "\n" for text in LINES))
-    (crate / "stdout").write_text(out)
-    print(len(LINES), "lines")
-
-
-main()
+    return out

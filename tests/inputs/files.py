@@ -1,16 +1,11 @@
-#!/usr/bin/env python3
-"""Writes what the program `cases` is run on: crates/cases/{args, data/, stdout}.
+"""The files that the program `try_inputs` lists, each with its name, and the listings that are expected of them.
 
-Each case is a file and a name. The expected listing comes from tests/oracle/igc.py, the second reading of document 01, and never from the program.
+    FILES     a file's name and its bytes
+    listed()  what is printed for all of them
+
+The listings come from tests/oracle/igc.py, the second reading of document 01, and never from the program.
 """
-import shutil
-import sys
-from pathlib import Path
-
-sys.dont_write_bytecode = True
-root = Path(__file__).resolve().parent.parent
-sys.path.insert(0, str(root / "tests" / "oracle"))
-import igc  # noqa: E402
+import igc
 
 FIVE = ["AXYZ001", "HFDTE150724", "I023638FXA3940SIU", "B1200005130000N00015000WA001000012001208", "GABC"]
 FIX = "5130000N00015000WA0010000120"
@@ -142,20 +137,8 @@ CASES = {
 }
 
 
-def main():
-    crate = root / "crates" / "cases"
-    shutil.rmtree(crate / "data", ignore_errors=True)
-    (crate / "data").mkdir(parents=True)
-    expected = ""
-    for name, case in CASES.items():
-        data = case if isinstance(case, bytes) else "".join(line + "\r\n" for line in case).encode()
-        (crate / "data" / (name + ".igc")).write_bytes(data)
-        expected += name + ".igc\n" + igc.listing(data)
-    (crate / "args").write_text("".join(name + ".igc\n" for name in CASES))
-    (crate / "stdout").write_text(expected)
-    for name, case in CASES.items():
-        data = (crate / "data" / (name + ".igc")).read_bytes()
-        print(name, len(data), igc.listing(data).split("\n")[0])
+FILES = {name + ".igc": case if isinstance(case, bytes) else "".join(line + "\r\n" for line in case).encode() for name, case in CASES.items()}
 
 
-main()
+def listed():
+    return "".join(name + "\n" + igc.listing(data) for name, data in FILES.items())

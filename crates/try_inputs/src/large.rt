@@ -18,7 +18,7 @@ fn print_verdict(file: &[u8]) {
     }
 }
 
-fn main() {
+pub fn check() {
     let over_by_one = over();
     print_verdict(&over_by_one);
     let filled = full();

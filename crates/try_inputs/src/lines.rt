@@ -1,4 +1,4 @@
-// Reads each argument as a line, by the readers of its kind, and prints what it says or why it is refused. A good I or J line tells the layout of those after it.
+// A line read by the readers of its kind: what it says is printed, or why it is refused. A good I or J line tells the layout of those after it.
 use libc::STDOUT_FILENO;
 use rules::DateRead;
 use rules::Family;
@@ -9,6 +9,19 @@ use rules::Layout;
 use rules::Outcome;
 use rules::PointRead;
 use rules::TimeRead;
+
+// The layouts of B and K lines that the lines so far have told.
+pub struct Told {
+    pub fixes: Layout,
+    pub extras: Layout,
+}
+
+pub fn none_told() -> Told {
+    Told {
+        fixes: layout::empty_layout(),
+        extras: layout::empty_layout(),
+    }
+}
 
 fn pass() {
     io::write_all(STDOUT_FILENO, b"PASS\n");
@@ -101,17 +114,13 @@ fn next_layout(family: Family, line: &[u8], old: Layout) -> Layout {
     }
 }
 
-fn main() {
-    let n = os::arg_count();
-    let mut fixes = layout::empty_layout();
-    let mut extras = layout::empty_layout();
-    let mut i = 1;
-    while i < n {
-        let mut word = io::buffer();
-        let k = os::arg(i, &mut word);
-        print_line(&word[..k], fixes, extras);
-        fixes = next_layout(Family::B, &word[..k], fixes);
-        extras = next_layout(Family::K, &word[..k], extras);
-        i += 1;
+// The layouts that are told after a line.
+pub fn read(line: &[u8], told: Told) -> Told {
+    let fixes = told.fixes;
+    let extras = told.extras;
+    print_line(line, fixes, extras);
+    Told {
+        fixes: next_layout(Family::B, line, fixes),
+        extras: next_layout(Family::K, line, extras),
     }
 }

@@ -1,23 +1,26 @@
--- `cases::main` meets its contract: the arguments left grow fewer. Assumes nothing.
+-- `try_inputs::main` meets its contract: the arguments left grow fewer. Assumes nothing.
 use Prim.Native.Nat.{_-_}
 use borrow.Author.Needs.{needs}
-use Rattle.cases.proofs.main.Statement.{statement}
-use Rattle.cases.proofs.main.Tie as tie
+use Rattle.try_inputs.proofs.main.Statement.{statement}
+use Rattle.try_inputs.proofs.main.Tie as tie
 
 abbrev Inv-loop : tie.InvT-loop
-Inv-loop n i₀ i = Unit {0}
+Inv-loop n told₀ i₀ told i = Unit {0}
 
 abbrev μ-loop : tie.MeasureT-loop
-μ-loop n i₀ i = n - i
+μ-loop n told₀ i₀ told i = n - i
 
 arg-count-requires : tie.Need-arg-count-requires Inv-loop μ-loop
 arg-count-requires c κs = search needs
 
+none-told-requires : tie.Need-none-told-requires Inv-loop μ-loop
+none-told-requires c κs = search needs
+
 loop-holds : tie.Need-loop-holds Inv-loop μ-loop
 loop-holds c = search needs
 
-list-one-requires : tie.Need-list-one-requires Inv-loop μ-loop
-list-one-requires c κs = search needs
+take-requires : tie.Need-take-requires Inv-loop μ-loop
+take-requires c κs = search needs
 
 add-i : tie.Need-add-i Inv-loop μ-loop
 add-i c = search needs
@@ -27,6 +30,12 @@ loop-less c = search needs
 
 loop-again : tie.Need-loop-again Inv-loop μ-loop
 loop-again c = search needs
+
+check-requires : tie.Need-check-requires Inv-loop μ-loop
+check-requires c κs = search needs
+
+write-requires : tie.Need-write-requires Inv-loop μ-loop
+write-requires c κs = search needs
 
 returns : tie.Need-returns Inv-loop μ-loop
 returns c = search needs
@@ -38,9 +47,12 @@ main-spec =
     Inv-loop
     μ-loop
     arg-count-requires
+    none-told-requires
     loop-holds
-    list-one-requires
+    take-requires
     add-i
     loop-less
     loop-again
+    check-requires
+    write-requires
     returns)
