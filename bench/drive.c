@@ -1,5 +1,6 @@
 /* Measures the library's check against those that are written by hand in C, on the same files, one after the other in one process:
        drive [REPETITIONS]        prints the table of speeds and ratios, how the time of a byte grows with the size, and what a line's readers take
+       drive once NUMBER          each check once, on 1 MiB of the flight of that number alone, where instructions are counted
        drive write FIXES          writes a flight with so many fixes to standard output, for the programs
    Ends with status 1 where two of the checks give different answers or tables. */
 #define _POSIX_C_SOURCE 200809L
@@ -192,6 +193,10 @@ int main(int count, char **words)
 {
     if (count == 3 && strcmp(words[1], "write") == 0)
         return write_fixes(strtoul(words[2], NULL, 10));
+    if (count == 3 && strcmp(words[1], "once") == 0) {
+        measure(1 * MIB, &flights[strtoul(words[2], NULL, 10) % FLIGHTS], 1);
+        return 0;
+    }
     int repetitions = count > 1 ? atoi(words[1]) : 15;
     if (repetitions < 1 || repetitions > MOST_REPETITIONS)
         return 2;
