@@ -18,11 +18,12 @@ use Rattle.order.specs.Turns.{Passed, Here}
 use Rattle.order.proofs.Counts.{lines-counted, bs-counted, ks-counted}
 use Rattle.order.proofs.Turns.{here-next}
 use Rattle.sure.specs.Sure.{patternOf}
-use Rattle.ahead.specs.Paces.{paced, Going, Takes, TakenAs, Ran}
+use Rattle.pace.specs.Paces.{paced, Going, Takes, TakenAs}
+use Rattle.pace.specs.declared.Pace.{Pace}
+use Rattle.pace.specs.declared.Taken.{Taken}
+use Rattle.pace.specs.declared.Taken.the-variants as taken
+use Rattle.ahead.specs.Runs.{Ran}
 use Rattle.ahead.specs.declared.Ahead.{Ahead}
-use Rattle.ahead.specs.declared.Pace.{Pace}
-use Rattle.ahead.specs.declared.Taken.{Taken}
-use Rattle.ahead.specs.declared.Taken.the-variants as taken
 
 -- the numbers of a state, at a place
 abbrev pub paceOf : ℕ → State → Pace
@@ -58,10 +59,6 @@ running-first file table from st p e w points low high =
     })
 
 module _ {file table₀ table : List ℕ} {from : ℕ} {st : State} {p : Pace} (g : Running file table₀ from st table p) where
-  pub running-few : length file ≤ 16777216 → Few st → (p .lines ≤ 33554432) × (p .bs ≤ 33554432) × (p .ks ≤ 33554432)
-  running-few w few =
-      (omega (arith, g .lines, g .within, few .lines), omega (arith, g .bs, g .within, few .bs), omega (arith, g .ks, g .within, few .ks))
-
   pub running-next : {q : Pace} → Takes file st p q → p .lines < length table → Running file table₀ from st (set table (p .lines) (p .at)) q
   running-next {q} t l =
       let d = t .passed in

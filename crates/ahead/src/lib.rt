@@ -1,163 +1,24 @@
 // A run of body lines that are surely good, taken by numbers alone: the state with its layouts stays where it is until the run ends.
-ghost use Prim.Native.Nat.{_≤_, _<_};
+ghost use Prim.Native.Nat.{_≤_};
 ghost use mathlib.Core.Bool.{true};
 ghost use mathlib.Core.Path.{_≡_};
-ghost use lib.ListN.{length, getD};
+ghost use lib.ListN.{length};
 ghost use Rattle.rules.specs.Layouts.{firstStart, allowed};
 ghost use Rattle.rules.specs.Order.{afterH, inBody};
 ghost use Rattle.rules.specs.declared.Family.the-variants as family;
 ghost use Rattle.order.specs.States.{Few};
-ghost use Rattle.ahead.specs.Paces.{letterOf, paced, AfterTime, Known, ColumnedTold, OtherTold, FamilyTaken, OtherTaken, LineTaken, MayRun, BothAllowed, Gauged, Ran};
-use cut::Ended;
+ghost use Rattle.pace.specs.Paces.{paced, Known};
+ghost use Rattle.ahead.specs.Runs.{MayRun, BothAllowed, Gauged, Ran};
+use pace::Pace;
+use pace::Taken;
 use rules::Family;
 use rules::Layout;
-use rules::Outcome;
 use rules::State;
-use rules::Time;
-use rules::TimeRead;
-
-// The numbers that a body line moves: the place of the next line, the part of the file, the last time, and the counts of lines, B lines and K lines.
-pub struct Pace {
-    pub at: usize,
-    pub stage: u8,
-    pub clock: u32,
-    pub lines: u32,
-    pub bs: u32,
-    pub ks: u32,
-}
-
-// The numbers after a line; or that it is not sure to be good.
-pub enum Taken {
-    Next(Pace),
-    Unsure,
-}
 
 // The place after a run, and the state there.
 pub struct Ahead {
     pub at: usize,
     pub state: State,
-}
-
-// After a line of this time, with so many B lines and K lines more.
-fn after_time(time: Time, p: Pace, next: usize, bs: u32, ks: u32) -> Taken
-    requires { ⌜ (p .lines ≤ 33554432) × (p .bs ≤ 33554432) × (p .ks ≤ 33554432) × (bs ≤ 1) × (ks ≤ 1) ⌝ }
-    ensures { λ r. ⌜ AfterTime time p next bs ks r ⌝ }
-{
-    let Time::Secs(t) = time else {
-        return Taken::Unsure;
-    };
-    if order::is_back(p.clock, t) {
-        return Taken::Unsure;
-    }
-    Taken::Next(Pace {
-        at: next,
-        stage: 5,
-        clock: t,
-        lines: p.lines + 1,
-        bs: p.bs + bs,
-        ks: p.ks + ks,
-    })
-}
-
-// A line of a family, by its length and the pattern of its columns.
-fn columned_line(
-    family: Family,
-    line: &[u8],
-    size: usize,
-    pattern: &[u8],
-    p: Pace,
-    next: usize,
-) -> Taken
-    requires { ⌜ (p .lines ≤ 33554432) × (p .bs ≤ 33554432) × (p .ks ≤ 33554432) ⌝ }
-    ensures { λ r. ⌜ ColumnedTold family (now (line .entry)) size (now (pattern .entry)) p next r ⌝ }
-{
-    let time = sure::sure_line(family, line, size, pattern);
-    match family {
-        Family::B => after_time(time, p, next, 1, 0),
-        Family::K => after_time(time, p, next, 0, 1),
-    }
-}
-
-// The line behind the pace's bytes, of a family, with its CR LF behind `size` bytes.
-fn take_columned(file: &[u8], p: Pace, family: Family, size: usize, pattern: &[u8]) -> Taken
-    requires { ⌜ (p .at < length (now file)) × (length (now file) ≤ 16777216) × (size ≤ 255) × (getD (now file) (p .at) 0 ≡ letterOf family)
-        × (p .lines ≤ 33554432) × (p .bs ≤ 33554432) × (p .ks ≤ 33554432) ⌝ }
-    ensures { λ r. ⌜ FamilyTaken family (now (file .entry)) p size (now (pattern .entry)) r ⌝ }
-{
-    let at = p.at;
-    let end = at + size;
-    if size < 1 {
-        return Taken::Unsure;
-    }
-    if file.len() < end + 2 {
-        return Taken::Unsure;
-    }
-    if file[end] != 13 {
-        return Taken::Unsure;
-    }
-    if file[end + 1] != 10 {
-        return Taken::Unsure;
-    }
-    columned_line(family, &file[at..end], size, pattern, p, end + 2)
-}
-
-// An E, F or L line, by its first byte; any other is left to the check.
-fn other_line(letter: u8, line: &[u8], p: Pace, next: usize) -> Taken
-    requires { ⌜ (p .lines ≤ 33554432) × (p .bs ≤ 33554432) × (p .ks ≤ 33554432) ⌝ }
-    ensures { λ r. ⌜ OtherTold letter (now (line .entry)) p next r ⌝ }
-{
-    if letter == b'L' {
-        if let Outcome::Refused(_) = shape::shaped(line, 1, 99, false) {
-            return Taken::Unsure;
-        }
-        return after_time(Time::Secs(p.clock), p, next, 0, 0);
-    }
-    if letter == b'E' {
-        let TimeRead::Secs(t) = line::event(line) else {
-            return Taken::Unsure;
-        };
-        return after_time(Time::Secs(t), p, next, 0, 0);
-    }
-    if letter == b'F' {
-        let TimeRead::Secs(t) = line::satellites(line) else {
-            return Taken::Unsure;
-        };
-        return after_time(Time::Secs(t), p, next, 0, 0);
-    }
-    Taken::Unsure
-}
-
-// The line behind the pace's bytes, of a kind that has no columns.
-fn take_other(file: &[u8], p: Pace) -> Taken
-    requires { ⌜ (p .at < length (now file)) × (length (now file) ≤ 16777216) × (p .lines ≤ 33554432) × (p .bs ≤ 33554432) × (p .ks ≤ 33554432) ⌝ }
-    ensures { λ r. ⌜ OtherTaken (now (file .entry)) p r ⌝ }
-{
-    let at = p.at;
-    match cut::line_end(file, at) {
-        Ended::Broken(_) => Taken::Unsure,
-        Ended::At(end) => {
-            if end <= at {
-                return Taken::Unsure;
-            }
-            other_line(file[at], &file[at..end], p, end + 2)
-        }
-    }
-}
-
-// The line behind the pace's bytes, by its first one.
-fn take_line(file: &[u8], p: Pace, b: usize, fixes: &[u8], k: usize, extras: &[u8]) -> Taken
-    requires { ⌜ (p .at < length (now file)) × (length (now file) ≤ 16777216) × (b ≤ 255) × (k ≤ 255) × (p .lines ≤ 33554432) × (p .bs ≤ 33554432) × (p .ks ≤ 33554432) ⌝ }
-    ensures { λ r. ⌜ LineTaken (now (file .entry)) p b (now (fixes .entry)) k (now (extras .entry)) r ⌝ }
-{
-    let at = p.at;
-    let letter = file[at];
-    if letter == b'B' {
-        return take_columned(file, p, Family::B, b, fixes);
-    }
-    if letter == b'K' {
-        return take_columned(file, p, Family::K, k, extras);
-    }
-    take_other(file, p)
 }
 
 // The pace's place, and the state with its numbers.
@@ -198,13 +59,13 @@ fn run_lines(
     extras: &[u8],
     st: State,
 ) -> Ahead
-    requires { ⌜ (from ≤ length (now file)) × (length (now file) ≤ 16777216) × (b ≤ 255) × (k ≤ 255) × Few st × (st .points ≡ 0) × (afterH ≤ st .stage) × (st .stage ≤ inBody)
+    requires { ⌜ (from ≤ length (now file)) × (length (now file) ≤ 16777216) × Few st × (st .points ≡ 0) × (afterH ≤ st .stage) × (st .stage ≤ inBody)
         × Known family.B st b (now fixes) × Known family.K st k (now extras) ⌝ }
     ensures { λ r. ⌜ Ran (now (file .entry)) (now (table .entry)) from st r (now (table .exit)) ⌝ }
 {
     let mut p = pace_of(from, st);
     while p.at < file.len() {
-        let Taken::Next(next) = take_line(file, p, b, fixes, k, extras) else {
+        let Taken::Next(next) = pace::take_line(file, p, b, fixes, k, extras) else {
             return ahead_at(p, st);
         };
         let n = p.lines as usize;

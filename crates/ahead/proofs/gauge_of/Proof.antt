@@ -11,7 +11,6 @@ returns c =
     let most = count-most _ _ (c .before .before .before .pre) in
     record {
       sized = c .before .before .line-length .ensures;
-      small = search needs;
       ended = pattern-fits _ _ most (c .pattern .ensures);
       columned = pattern-put _ _ (search unmapped) most (c .pattern .ensures);
     }

@@ -10,8 +10,6 @@ run-lines-requires c κs =
     let pre = c .before .before .before .before .before .before .before .pre in (
       pre .0 .within,
       pre .0 .size,
-      pre .2 .small,
-      pre .3 .small,
       pre .0 .few,
       pre .0 .points,
       pre .0 .low,

@@ -3,7 +3,7 @@ use Prim.Native.Nat.{_-_}
 use native.Mathlib.Omega.{arith}
 use borrow.Author.Needs.{needs}
 use lib.ListN.{length}
-use Rattle.ahead.proofs.Runs.{Running, running-first, running-few, running-next, running-less, running-end, taken-is}
+use Rattle.ahead.proofs.Runs.{Running, running-first, running-next, running-less, running-end, taken-is}
 use Rattle.ahead.proofs.run_lines.Statement.{statement}
 use Rattle.ahead.proofs.run_lines.Tie as tie
 
@@ -16,13 +16,7 @@ abbrev μ-loop : tie.MeasureT-loop
 loop-holds : tie.Need-loop-holds Inv-loop μ-loop
 loop-holds c =
     let pre = c .before .before .before .before .before .pre in
-    running-first _ _ _ _ _ (c .pace-of .ensures) (pre .0) (pre .5) (pre .6) (pre .7)
-
-take-line-requires : tie.Need-take-line-requires Inv-loop μ-loop
-take-line-requires c κs =
-    let pre = c .before .before .before .before .before .before .before .before .pre in
-    let few = running-few (c .before .before .loop .inv) (pre .1) (pre .4) in
-    (search needs, pre .1, pre .2, pre .3, few .0, few .1, few .2)
+    running-first _ _ _ _ _ (c .pace-of .ensures) (pre .0) (pre .3) (pre .4) (pre .5)
 
 cast-table : tie.Need-cast-table Inv-loop μ-loop
 cast-table c = omega (arith, c .before .before .before .before .before .before .before .before .before .loop .inv .within, c .before .before .before .before .before .before .before .before .before .before .before .before .before .before .before .pre .1)
@@ -31,14 +25,14 @@ loop-less : tie.Need-loop-less Inv-loop μ-loop
 loop-less c =
     let g = c .before .before .before .before .before .before .before .before .before .loop .inv in
     let pre = c .before .before .before .before .before .before .before .before .before .before .before .before .before .before .before .pre in
-    let t = taken-is _ (c .before .before .before .before .before .before .take-line .ensures _ (g .going) (pre .8) (pre .9)) (c .before .before .before .before .next .given .1) in
+    let t = taken-is _ (c .before .before .before .before .before .before .take-line .ensures _ (g .going) (pre .6) (pre .7)) (c .before .before .before .before .next .given .1) in
     omega (arith, running-less g t, t .passed .within)
 
 loop-again : tie.Need-loop-again Inv-loop μ-loop
 loop-again c =
     let g = c .before .before .before .before .before .before .before .before .before .loop .inv in
     let pre = c .before .before .before .before .before .before .before .before .before .before .before .before .before .before .before .pre in
-    let t = taken-is _ (c .before .before .before .before .before .before .take-line .ensures _ (g .going) (pre .8) (pre .9)) (c .before .before .before .before .next .given .1) in
+    let t = taken-is _ (c .before .before .before .before .before .before .take-line .ensures _ (g .going) (pre .6) (pre .7)) (c .before .before .before .before .next .given .1) in
     running-next g t (c .before .if2 .left)
 
 pub run-lines-spec : {M : Type 1} → statement M
@@ -49,7 +43,7 @@ run-lines-spec =
     μ-loop
     (λ c κs. search needs)
     loop-holds
-    take-line-requires
+    (λ c κs. search needs)
     (λ c. search needs)
     (λ c. search needs)
     (λ c κs. search needs)

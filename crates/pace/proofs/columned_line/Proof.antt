@@ -1,8 +1,8 @@
--- `ahead::columned_line` meets its contract: a line that is taken is one that the check judges good. Assumes nothing.
+-- `pace::columned_line` meets its contract: a line that is taken is one that the check judges good. Assumes nothing.
 use borrow.Author.Needs.{needs}
-use Rattle.ahead.proofs.Lines.{columned-told}
-use Rattle.ahead.proofs.columned_line.Statement.{statement}
-use Rattle.ahead.proofs.columned_line.Tie as tie
+use Rattle.pace.proofs.Lines.{columned-told}
+use Rattle.pace.proofs.columned_line.Statement.{statement}
+use Rattle.pace.proofs.columned_line.Tie as tie
 
 fix : tie.Need-returns
 fix c = λ st g k e n. columned-told _ st _ _ g n _ _ _ _ _ _ _ k e (c .before .before .before .sure-line .ensures) (rw (c .before .enum-told .given .1)) (rw (c .before .enum-told .given .1)) (c .after-time .ensures)

@@ -34,10 +34,10 @@ use Rattle.plain.proofs.Laws.{mild-text}
 use Rattle.sure.specs.Sure.{patternOf, sureTime}
 use Rattle.sure.proofs.Said.{Parts, parts, sure-fix, sure-extra}
 use Rattle.cut.proofs.Cuts.{Cut}
-use Rattle.ahead.specs.Paces.{letterOf, layoutFor, fixesIn, extrasIn, paced, onward, takenTold, AfterTime, Going, Known, Judges, JudgedAs, MildAs, Takes, TakenAs}
-use Rattle.ahead.specs.declared.Pace.{Pace}
-use Rattle.ahead.specs.declared.Taken.{Taken}
-use Rattle.ahead.specs.declared.Taken.the-variants as taken
+use Rattle.pace.specs.Paces.{letterOf, layoutFor, fixesIn, extrasIn, paced, onward, takenTold, AfterTime, Going, Known, Judges, JudgedAs, MildAs, Takes, TakenAs}
+use Rattle.pace.specs.declared.Pace.{Pace}
+use Rattle.pace.specs.declared.Taken.{Taken}
+use Rattle.pace.specs.declared.Taken.the-variants as taken
 
 -- ---- what the answers tell
 

@@ -1,9 +1,9 @@
--- `ahead::after_time` meets its contract. Assumes nothing.
+-- `pace::after_time` meets its contract. Assumes nothing.
 use borrow.Author.Needs.{needs}
 use Rattle.rules.specs.Fields.{timeTold}
-use Rattle.ahead.specs.Paces.{takenTold}
-use Rattle.ahead.proofs.after_time.Statement.{statement}
-use Rattle.ahead.proofs.after_time.Tie as tie
+use Rattle.pace.specs.Paces.{takenTold}
+use Rattle.pace.proofs.after_time.Statement.{statement}
+use Rattle.pace.proofs.after_time.Tie as tie
 
 pub after-time-spec : {M : Type 1} → statement M
 unfolding timeTold takenTold

@@ -1,10 +1,10 @@
--- The numbers that move in a run of lines, a line taken by them, and what holds after the run.
-use Prim.Native.Nat.{ℕ, _+_, _*_, _≤_}
-use mathlib.Core.Bool.{Bool, true, false, not}
+-- The numbers that move in a run of lines, and a line taken by them.
+use Prim.Native.Nat.{ℕ, _+_, _≤_}
+use mathlib.Core.Bool.{true, not}
 use mathlib.Core.List.{List}
 use mathlib.Core.Option.{Option, none, some}
 use mathlib.Core.Path.{_≡_}
-use lib.ListN.{length, getD, take}
+use lib.ListN.{length, getD}
 use Rattle.rules.specs.Choice.{given, need}
 use Rattle.rules.specs.Fields.{timeTold}
 use Rattle.rules.specs.Layouts.{firstStart, allowed, lineLength, entriesOf}
@@ -15,15 +15,12 @@ use Rattle.rules.specs.declared.Family.the-variants as family
 use Rattle.rules.specs.declared.Layout.{Layout}
 use Rattle.rules.specs.declared.State.{State}
 use Rattle.rules.specs.declared.Time.{Time}
-use Rattle.order.specs.States.{Few}
-use Rattle.order.specs.Turns.{Passed, Here}
+use Rattle.order.specs.Turns.{Passed}
 use Rattle.plain.specs.Plain.{isMild, every}
 use Rattle.sure.specs.Sure.{patternOf}
-use Rattle.ahead.specs.declared.Ahead.{Ahead}
-use Rattle.ahead.specs.declared.Gauge.{Gauge}
-use Rattle.ahead.specs.declared.Pace.{Pace}
-use Rattle.ahead.specs.declared.Taken.{Taken}
-use Rattle.ahead.specs.declared.Taken.the-variants as taken
+use Rattle.pace.specs.declared.Pace.{Pace}
+use Rattle.pace.specs.declared.Taken.{Taken}
+use Rattle.pace.specs.declared.Taken.the-variants as taken
 
 -- ---- the families
 
@@ -77,9 +74,15 @@ abbrev pub AfterTime : Time → Pace → ℕ → ℕ → ℕ → Taken → Type 
 AfterTime t p next bs ks r =
     takenTold r ≡ given (timeTold t) none λ s. need (not (isBack (passing (p .clock) s))) none λ _. some (onward p next s bs ks)
 
+-- the counts have room for one line more
+pub record Room (p : Pace) : Type 0 where
+  pub lines : p .lines ≤ 33554432
+  pub bs : p .bs ≤ 33554432
+  pub ks : p .ks ≤ 33554432
+
 -- ---- a line taken
 
--- body lines may come, and the counts have room
+-- body lines may come
 pub record Going (st : State) (p : Pace) : Type 0 where
   pub points : st .points ≡ 0
   pub low : afterH ≤ p .stage
@@ -132,32 +135,3 @@ OtherTaken file p r = (st : State) → Going st p → TakenAs file st p r
 
 abbrev pub LineTaken : List ℕ → Pace → ℕ → List ℕ → ℕ → List ℕ → Taken → Type 0
 LineTaken file p b fixes k extras r = (st : State) → Going st p → Known family.B st b fixes → Known family.K st k extras → TakenAs file st p r
-
--- ---- a run
-
--- body lines may come behind `from` bytes of a file of allowed size, and the counts have room
-pub record MayRun (file : List ℕ) (from : ℕ) (st : State) : Type 0 where
-  pub points : st .points ≡ 0
-  pub low : afterH ≤ st .stage
-  pub high : st .stage ≤ inBody
-  pub size : length file ≤ 16777216
-  pub within : from ≤ length file
-  pub few : Few st
-
--- a line can tell each of the layouts
-pub record BothAllowed (st : State) : Type 0 where
-  pub fixes : allowed (firstStart family.B) (st .flight .fixes) ≡ true
-  pub extras : allowed (firstStart family.K) (st .flight .extras) ≡ true
-
--- what is known of the lines of a family with this layout
-pub record Gauged (f : Family) (l : Layout) (r : Gauge) : Type 0 where
-  pub sized : r .size ≡ lineLength (firstStart f) l
-  pub small : r .size ≤ 255
-  pub ended : r .end ≤ length (r .pattern)
-  pub columned : take (r .end) (r .pattern) ≡ patternOf (entriesOf l)
-
--- what held before the run holds after it: the lines between are passed, and their entries put
-pub record Ran (file table : List ℕ) (from : ℕ) (st : State) (r : Ahead) (table′ : List ℕ) : Type 0 where
-  pub onward : from ≤ r .at
-  pub long : length table′ ≡ length table
-  pub reach : (t₀ : List ℕ) → Here file t₀ table from st → Here file t₀ table′ (r .at) (r .state)
