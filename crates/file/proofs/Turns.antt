@@ -31,7 +31,7 @@ use Rattle.order.proofs.Turns.{passed-count}
 use Rattle.after.specs.Judges.{JudgedTold}
 use Rattle.judge.specs.Lines.{judgeFew}
 use Rattle.judge.proofs.Judging.{judge-few}
-use Rattle.file.specs.Turns.{Stopped, Turned, inNext}
+use Rattle.file.specs.Turns.{LeftBy, Stopped, Turned, inNext}
 use Rattle.file.specs.declared.lines.What.{What}
 use Rattle.file.specs.declared.lines.What.the-variants as what
 
@@ -54,7 +54,7 @@ module _ {file : List ℕ} {at e : ℕ} (st : State) (few : Few st) (k : Cut fil
   long : at + length (take (e - at) (drop at file)) ≡ e
   long = simp (length-take, length-drop) (omega (arith, k .start, k .fits))
 
-  pub turn-passed : j .outcome ≡ outcome.Accepted → Passed file at st (e + 2) (j .state)
+  turn-passed : j .outcome ≡ outcome.Accepted → Passed file at st (e + 2) (j .state)
   turn-passed a =
       record {
         text = take (e - at) (drop at file);
@@ -64,10 +64,14 @@ module _ {file : List ℕ} {at e : ℕ} (st : State) (few : Few st) (k : Cut fil
         judged = accepted-by (judge (take (e - at) (drop at file)) st) j told-few a;
       }
 
-  pub turn-stopped : (w : Refusal) → j .outcome ≡ outcome.Refused w → (why : Refusal) → why ≡ inNext (w .reason) (w .byte) st → Stopped file at st why
+  turn-stopped : (w : Refusal) → j .outcome ≡ outcome.Refused w → (why : Refusal) → why ≡ inNext (w .reason) (w .byte) st → Stopped file at st why
   unfolding run
   turn-stopped w a why q =
       rw q (record { line = refl; run = λ room. rw (k .lines, refused-by (judge (take (e - at) (drop at file)) st) j w told-few a) })
+
+  pub turn-left : (w : What) (s : State) → LeftBy j (e + 2) st w s → Turned file at st w s
+  turn-left (what.Next n) s l = rw (l .1, l .2) (turn-passed (l .0))
+  turn-left (what.Stop why) s l = turn-stopped (l .refused) (l .outcome) why (l .placed)
 
 pub turn-torn : (file : List ℕ) (at e : ℕ) (st : State) → Torn file at e → (why : Refusal) → why ≡ inNext LineEnd (e - at + 1) st → Stopped file at st why
 unfolding run

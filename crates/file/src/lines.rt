@@ -6,9 +6,10 @@ ghost use Rattle.rules.specs.Files.{CheckedTold, finish};
 ghost use Rattle.rules.specs.Promises.{FileChecked};
 ghost use Rattle.rules.specs.Refusals.{refusal};
 ghost use Rattle.order.specs.States.{Few};
-ghost use Rattle.file.specs.Turns.{Turned, inNext};
+ghost use Rattle.file.specs.Turns.{LeftBy, Turned, inNext};
 use cut::Ended;
 use rules::Checked;
+use rules::Judged;
 use rules::Outcome;
 use rules::Reason;
 use rules::Refusal;
@@ -65,6 +66,28 @@ pub struct Turn {
     pub state: State,
 }
 
+// A turn whose line was judged: the place of the next line, or the refusal in this one.
+fn left_by(judged: Judged, next: usize, st: State) -> Turn
+    requires { ⌜ st .flight .lines ≤ 16777216 ⌝ }
+    ensures { λ r. ⌜ LeftBy judged next st (r .what) (r .state) ⌝ }
+{
+    let outcome = judged.outcome;
+    let state = judged.state;
+    match outcome {
+        Outcome::Accepted => Turn {
+            what: What::Next(next),
+            state,
+        },
+        Outcome::Refused(why) => {
+            let reason = why.reason;
+            Turn {
+                what: What::Stop(in_next(reason, why.byte, st)),
+                state: st,
+            }
+        }
+    }
+}
+
 // One line found, judged and left.
 fn take_turn(file: &[u8], at: usize, st: State) -> Turn
     requires { ⌜ (at < length (now file)) × (length (now file) ≤ 16777216) × Few st ⌝ }
@@ -75,24 +98,7 @@ fn take_turn(file: &[u8], at: usize, st: State) -> Turn
             what: What::Stop(in_next(Reason::LineEnd, (end - at + 1) as u32, st)),
             state: st,
         },
-        Ended::At(end) => {
-            let judged = judge::judge_line(&file[at..end], st);
-            let outcome = judged.outcome;
-            let state = judged.state;
-            match outcome {
-                Outcome::Accepted => Turn {
-                    what: What::Next(end + 2),
-                    state,
-                },
-                Outcome::Refused(why) => {
-                    let reason = why.reason;
-                    Turn {
-                        what: What::Stop(in_next(reason, why.byte, st)),
-                        state: st,
-                    }
-                }
-            }
-        }
+        Ended::At(end) => left_by(judge::judge_line(&file[at..end], st), end + 2, st),
     }
 }
 
