@@ -18,13 +18,13 @@ use rules::Time;
 pub fn time_at(s: &[u8], at: usize) -> Time
     ensures { λ r. ⌜ TimeAt (now (s .entry)) at r ⌝ }
 {
-    let Number::Value(h) = number::two(s, at) else {
+    let Number::Value(h) = digits::two(s, at) else {
         return Time::NoTime;
     };
-    let Number::Value(m) = number::two(s, at + 2) else {
+    let Number::Value(m) = digits::two(s, at + 2) else {
         return Time::NoTime;
     };
-    let Number::Value(x) = number::two(s, at + 4) else {
+    let Number::Value(x) = digits::two(s, at + 4) else {
         return Time::NoTime;
     };
     if 23 < h {
@@ -85,13 +85,13 @@ fn year_of(yy: u64) -> u16
 pub fn date_at(s: &[u8], at: usize) -> Day
     ensures { λ r. ⌜ DateAt (now (s .entry)) at r ⌝ }
 {
-    let Number::Value(d) = number::two(s, at) else {
+    let Number::Value(d) = digits::two(s, at) else {
         return Day::NoDay;
     };
-    let Number::Value(m) = number::two(s, at + 2) else {
+    let Number::Value(m) = digits::two(s, at + 2) else {
         return Day::NoDay;
     };
-    let Number::Value(yy) = number::two(s, at + 4) else {
+    let Number::Value(yy) = digits::two(s, at + 4) else {
         return Day::NoDay;
     };
     let y = year_of(yy);
@@ -115,9 +115,9 @@ fn degrees_at(s: &[u8], at: usize, width: usize) -> Number
     ensures { λ r. ⌜ DigitsRead (now (s .entry)) at width r ⌝ }
 {
     if width < 3 {
-        return number::two(s, at);
+        return digits::two(s, at);
     }
-    number::three(s, at)
+    digits::three(s, at)
 }
 
 // Degrees of `width` digits, MMmmm and one of two letters at a place of s, as a count of `most` at most with its letter beside it.
@@ -128,7 +128,7 @@ fn position_at(s: &[u8], at: usize, width: usize, most: u64, a: u8, b: u8) -> Pl
     let Number::Value(d) = degrees_at(s, at, width) else {
         return Place::NoPlace;
     };
-    let Number::Value(m) = number::five(s, at + width) else {
+    let Number::Value(m) = digits::five(s, at + width) else {
         return Place::NoPlace;
     };
     if 59999 < m {
@@ -183,7 +183,7 @@ pub fn altitude_at(s: &[u8], at: usize) -> Altitude
 {
     let b = chars::byte(s, at);
     if b == b'-' {
-        let Number::Value(v) = number::four(s, at + 1) else {
+        let Number::Value(v) = digits::four(s, at + 1) else {
             return Altitude::NoAltitude;
         };
         if v < 1 {
@@ -191,7 +191,7 @@ pub fn altitude_at(s: &[u8], at: usize) -> Altitude
         }
         return Altitude::Metres(below(v));
     }
-    let Number::Value(v) = number::five(s, at) else {
+    let Number::Value(v) = digits::five(s, at) else {
         return Altitude::NoAltitude;
     };
     Altitude::Metres(above(v))
