@@ -31,7 +31,7 @@ pub fn altitude_at(s: &[u8], at: usize) -> Altitude
 {
     let b = chars::byte(s, at);
     if b == b'-' {
-        let Number::Value(v) = number::four(s, at + 1) else {
+        let Number::Value(v) = digits::four(s, at + 1) else {
             return Altitude::NoAltitude;
         };
         if v < 1 {
@@ -39,7 +39,7 @@ pub fn altitude_at(s: &[u8], at: usize) -> Altitude
         }
         return Altitude::Metres(below(v));
     }
-    let Number::Value(v) = number::five(s, at) else {
+    let Number::Value(v) = digits::five(s, at) else {
         return Altitude::NoAltitude;
     };
     Altitude::Metres(above(v))

@@ -16,13 +16,13 @@ use rules::Time;
 pub fn time_at(s: &[u8], at: usize) -> Time
     ensures { λ r. ⌜ TimeAt (now (s .entry)) at r ⌝ }
 {
-    let Number::Value(h) = number::two(s, at) else {
+    let Number::Value(h) = digits::two(s, at) else {
         return Time::NoTime;
     };
-    let Number::Value(m) = number::two(s, at + 2) else {
+    let Number::Value(m) = digits::two(s, at + 2) else {
         return Time::NoTime;
     };
-    let Number::Value(x) = number::two(s, at + 4) else {
+    let Number::Value(x) = digits::two(s, at + 4) else {
         return Time::NoTime;
     };
     if 23 < h {
@@ -83,13 +83,13 @@ fn year_of(yy: u64) -> u16
 pub fn date_at(s: &[u8], at: usize) -> Day
     ensures { λ r. ⌜ DateAt (now (s .entry)) at r ⌝ }
 {
-    let Number::Value(d) = number::two(s, at) else {
+    let Number::Value(d) = digits::two(s, at) else {
         return Day::NoDay;
     };
-    let Number::Value(m) = number::two(s, at + 2) else {
+    let Number::Value(m) = digits::two(s, at + 2) else {
         return Day::NoDay;
     };
-    let Number::Value(yy) = number::two(s, at + 4) else {
+    let Number::Value(yy) = digits::two(s, at + 4) else {
         return Day::NoDay;
     };
     let y = year_of(yy);

@@ -13,9 +13,9 @@ fn degrees_at(s: &[u8], at: usize, width: usize) -> Number
     ensures { λ r. ⌜ DigitsRead (now (s .entry)) at width r ⌝ }
 {
     if width < 3 {
-        return number::two(s, at);
+        return digits::two(s, at);
     }
-    number::three(s, at)
+    digits::three(s, at)
 }
 
 // Degrees of `width` digits, MMmmm and one of two letters at a place of s, as a count of `most` at most with its letter beside it.
@@ -26,7 +26,7 @@ fn position_at(s: &[u8], at: usize, width: usize, most: u64, a: u8, b: u8) -> Pl
     let Number::Value(d) = degrees_at(s, at, width) else {
         return Place::NoPlace;
     };
-    let Number::Value(m) = number::five(s, at + width) else {
+    let Number::Value(m) = digits::five(s, at + width) else {
         return Place::NoPlace;
     };
     if 59999 < m {

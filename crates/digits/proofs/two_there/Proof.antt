@@ -1,10 +1,10 @@
--- `number::two_there` meets its contract: one and one joined. Assumes nothing.
+-- `digits::two_there` meets its contract: one and one joined. Assumes nothing.
 use native.Mathlib.Omega.{arith}
 use borrow.Author.Needs.{needs}
 use Rattle.rules.specs.Numbers.{numberTold}
-use Rattle.number.proofs.Joined.{first-none, then-none, both, up-fits, sum-fits}
-use Rattle.number.proofs.two_there.Statement.{statement}
-use Rattle.number.proofs.two_there.Tie as tie
+use Rattle.digits.proofs.Joined.{first-none, then-none, both, up-fits, sum-fits}
+use Rattle.digits.proofs.two_there.Statement.{statement}
+use Rattle.digits.proofs.two_there.Tie as tie
 
 pub two-there-spec : {M : Type 1} → statement M
 unfolding numberTold

@@ -1,10 +1,10 @@
--- `number::three_there` meets its contract: two and one joined. Assumes nothing.
+-- `digits::three_there` meets its contract: two and one joined. Assumes nothing.
 use native.Mathlib.Omega.{arith}
 use borrow.Author.Needs.{needs}
 use Rattle.rules.specs.Numbers.{numberTold}
-use Rattle.number.proofs.Joined.{first-none, then-none, both, up-fits, sum-fits}
-use Rattle.number.proofs.three_there.Statement.{statement}
-use Rattle.number.proofs.three_there.Tie as tie
+use Rattle.digits.proofs.Joined.{first-none, then-none, both, up-fits, sum-fits}
+use Rattle.digits.proofs.three_there.Statement.{statement}
+use Rattle.digits.proofs.three_there.Tie as tie
 
 pub three-there-spec : {M : Type 1} → statement M
 unfolding numberTold

@@ -1,9 +1,9 @@
--- `number::three` meets its contract. Assumes nothing.
+-- `digits::three` meets its contract. Assumes nothing.
 use borrow.Author.Needs.{needs}
 use Rattle.rules.specs.Numbers.{numberTold}
-use Rattle.number.proofs.Joined.{short, long}
-use Rattle.number.proofs.three.Statement.{statement}
-use Rattle.number.proofs.three.Tie as tie
+use Rattle.digits.proofs.Joined.{short, long}
+use Rattle.digits.proofs.three.Statement.{statement}
+use Rattle.digits.proofs.three.Tie as tie
 
 pub three-spec : {M : Type 1} → statement M
 unfolding numberTold

@@ -1,12 +1,12 @@
--- `number::reaches` meets its contract. Assumes nothing.
+-- `digits::reaches` meets its contract. Assumes nothing.
 use Prim.Native.Nat.{ℕ, _+_, _-_, _≤_}
 use mathlib.Core.Bool.{Bool, true, false}
 use mathlib.Core.Path.{_≡_, refl, sym, _∙_}
 use native.Mathlib.Omega.{arith}
 use borrow.Author.Tests.{le-leb, lt-leb, leb-true, leb-false}
 use lib.Dec.{leb}
-use Rattle.number.proofs.reaches.Statement.{statement}
-use Rattle.number.proofs.reaches.Tie as tie
+use Rattle.digits.proofs.reaches.Statement.{statement}
+use Rattle.digits.proofs.reaches.Tie as tie
 
 moved : (t : Bool) (at n size : ℕ) → n ≤ size → leb at (size - n) ≡ t → t ≡ leb (at + n) size
 moved true at n size h e = sym (le-leb (at + n) size (omega (arith, leb-true at (size - n) e)))

@@ -1,9 +1,9 @@
--- `number::two` meets its contract. Assumes nothing.
+-- `digits::two` meets its contract. Assumes nothing.
 use borrow.Author.Needs.{needs}
 use Rattle.rules.specs.Numbers.{numberTold}
-use Rattle.number.proofs.Joined.{short, long}
-use Rattle.number.proofs.two.Statement.{statement}
-use Rattle.number.proofs.two.Tie as tie
+use Rattle.digits.proofs.Joined.{short, long}
+use Rattle.digits.proofs.two.Statement.{statement}
+use Rattle.digits.proofs.two.Tie as tie
 
 pub two-spec : {M : Type 1} → statement M
 unfolding numberTold

@@ -13,12 +13,12 @@ use lib.Pow.{pow-add}
 use lib.Seq.{drop-drop}
 use mir.Syntax.{w64}
 use mir.Val.{Fits}
-use Rattle.rules.specs.Choice.{given, need}
+use Rattle.rules.specs.Choice.{given}
 use Rattle.rules.specs.Chars.{isDigit}
 use Rattle.rules.specs.Numbers.{spell, numberAt, numberTold}
 use Rattle.rules.specs.declared.Number.{Number}
 use Rattle.rules.specs.declared.Number.the-variants.{Value, NoNumber}
 use Rattle.number.proofs.Laws.{spell-more, spell-other, number-long, number-below, told}
 
 under : (t : Bool) (x y : Option ℕ) (f : ℕ → Option ℕ) → x ≡ given y none f → cond t x none ≡ given (cond t y none) none f
 under true x y f e = e

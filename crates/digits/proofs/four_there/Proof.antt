@@ -1,10 +1,10 @@
--- `number::four_there` meets its contract: three and one joined. Assumes nothing.
+-- `digits::four_there` meets its contract: three and one joined. Assumes nothing.
 use native.Mathlib.Omega.{arith}
 use borrow.Author.Needs.{needs}
 use Rattle.rules.specs.Numbers.{numberTold}
-use Rattle.number.proofs.Joined.{first-none, then-none, both, up-fits, sum-fits}
-use Rattle.number.proofs.four_there.Statement.{statement}
-use Rattle.number.proofs.four_there.Tie as tie
+use Rattle.digits.proofs.Joined.{first-none, then-none, both, up-fits, sum-fits}
+use Rattle.digits.proofs.four_there.Statement.{statement}
+use Rattle.digits.proofs.four_there.Tie as tie
 
 pub four-there-spec : {M : Type 1} → statement M
 unfolding numberTold

@@ -1,9 +1,9 @@
--- `number::four` meets its contract. Assumes nothing.
+-- `digits::four` meets its contract. Assumes nothing.
 use borrow.Author.Needs.{needs}
 use Rattle.rules.specs.Numbers.{numberTold}
-use Rattle.number.proofs.Joined.{short, long}
-use Rattle.number.proofs.four.Statement.{statement}
-use Rattle.number.proofs.four.Tie as tie
+use Rattle.digits.proofs.Joined.{short, long}
+use Rattle.digits.proofs.four.Statement.{statement}
+use Rattle.digits.proofs.four.Tie as tie
 
 pub four-spec : {M : Type 1} → statement M
 unfolding numberTold

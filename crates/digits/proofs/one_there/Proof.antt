@@ -1,12 +1,12 @@
--- `number::one_there` meets its contract. Assumes nothing.
+-- `digits::one_there` meets its contract. Assumes nothing.
 use mathlib.Core.Path.{sym, _∙_}
 use native.Mathlib.Omega.{arith}
 use borrow.Author.Needs.{needs}
 use Rattle.rules.specs.Numbers.{numberTold}
 use Rattle.number.proofs.Laws.{digit-low, digit-high}
-use Rattle.number.proofs.Joined.{one-some, one-none}
-use Rattle.number.proofs.one_there.Statement.{statement}
-use Rattle.number.proofs.one_there.Tie as tie
+use Rattle.digits.proofs.Joined.{one-some, one-none}
+use Rattle.digits.proofs.one_there.Statement.{statement}
+use Rattle.digits.proofs.one_there.Tie as tie
 
 pub one-there-spec : {M : Type 1} → statement M
 unfolding numberTold

@@ -1,9 +1,9 @@
--- `number::five` meets its contract. Assumes nothing.
+-- `digits::five` meets its contract. Assumes nothing.
 use borrow.Author.Needs.{needs}
 use Rattle.rules.specs.Numbers.{numberTold}
-use Rattle.number.proofs.Joined.{short, long}
-use Rattle.number.proofs.five.Statement.{statement}
-use Rattle.number.proofs.five.Tie as tie
+use Rattle.digits.proofs.Joined.{short, long}
+use Rattle.digits.proofs.five.Statement.{statement}
+use Rattle.digits.proofs.five.Tie as tie
 
 pub five-spec : {M : Type 1} → statement M
 unfolding numberTold
