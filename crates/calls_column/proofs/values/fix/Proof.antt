@@ -1,0 +1,17 @@
+-- `values::fix` meets its contract. Assumes nothing.
+use borrow.Author.Needs.{needs}
+use Rattle.rules.specs.Reads.{fixTold}
+use Rattle.calls_column.proofs.values.fix.Statement.{statement}
+use Rattle.calls_column.proofs.values.fix.Tie as tie
+
+pub fix-spec : {M : Type 1} → statement M
+unfolding fixTold
+fix-spec =
+    tie.close
+    (tie.spec
+    (λ c. search needs)
+    (λ c κs. search needs)
+    (λ c. search needs)
+    (λ c κs. search needs)
+    (λ c. rw (c .before .before .read .given .1) (c .fix-values .ensures))
+    (λ c. rw (c .before .before .read2 .given .1) (c .refused .ensures)))
