@@ -4,13 +4,9 @@ use mathlib.Core.List.{List}
 use mathlib.Core.Path.{_≡_, sym, _∙_}
 use lib.IntN.{ℤ}
 use Rattle.answers.proofs.Only.{only-answered}
-use Rattle.calls_column.specs.Calls.{FixAnswered, ExtraAnswered, ColumnAnswered, NumberAnswered, EntryAnswered, PresenceAnswered}
+use Rattle.calls_column.specs.Calls.{ExtraAnswered, ColumnAnswered, NumberAnswered, EntryAnswered, PresenceAnswered}
 
 module _ (answer : List ℕ) (r r′ : ℕ) (after after′ : List ℕ) where
-  pub only-fix-answered : (line l : List ℕ) (heights now now′ : List ℤ) → FixAnswered line l answer heights r after now → FixAnswered line l answer heights r′ after′ now′ → (r ≡ r′) × (after ≡ after′) × (now ≡ now′)
-  only-fix-answered line l heights now now′ f f′ =
-      (f .told .number ∙ sym (f′ .told .number), f .told .numbers ∙ sym (f′ .told .numbers), f .metres ∙ sym (f′ .metres))
-
   pub only-extra-answered : (line l : List ℕ) → ExtraAnswered line l answer r after → ExtraAnswered line l answer r′ after′ → (r ≡ r′) × (after ≡ after′)
   only-extra-answered line l = only-answered answer r r′ after after′
 

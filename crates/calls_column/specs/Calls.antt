@@ -1,17 +1,12 @@
--- The promise of each call on a line with its layout, by name: an equation on the number returned and on all that is lent for writing, afterwards.
+-- The promise of each call on the columns of a line and on a layout, by name: an equation on the number returned and on all that is lent for writing, afterwards.
 use Prim.Native.Nat.{ℕ}
 use mathlib.Core.Bool.{_&&_, cond}
 use mathlib.Core.List.{List}
 use mathlib.Core.Path.{_≡_}
 use lib.IntN.{ℤ}
 use Rattle.answers.specs.Answers.{size, inNumbers, timeNumbers, hasRoom, Answered, AnswerGiven}
-use Rattle.given.specs.Given.{fixBy, extraBy, columnBy, numberBy, entryBy, presenceBy}
-use Rattle.calls_column.specs.Values.{fixNumbers, spanNumbers, signedNumbers, entryNumbers, presenceNumbers, heightsOf, integersOf}
-
--- the fix of a B line: the answer, and the altitudes beside it
-pub record FixAnswered (line l answer : List ℕ) (heights : List ℤ) (r : ℕ) (answerNow : List ℕ) (heightsNow : List ℤ) : Type 0 where
-  pub told : Answered (hasRoom size answer && hasRoom 2 heights) answer (inNumbers fixNumbers (fixBy line l)) r answerNow
-  pub metres : heightsNow ≡ cond (hasRoom size answer && hasRoom 2 heights) (heightsOf (fixBy line l)) heights
+use Rattle.given.specs.Given.{extraBy, columnBy, numberBy, entryBy, presenceBy}
+use Rattle.calls_column.specs.Values.{spanNumbers, signedNumbers, entryNumbers, presenceNumbers, integersOf}
 
 -- the time of a K line
 abbrev pub ExtraAnswered : List ℕ → List ℕ → List ℕ → ℕ → List ℕ → Type 0

@@ -1,3 +1,3 @@
--- What a call on a line with its layout answers, and on a layout.
+-- What a call on the columns of a line answers, and on a layout.
 pub mod Values
 pub mod Calls

@@ -6,13 +6,8 @@ use Rattle.rules.specs.Choice.{byte}
 use Rattle.rules.specs.Layouts.{Span}
 use Rattle.rules.specs.Refusals.{Said, says, refuses}
 use Rattle.rules.specs.declared.Entry.{Entry}
-use Rattle.rules.specs.declared.Fix.{Fix}
 use Rattle.rules.specs.declared.Presence.{Presence}
 use Rattle.rules.specs.declared.Signed.{Signed}
-
--- a fix, its letters as bytes; the altitudes stand beside the answer
-abbrev pub fixNumbers : Fix → List ℕ
-fixNumbers f = f .time ∷ f .lat .count ∷ f .lat .letter ∷ f .lon .count ∷ f .lon .letter ∷ f .validity ∷ []
 
 -- a column's text: how many bytes stand before it, and its length
 abbrev pub spanNumbers : Span → List ℕ
@@ -31,11 +26,6 @@ abbrev pub presenceNumbers : Presence → List ℕ
 presenceNumbers p = p .word ∷ p .count ∷ []
 
 -- ---- what stands beside the answer
-
--- the two altitudes of a fix, pressure and GNSS; 0 where refused
-abbrev pub heightsOf : Said Fix → List ℤ
-heightsOf (says f) = f .pressure .metres ∷ f .gnss .metres ∷ []
-heightsOf (refuses n l b) = pos 0 ∷ pos 0 ∷ []
 
 -- a column's number; 0 where refused
 abbrev pub integersOf : Said Signed → List ℤ

@@ -1,25 +1,14 @@
-// The calls from C on a line with its layout, which is given as the text of its own line; and on that layout.
+// The calls from C on a K line and on the columns of a line, with a layout that is given as the text of its own line; and on that layout.
 ghost use mathlib.Core.List.{_∷_, []};
-ghost use Rattle.calls_column.specs.Calls.{FixAnswered, ExtraAnswered, ColumnAnswered, NumberAnswered, EntryAnswered, PresenceAnswered};
+ghost use mathlib.Core.Path.{_≡_};
+ghost use lib.ListN.{length};
+ghost use Rattle.rules.specs.Reads.{numberReadTold};
+ghost use Rattle.calls_column.specs.Values.{integersOf};
+ghost use Rattle.calls_column.specs.Calls.{ExtraAnswered, ColumnAnswered, NumberAnswered, EntryAnswered, PresenceAnswered};
 use answers::SIZE;
+use rules::NumberRead;
 
-mod beside;
 mod values;
-
-// The fix of a B line.
-pub fn fix(line: &[u8], layout: &[u8], answer: &mut [u64], heights: &mut [i32]) -> u32
-    ensures { λ r. ⌜ FixAnswered (now (line .entry)) (now (layout .entry)) (now (answer .entry)) (now (heights .entry)) r (now (answer .exit)) (now (heights .exit)) ⌝ }
-{
-    if answer.len() != SIZE {
-        return 17;
-    }
-    if heights.len() != 2 {
-        return 17;
-    }
-    let read = given::fix(line, layout);
-    beside::put_heights(heights, read);
-    answers::give(answer, values::fix(read))
-}
 
 // The time of a K line.
 pub fn extra(line: &[u8], layout: &[u8], answer: &mut [u64]) -> u32
@@ -43,6 +32,20 @@ pub fn column(
     answers::give(answer, values::column(given::column(line, layout, code)))
 }
 
+// A column's number, or 0.
+fn put_number(number: &mut [i64], read: NumberRead)
+    requires { ⌜ length (now number) ≡ 1 ⌝ }
+    ensures { λ _. ⌜ now (number .exit) ≡ integersOf (numberReadTold read) ⌝ }
+{
+    match read {
+        NumberRead::Is(z) => {
+            let value = z.value;
+            number[0] = value;
+        }
+        NumberRead::Refused(_) => number[0] = 0,
+    }
+}
+
 // That column as a whole number.
 pub fn number(
     line: &[u8],
@@ -63,7 +66,7 @@ pub fn number(
     }
     let code = [code0, code1, code2];
     let read = given::number(line, layout, code);
-    beside::put_number(number, read);
+    put_number(number, read);
     answers::give(answer, values::signed(read))
 }
 

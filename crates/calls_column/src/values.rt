@@ -1,10 +1,10 @@
 // What a line says by its layout, and the layout itself, in the numbers of an answer.
 ghost use mathlib.Core.Path.{_≡_};
 ghost use Rattle.rules.specs.Layouts.{columnTold, presenceTold};
-ghost use Rattle.rules.specs.Reads.{fixTold, numberReadTold};
+ghost use Rattle.rules.specs.Reads.{numberReadTold};
 ghost use Rattle.answers.specs.Answers.{accepting, inNumbers};
 ghost use Rattle.given.specs.Given.{columnAtTold};
-ghost use Rattle.calls_column.specs.Values.{fixNumbers, spanNumbers, signedNumbers, entryNumbers, presenceNumbers};
+ghost use Rattle.calls_column.specs.Values.{spanNumbers, signedNumbers, entryNumbers, presenceNumbers};
 use answers::Numbers;
 use answers::accepted;
 use answers::between;
@@ -12,34 +12,8 @@ use answers::refused;
 use given::ColumnAt;
 use rules::ColumnRead;
 use rules::Entry;
-use rules::Fix;
-use rules::FixRead;
 use rules::NumberRead;
 use rules::PresenceRead;
-
-// What a B line says before its columns, without the altitudes.
-fn fix_values(f: Fix) -> Numbers
-    ensures { λ r. ⌜ r ≡ accepting (fixNumbers f) ⌝ }
-{
-    let lat = f.lat;
-    let lon = f.lon;
-    let time = f.time as u64;
-    let latitude = lat.count;
-    let n_or_s = lat.letter as u64;
-    let longitude = lon.count;
-    let e_or_w = lon.letter as u64;
-    let validity = f.validity as u64;
-    accepted(time, latitude, n_or_s, longitude, e_or_w, validity, 0, 0, 0)
-}
-
-pub(crate) fn fix(read: FixRead) -> Numbers
-    ensures { λ r. ⌜ r ≡ inNumbers fixNumbers (fixTold read) ⌝ }
-{
-    match read {
-        FixRead::Is(f) => fix_values(f),
-        FixRead::Refused(why) => refused(why),
-    }
-}
 
 // Where a column's text stands, of the places of its first and last byte.
 fn span(first: usize, last: usize) -> Numbers

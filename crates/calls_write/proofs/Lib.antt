@@ -1,3 +1,3 @@
 -- Laws of a line that is written; and that each promise has one answer.
-mod Written
+mod Laws
 mod Only

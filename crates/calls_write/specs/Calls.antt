@@ -1,49 +1,21 @@
 -- The promise of each call that writes a line, by name: an equation on the number returned, the answer and the lent output afterwards.
 use Prim.Native.Nat.{ℕ}
-use Prim.Native.Char.{code}
 use mathlib.Core.Bool.{cond}
 use mathlib.Core.List.{List}
 use mathlib.Core.Path.{_≡_}
-use Rattle.rules.specs.Layouts.{emptyLayout, firstStart, allowed}
-use Rattle.rules.specs.Reads.{layoutSaid}
-use Rattle.rules.specs.Refusals.{Said, andThen, valueOr}
-use Rattle.rules.specs.Writes.{wroteTold, written, outAfter, layoutText, fixText, isFix, extraText, isExtra, headText, isHead, pointText, isPoint}
-use Rattle.rules.specs.declared.Family.the-variants as family
+use Rattle.rules.specs.Refusals.{Said}
+use Rattle.rules.specs.Writes.{written, outAfter, fixText, extraText, headText, isHead, pointText, isPoint}
 use Rattle.rules.specs.declared.Fix.{Fix}
 use Rattle.rules.specs.declared.Head.{Head}
 use Rattle.rules.specs.declared.Point.{Point}
-use Rattle.rules.specs.declared.Wrote.{Wrote}
 use Rattle.answers.specs.Answers.{size, inNumbers, hasRoom, AnswerGiven}
-use Rattle.known.specs.Known.{familyBy}
-use Rattle.given.specs.Given.{orBadValue, layoutBy}
+use Rattle.given_write.specs.Written.{fixWritten, extraWritten, layoutWritten, layoutTextBy}
 use Rattle.calls_write.specs.Values.{placeNumbers}
 
--- what is said of a text that is to be written, and the output afterwards
-pub record SaidWritten (said : Said ℕ) (text : List ℕ) (place : ℕ) (out : List ℕ) (r : Wrote) (after : List ℕ) : Type 0 where
-  pub told : wroteTold r ≡ said
-  pub bytes : after ≡ outAfter said text place out
-
--- the same in numbers; an answer of another length leaves the output as it was
+-- what is said of a text that is to be written, in numbers, and the output afterwards; an answer of another length leaves it as it was
 pub record WriteAnswered (said : Said ℕ) (text : List ℕ) (place : ℕ) (out answer : List ℕ) (r : ℕ) (outNow answerNow : List ℕ) : Type 0 where
   pub told : AnswerGiven answer (inNumbers placeNumbers said) r answerNow
   pub bytes : outNow ≡ cond (hasRoom size answer) (outAfter said text place out) out
-
--- "17 BAD_VALUE: .. layout .. given is not allowed", then what the writer of a B line says
-unfoldable pub fixWritten : Fix → List ℕ → List ℕ → ℕ → List ℕ → Said ℕ
-fixWritten f columns l place out = andThen (layoutBy family.B l) λ layout. written (isFix f columns layout) (fixText f columns) place out
-
--- the same of a K line
-unfoldable pub extraWritten : ℕ → List ℕ → List ℕ → ℕ → List ℕ → Said ℕ
-extraWritten t columns l place out = andThen (layoutBy family.K l) λ layout. written (isExtra t columns layout) (extraText t columns) place out
-
--- an I or a J line from its text: 17 where it tells no layout, then what the writer of that layout says
-unfoldable pub layoutWritten : List ℕ → ℕ → List ℕ → Said ℕ
-layoutWritten l place out =
-    andThen (orBadValue (layoutSaid (familyBy (code "I") l) l)) λ layout.
-    written (allowed (firstStart (familyBy (code "I") l)) layout) (layoutText (familyBy (code "I") l) layout) place out
-
-unfoldable pub layoutTextBy : List ℕ → List ℕ
-layoutTextBy l = layoutText (familyBy (code "I") l) (valueOr emptyLayout (layoutSaid (familyBy (code "I") l) l))
 
 abbrev pub WriteFixAnswered : Fix → List ℕ → List ℕ → ℕ → List ℕ → List ℕ → ℕ → List ℕ → List ℕ → Type 0
 WriteFixAnswered f columns l place out answer r outNow answerNow =

@@ -4,7 +4,6 @@ ghost use Rattle.calls_write.specs.Calls.{WriteFixAnswered, WriteExtraAn
 use answers::SIZE;
 use rules::Date;
 
-mod by_line;
 mod values;
 
 // A B line of a fix, into an output from a place on.
@@ -38,7 +37,7 @@ pub fn fix(
         pressure,
         gnss,
     );
-    let wrote = by_line::write_fix(f, columns, layout, out, place);
+    let wrote = given_write::fix(f, columns, layout, out, place);
     answers::give(answer, values::wrote(wrote))
 }
 
@@ -56,7 +55,7 @@ pub fn extra(
     if answer.len() != SIZE {
         return 17;
     }
-    let wrote = by_line::write_extra(seconds, columns, layout, out, place);
+    let wrote = given_write::extra(seconds, columns, layout, out, place);
     answers::give(answer, values::wrote(wrote))
 }
 
@@ -67,7 +66,7 @@ pub fn layout(layout: &[u8], place: usize, out: &mut [u8], answer: &mut [u64]) -
     if answer.len() != SIZE {
         return 17;
     }
-    let wrote = by_line::write_layout(layout, out, place);
+    let wrote = given_write::layout(layout, out, place);
     answers::give(answer, values::wrote(wrote))
 }
 

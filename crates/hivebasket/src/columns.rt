@@ -1,6 +1,7 @@
 // Lines read with their layouts, and the layouts themselves.
 ghost use mathlib.Core.List.{_∷_, []};
-ghost use Rattle.calls_column.specs.Calls.{FixAnswered, ExtraAnswered, ColumnAnswered, NumberAnswered, EntryAnswered, PresenceAnswered};
+ghost use Rattle.calls_fix.specs.Calls.{FixAnswered};
+ghost use Rattle.calls_column.specs.Calls.{ExtraAnswered, ColumnAnswered, NumberAnswered, EntryAnswered, PresenceAnswered};
 
 // The fix of a B line.
 #[no_mangle]
@@ -12,7 +13,7 @@ pub extern "C" fn hive_fix(
 ) -> u32
     ensures { λ r. ⌜ FixAnswered (now (line .entry)) (now (layout .entry)) (now (answer .entry)) (now (heights .entry)) r (now (answer .exit)) (now (heights .exit)) ⌝ }
 {
-    calls_column::fix(line, layout, answer, heights)
+    calls_fix::fix(line, layout, answer, heights)
 }
 
 // The time of a K line.

@@ -1,7 +1,8 @@
 -- `head` meets its contract. Assumes nothing.
 use borrow.Author.Needs.{needs}
 use mathlib.Core.Path.{refl}
-use Rattle.calls_write.proofs.Written.{write-no-room, write-room, said-written}
+use Rattle.given_write.proofs.Laws.{said-written}
+use Rattle.calls_write.proofs.Laws.{write-no-room, write-room}
 use Rattle.calls_write.proofs.head.Statement.{statement}
 use Rattle.calls_write.proofs.head.Tie as tie
 
