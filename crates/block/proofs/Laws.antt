@@ -22,8 +22,9 @@ use Rattle.rules.specs.declared.Layout.{Layout}
 use Rattle.rules.specs.declared.Fix.{Fix}
 use Rattle.rules.specs.declared.FixRead.{FixRead}
 use Rattle.rules.specs.declared.FixRead.the-variants as fixRead
-use Rattle.show.specs.Lines.{Shown, Fills, columnLine}
-use Rattle.show.proofs.Laws.{then, nothing}
+use Rattle.pieces.specs.Buffer.{Shown, Fills}
+use Rattle.pieces.proofs.Laws.{then, nothing}
+use Rattle.show.specs.Lines.{columnLine}
 use Rattle.block.specs.Blocks.{endOf, textAt, printed, columnLines, Leaf, leaf, before, printedAt, leafFrom, leafAt, LeafPut, LinesFilled, Filled}
 use Rattle.block.specs.declared.Page.{Page}
 use Rattle.block.proofs.Spelt.{take-most, lines-shown, printed-room}

@@ -13,7 +13,8 @@ use Rattle.rules.specs.Lines.{fixFields}
 use Rattle.rules.specs.Listing.{lineShown}
 use Rattle.rules.specs.declared.Entry.{Entry}
 use Rattle.rules.specs.declared.Layout.{Layout}
-use Rattle.show.specs.Lines.{Shown, columnLine}
+use Rattle.pieces.specs.Buffer.{Shown}
+use Rattle.show.specs.Lines.{columnLine}
 use Rattle.block.specs.declared.Page.{Page}
 
 -- ---- a line

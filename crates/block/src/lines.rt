@@ -4,7 +4,7 @@ ghost use mathlib.Core.Bool.{true};
 ghost use mathlib.Core.Path.{_≡_};
 ghost use lib.ListN.{length, getD};
 ghost use Rattle.rules.specs.Layouts.{entriesOf, allowed};
-ghost use Rattle.show.specs.Lines.{Fills};
+ghost use Rattle.pieces.specs.Buffer.{Fills};
 ghost use Rattle.block.specs.Blocks.{endOf, textAt, columnLines, printed};
 use rules::FixRead;
 use rules::Layout;

@@ -16,7 +16,7 @@ use Rattle.rules.specs.declared.Layout.{Layout}
 use Rattle.rules.specs.declared.Flight.{Flight}
 use Rattle.rules.specs.declared.Checked.{Checked}
 use Rattle.rules.specs.declared.Outcome.the-variants.{Accepted, Refused}
-use Rattle.show.specs.Lines.{Shown}
+use Rattle.pieces.specs.Buffer.{Shown}
 use Rattle.pages.specs.Pages.{opened, firstLine, Begins}
 
 ok-first : (s : Said Flight) → outcome s ≡ says tt → firstLine s ≡ okText (valueOr noFlight s)

@@ -21,7 +21,7 @@ use Rattle.rules.specs.Listing.{okText, lineShown, fixesShown, listedAs, listin
 use Rattle.rules.specs.declared.Reason.the-variants.{BadValue, InputOver}
 use Rattle.rules.specs.declared.Layout.{Layout}
 use Rattle.rules.specs.declared.Flight.{Flight}
-use Rattle.show.proofs.Callers.{shown-text}
+use Rattle.pieces.proofs.Callers.{shown-text}
 use Rattle.trips.proofs.Laws.{need-inv, then-inv, refuses-says}
 use Rattle.laws.proofs.Splitting.{Whole, textsOf, line-at, none-left}
 use Rattle.laws.proofs.Counted.{lines-counted, entry-put, line-by-number}

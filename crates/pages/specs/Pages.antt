@@ -12,7 +12,7 @@ use Rattle.rules.specs.Files.{verdict, tableAfter}
 use Rattle.rules.specs.Listing.{refusedText, okText}
 use Rattle.rules.specs.declared.Reason.the-variants.{InputOver}
 use Rattle.rules.specs.declared.Flight.{Flight}
-use Rattle.show.specs.Lines.{Shown}
+use Rattle.pieces.specs.Buffer.{Shown}
 use Rattle.pages.specs.declared.Begun.{Begun}
 
 -- ---- the first line

@@ -1,6 +1,7 @@
 -- `show::column` meets its contract. Assumes nothing.
 use borrow.Author.Needs.{needs}
-use Rattle.show.proofs.Laws.{whole, column-room}
+use Rattle.pieces.proofs.Laws.{whole}
+use Rattle.show.proofs.Laws.{column-room}
 use Rattle.show.proofs.column.Statement.{statement}
 use Rattle.show.proofs.column.Tie as tie
 

@@ -4,7 +4,7 @@ use mathlib.Core.Path.{_≡_, refl}
 use borrow.Author.Needs.{needs}
 use lib.ListN.{length, take}
 use Rattle.rules.specs.Layouts.{entriesOf}
-use Rattle.show.specs.Lines.{Fills}
+use Rattle.pieces.specs.Buffer.{Fills}
 use Rattle.block.specs.Blocks.{columnLines}
 use Rattle.block.proofs.Laws.{no-columns, column-more, all-columns}
 use Rattle.block.proofs.lines.put_columns.Statement.{statement}

@@ -2,7 +2,7 @@
 use borrow.Author.Needs.{needs}
 use borrow.Author.Tests.{le-leb, lt-leb}
 use Rattle.show.specs.Lines.{columnLine}
-use Rattle.show.proofs.Laws.{nothing}
+use Rattle.pieces.proofs.Laws.{nothing}
 use Rattle.show.proofs.lines.put_column.Statement.{statement}
 use Rattle.show.proofs.lines.put_column.Tie as tie
 

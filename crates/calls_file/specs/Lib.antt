@@ -1,0 +1,3 @@
+-- What a call on a file answers.
+pub mod Values
+pub mod Calls
