@@ -7,19 +7,23 @@ use mathlib.Core.Path.{_≡_, refl, sym, ap, _∙_}
 use native.Mathlib.Omega.{arith}
 use lib.ListN.{length, getD, set, take, drop, replicate, length-take, length-drop, drop-of-length-le}
 use lib.Seq.{sets, drop-cons, getD-take}
-use Rattle.rules.specs.Choice.{part, byte}
-use Rattle.rules.specs.Fields.{timeTold}
+use Rattle.rules.specs.Choice.{given, on, part, byte}
+use Rattle.rules.specs.Fields.{timeAt, timeTold}
 use Rattle.rules.specs.Layouts.{unused, entriesOf}
 use Rattle.rules.specs.Lines.{fixFields}
 use Rattle.rules.specs.Reads.{fixTold}
+use Rattle.rules.specs.Refusals.{Said, breaks, time}
 use Rattle.rules.specs.declared.Entry.{Entry}
 use Rattle.rules.specs.declared.Fix.{Fix}
 use Rattle.rules.specs.declared.FixRead.{FixRead}
 use Rattle.rules.specs.declared.FixRead.the-variants as fixRead
 use Rattle.rules.specs.declared.Layout.{Layout}
 use Rattle.rules.specs.declared.Refusal.{Refusal}
+use Rattle.rules.specs.declared.Time.{Time}
 use Rattle.plain.specs.Plain.{isPlain, isMild, every}
 use Rattle.plain.proofs.Laws.{plain-is-mild}
+use Rattle.front.specs.Front.{isFront}
+use Rattle.front.proofs.There.{front-there}
 use Rattle.sure.specs.Sure.{ruleOf, keepsAs, patternOf, keepsPattern, timeOf}
 
 -- ---- the pattern of a layout
@@ -88,3 +92,18 @@ time-is l r f e g = rw (← e, g)
 pub time-not : (l : List ℕ) (r : FixRead) (w : Refusal) → fixTold r ≡ fixFields l → r ≡ fixRead.Refused w → none ≡ timeOf (fixFields l)
 unfolding fixTold
 time-not l r w e g = rw (← e, g)
+
+-- ---- a line with a good front is read where its time is
+
+timed : (o : Option ℕ) (f : ℕ → Said Fix) → ((t : ℕ) → timeOf (f t) ≡ some t) → timeOf (given o (breaks time 2) f) ≡ o
+timed none f e = refl
+timed (some t) f e = e t
+
+front-time : (l : List ℕ) → isFront l ≡ true → timeOf (fixFields l) ≡ timeAt l 1
+unfolding fixFields on
+front-time l e =
+    let p = front-there l e in
+    timed (timeAt l 1) _ (λ t. rw (p .lat .read, p .lon .read, p .valid, p .pressure .read, p .gnss .read))
+
+pub quick-time : (l : List ℕ) (t : Bool) (r : Time) → t ≡ isFront l → t ≡ true → timeTold r ≡ timeAt l 1 → timeTold r ≡ timeOf (fixFields l)
+quick-time l t r e h q = q ∙ sym (front-time l (sym e ∙ h))

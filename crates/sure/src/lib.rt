@@ -5,9 +5,10 @@ ghost use lib.ListN.{drop};
 ghost use Rattle.rules.specs.Choice.{byte};
 ghost use Rattle.rules.specs.Fields.{timeTold};
 ghost use Rattle.rules.specs.Layouts.{firstStart};
+ghost use Rattle.rules.specs.Lines.{fixFields};
 ghost use Rattle.rules.specs.Listed.{isDigits};
 ghost use Rattle.plain.specs.Plain.{isMild, every};
-ghost use Rattle.sure.specs.Sure.{ruleOf, keepsAs, keepsPattern, fieldsTime, PatternGiven, SureTold};
+ghost use Rattle.sure.specs.Sure.{ruleOf, keepsAs, keepsPattern, timeOf, fieldsTime, PatternGiven, SureTold};
 use rules::Family;
 use rules::FixRead;
 use rules::Layout;
@@ -85,15 +86,25 @@ fn is_clean(line: &[u8]) -> bool
     plain::is_mild(line)
 }
 
+// The time of a B line whose fields before its columns keep their rules. Where its bytes tell that the other fields do, none of them is read.
+fn fix_time(line: &[u8]) -> Time
+    ensures { λ r. ⌜ timeTold r ≡ timeOf (fixFields (now (line .entry))) ⌝ }
+{
+    if front::is_front(line) {
+        return field::time_at(line, 1);
+    }
+    match fix::fix_fields(line) {
+        FixRead::Is(f) => Time::Secs(f.time),
+        FixRead::Refused(_) => Time::NoTime,
+    }
+}
+
 // The time of a line whose fields before its columns keep their rules.
 fn fields_time(family: Family, line: &[u8]) -> Time
     ensures { λ r. ⌜ timeTold r ≡ fieldsTime family (now (line .entry)) ⌝ }
 {
     match family {
-        Family::B => match fix::fix_fields(line) {
-            FixRead::Is(f) => Time::Secs(f.time),
-            FixRead::Refused(_) => Time::NoTime,
-        },
+        Family::B => fix_time(line),
         Family::K => field::time_at(line, 1),
     }
 }
