@@ -1,8 +1,8 @@
 // A quick test of the fields of a B line before its columns, by bounds for each byte: a line that passes it has its position, its validity and both its altitudes.
 ghost use mathlib.Core.Path.{_≡_};
 ghost use mathlib.Core.Bool.{_&&_};
-ghost use lib.ListN.{drop};
-ghost use Rattle.front.specs.Front.{isWithin, between, lows, isBounded, FrontTest};
+ghost use lib.ListN.{length, drop};
+ghost use Rattle.front.specs.Front.{isWithin, between, isBounded, FrontTest};
 
 // The least that the bytes at the offsets 3 to 34 may be: minutes and seconds of the time, latitude, longitude, validity and two altitudes.
 const LOW: [u8; 32] = *b"00000000000N00000000EA0000000000";
@@ -26,9 +26,11 @@ fn still(ok: bool, low: u8, high: u8, b: u8) -> bool
     b <= high
 }
 
-// Whether each byte at the offsets 3 to 34 is there and within its bounds. It has no way out before the last one, so that the compiler takes many bytes at a time.
-fn is_between(line: &[u8], high: [u8; 32]) -> bool
-    ensures { λ r. ⌜ r ≡ between lows high (drop 3 (now (line .entry))) ⌝ }
+// Whether each byte at the offsets 3 to 34 is there and within its bounds. It has no way out before the last one, so that the compiler takes many bytes at a time; the
+// bounds are lent, since a constant that is named in a loop is made anew at each turn.
+fn is_between(line: &[u8], low: &[u8], high: &[u8]) -> bool
+    requires { ⌜ (length (now low) ≡ 32) × (length (now high) ≡ 32) ⌝ }
+    ensures { λ r. ⌜ r ≡ between (now (low .entry)) (now (high .entry)) (drop 3 (now (line .entry))) ⌝ }
 {
     if line.len() < 35 {
         return false;
@@ -36,7 +38,7 @@ fn is_between(line: &[u8], high: [u8; 32]) -> bool
     let mut ok = true;
     let mut i = 0;
     while i < 32 {
-        ok = still(ok, LOW[i], high[i], line[3 + i]);
+        ok = still(ok, low[i], high[i], line[3 + i]);
         i += 1;
     }
     ok
@@ -46,10 +48,13 @@ fn is_between(line: &[u8], high: [u8; 32]) -> bool
 fn is_bounded(line: &[u8]) -> bool
     ensures { λ r. ⌜ r ≡ isBounded (now (line .entry)) ⌝ }
 {
-    if is_between(line, HIGH) {
+    let low = LOW;
+    let high = HIGH;
+    if is_between(line, &low, &high) {
         return true;
     }
-    is_between(line, NEAR)
+    let near = NEAR;
+    is_between(line, &low, &near)
 }
 
 // Whether each byte is within its bounds, and the three letters are right.

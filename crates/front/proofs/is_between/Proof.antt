@@ -5,31 +5,28 @@ use mathlib.Core.Path.{_≡_, refl}
 use native.Mathlib.Omega.{arith}
 use borrow.Author.Needs.{needs}
 use lib.ListN.{drop, length-drop}
-use Rattle.rules.specs.Choice.{bytes}
-use Rattle.front.specs.Front.{between, lows}
+use Rattle.front.specs.Front.{between}
 use Rattle.front.proofs.Laws.{between-short, between-step, between-end}
 use Rattle.front.proofs.is_between.Statement.{statement}
 use Rattle.front.proofs.is_between.Tie as tie
 
 abbrev Inv-loop : tie.InvT-loop
-Inv-loop line high ok₀ i₀ ok i = (ok && between (drop i lows) (drop i high) (drop (3 + i) line)) ≡ between lows high (drop 3 line)
+Inv-loop line low high ok₀ i₀ ok i = (ok && between (drop i low) (drop i high) (drop (3 + i) line)) ≡ between low high (drop 3 line)
 
 abbrev μ-loop : tie.MeasureT-loop
-μ-loop line high ok₀ i₀ ok i = 32 - i
+μ-loop line low high ok₀ i₀ ok i = 32 - i
 
 returns : tie.Need-returns Inv-loop μ-loop
-unfolding bytes
-returns c = between-short lows _ _ (simp length-drop (omega arith))
+returns c = between-short _ _ _ (simp length-drop (omega (arith, c .before .before .before .before .pre .0)))
 
 loop-again : tie.Need-loop-again Inv-loop μ-loop
-unfolding bytes
 loop-again c =
-    let l = c .before .before .before .loop in
-    between-step lows _ _ 3 (l .i) (l .ok) _ (l .inv) _ (search needs) (search needs) (search needs) (c .still .ensures)
+    let l = c .before .before .before .before .before .loop in
+    let pre = c .before .before .before .before .before .before .before .before .before .before .pre in
+    between-step _ _ _ 3 (l .i) (l .ok) _ (l .inv) _ (omega (arith, pre .0)) (omega (arith, pre .1)) (search needs) (c .still .ensures)
 
 returns-2 : tie.Need-returns-2 Inv-loop μ-loop
-unfolding bytes
-returns-2 c = between-end lows _ _ 3 (c .before .loop .i) _ _ (c .before .loop .inv) (search needs)
+returns-2 c = between-end _ _ _ 3 (c .before .loop .i) _ _ (c .before .loop .inv) (omega (arith, c .before .before .before .before .before .before .pre .0))
 
 pub is-between-spec : {M : Type 1} → statement M
 is-between-spec =

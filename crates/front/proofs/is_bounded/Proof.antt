@@ -12,7 +12,17 @@ returns c = or-true _ _ (told-true _ _ (c .before .is-between .ensures) (c .if1 
 
 returns-2 : tie.Need-returns-2
 unfolding isBounded bytes
-returns-2 c = or-false _ _ _ (told-false _ _ (c .before .before .is-between .ensures) (c .before .if1 .left)) (c .is-between2 .ensures)
+returns-2 c = or-false _ _ _ (told-false _ _ (c .before .before .before .before .is-between .ensures) (c .before .before .before .if1 .left)) (c .is-between2 .ensures)
 
 pub is-bounded-spec : {M : Type 1} → statement M
-is-bounded-spec = tie.close (tie.spec (λ c κs. search needs) returns (λ c κs. search needs) returns-2)
+is-bounded-spec =
+    tie.close
+    (tie.spec
+    (λ c. search needs)
+    (λ c. search needs)
+    (λ c κs. search needs)
+    returns
+    (λ c. search needs)
+    (λ c. search needs)
+    (λ c κs. search needs)
+    returns-2)
