@@ -16,8 +16,7 @@ use Rattle.rules.specs.declared.Refusal.{Refusal}
 use Rattle.answers.specs.Answers.{size, AnswerGiven, accepting, refusing, inNumbers, outcomeNumbers}
 use Rattle.answers.specs.declared.Numbers.{Numbers}
 use Rattle.answers.proofs.Laws.{no-room, same-numbers}
-use Rattle.calls_file.specs.Values.{flightNumbers, checkedNumbers}
-use Rattle.calls_file.specs.Calls.{CheckAnswered}
+use Rattle.calls_file.specs.Calls.{flightNumbers, checkedNumbers, CheckAnswered}
 
 -- ---- an outcome, with its values beside it
 

@@ -1,3 +1,3 @@
--- Laws of the check's answer in numbers; and that each promise has one answer.
+-- Laws of the check's answer in numbers; and that the promise has one answer.
 mod Laws
 mod Only

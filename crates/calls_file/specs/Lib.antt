@@ -1,3 +1,2 @@
--- What a call on a file answers.
-pub mod Values
+-- What the check of a file answers.
 pub mod Calls

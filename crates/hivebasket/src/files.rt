@@ -1,5 +1,6 @@
 // A file: its check, a line by its number, a reading place over its lines.
-ghost use Rattle.calls_file.specs.Calls.{CheckAnswered, LineAnswered, StepAnswered};
+ghost use Rattle.calls_file.specs.Calls.{CheckAnswered};
+ghost use Rattle.calls_place.specs.Calls.{LineAnswered, StepAnswered};
 
 // The check of a whole file, with the table of its lines' offsets.
 #[no_mangle]
@@ -14,7 +15,7 @@ pub extern "C" fn hive_check(file: &[u8], table: &mut [u32], answer: &mut [u64])
 pub extern "C" fn hive_line(file: &[u8], table: &[u32], number: usize, answer: &mut [u64]) -> u32
     ensures { λ r. ⌜ LineAnswered (now (file .entry)) (now (table .entry)) number (now (answer .entry)) r (now (answer .exit)) ⌝ }
 {
-    calls_file::line(file, table, number, answer)
+    calls_place::line(file, table, number, answer)
 }
 
 // The line at a reading place, and the place after it.
@@ -22,5 +23,5 @@ pub extern "C" fn hive_line(file: &[u8], table: &[u32], number: usize, answer: &
 pub extern "C" fn hive_step(file: &[u8], place: usize, answer: &mut [u64]) -> u32
     ensures { λ r. ⌜ StepAnswered (now (file .entry)) place (now (answer .entry)) r (now (answer .exit)) ⌝ }
 {
-    calls_file::step(file, place, answer)
+    calls_place::step(file, place, answer)
 }

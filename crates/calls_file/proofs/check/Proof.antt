@@ -14,4 +14,4 @@ check-spec =
     (λ c κs. search needs)
     (λ c. search needs)
     (λ c. search needs)
-    (λ c. check-room _ _ _ _ _ _ _ _ (c .before .before .before .before .before .before .before .before .before .if1 .left) (c .before .before .before .before .before .before .before .check .ensures) (c .before .before .before .checked .ensures) (c .before .before .give .ensures)))
+    (λ c. check-room _ _ _ _ _ _ _ _ (c .before .before .before .before .before .before .before .before .before .if1 .left) (c .before .before .before .before .before .before .before .check .ensures) (c .before .before .before .numbers .ensures) (c .before .before .give .ensures)))

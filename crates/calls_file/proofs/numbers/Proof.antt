@@ -1,13 +1,13 @@
--- `values::checked` meets its contract. Assumes nothing.
+-- `numbers` meets its contract. Assumes nothing.
 use borrow.Author.Needs.{needs}
-use Rattle.calls_file.specs.Values.{checkedNumbers}
+use Rattle.calls_file.specs.Calls.{checkedNumbers}
 use Rattle.calls_file.proofs.Laws.{outcome-good, outcome-bad}
-use Rattle.calls_file.proofs.values.checked.Statement.{statement}
-use Rattle.calls_file.proofs.values.checked.Tie as tie
+use Rattle.calls_file.proofs.numbers.Statement.{statement}
+use Rattle.calls_file.proofs.numbers.Tie as tie
 
-pub checked-spec : {M : Type 1} → statement M
+pub numbers-spec : {M : Type 1} → statement M
 unfolding checkedNumbers
-checked-spec =
+numbers-spec =
     tie.close
     (tie.spec
     (λ c. search needs)

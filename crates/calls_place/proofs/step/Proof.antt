@@ -1,8 +1,8 @@
 -- `step` meets its contract. Assumes nothing.
 use borrow.Author.Needs.{needs}
 use Rattle.answers.proofs.Laws.{given-said}
-use Rattle.calls_file.proofs.step.Statement.{statement}
-use Rattle.calls_file.proofs.step.Tie as tie
+use Rattle.calls_place.proofs.step.Statement.{statement}
+use Rattle.calls_place.proofs.step.Tie as tie
 
 pub step-spec : {M : Type 1} → statement M
 step-spec =

@@ -1,7 +1,7 @@
--- `values::flight` meets its contract. Assumes nothing.
+-- `flight` meets its contract. Assumes nothing.
 use borrow.Author.Needs.{needs}
-use Rattle.calls_file.proofs.values.flight.Statement.{statement}
-use Rattle.calls_file.proofs.values.flight.Tie as tie
+use Rattle.calls_file.proofs.flight.Statement.{statement}
+use Rattle.calls_file.proofs.flight.Tie as tie
 
 pub flight-spec : {M : Type 1} → statement M
 flight-spec =

@@ -1,8 +1,8 @@
 -- `values::step` meets its contract. Assumes nothing.
 use borrow.Author.Needs.{needs}
 use Rattle.cut.specs.Steps.{stepTold}
-use Rattle.calls_file.proofs.values.step.Statement.{statement}
-use Rattle.calls_file.proofs.values.step.Tie as tie
+use Rattle.calls_place.proofs.values.step.Statement.{statement}
+use Rattle.calls_place.proofs.values.step.Tie as tie
 
 pub step-spec : {M : Type 1} → statement M
 unfolding stepTold

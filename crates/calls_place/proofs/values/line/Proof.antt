@@ -1,8 +1,8 @@
 -- `values::line` meets its contract. Assumes nothing.
 use borrow.Author.Needs.{needs}
 use Rattle.rules.specs.Split.{lineTold}
-use Rattle.calls_file.proofs.values.line.Statement.{statement}
-use Rattle.calls_file.proofs.values.line.Tie as tie
+use Rattle.calls_place.proofs.values.line.Statement.{statement}
+use Rattle.calls_place.proofs.values.line.Tie as tie
 
 pub line-spec : {M : Type 1} → statement M
 unfolding lineTold

@@ -1,8 +1,8 @@
 -- `line` meets its contract. Assumes nothing.
 use borrow.Author.Needs.{needs}
 use Rattle.answers.proofs.Laws.{given-said}
-use Rattle.calls_file.proofs.line.Statement.{statement}
-use Rattle.calls_file.proofs.line.Tie as tie
+use Rattle.calls_place.proofs.line.Statement.{statement}
+use Rattle.calls_place.proofs.line.Tie as tie
 
 pub line-spec : {M : Type 1} → statement M
 line-spec =
