@@ -16,4 +16,8 @@ struct answer {
 /* Checks a file; the table gets the offset of each good line, and its other entries stay. */
 struct answer check(const uint8_t *file, size_t length, uint32_t *table, size_t entries);
 
+/* The same, with the lines that are surely good taken in runs: in the shape that the library's own check has, and as fast as we can in C. */
+struct answer ahead(const uint8_t *file, size_t length, uint32_t *table, size_t entries);
+struct answer rival(const uint8_t *file, size_t length, uint32_t *table, size_t entries);
+
 #endif

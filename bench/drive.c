@@ -1,6 +1,8 @@
-/* Measures the library's check against the one written by hand in C, on the same files, one after the other in one run:
-       drive [REPETITIONS]
-   Prints bytes per second of each, their ratio, how the time of a byte grows with the size, and what a line's readers take. Ends with status 1 where the two give different answers. */
+/* Measures the library's check against those that are written by hand in C, on the same files, one after the other in one process:
+       drive [REPETITIONS]        prints the table of speeds and ratios, how the time of a byte grows with the size, and what a line's readers take
+       drive once NUMBER          each check once, on 1 MiB of the flight of that number alone, where instructions are counted
+       drive write FIXES          writes a flight with so many fixes to standard output, for the programs
+   Ends with status 1 where two of the checks give different answers or tables. */
 #define _POSIX_C_SOURCE 200809L
 #include <cpuid.h>
 #include <stdio.h>
@@ -9,9 +11,17 @@
 #include <time.h>
 
 #include "check.h"
+#include "flights.h"
 #include "hivebasket.h"
 
-enum { MIB = 1024 * 1024, MOST_REPETITIONS = 101 };
+enum { MIB = 1024 * 1024, MOST_REPETITIONS = 101, CHECKS = 4 };
+
+/* The checks in the order in which they take turns: the library's, in one pass by hand, in the library's shape by hand, and the rival. */
+enum { LIBRARY, CHECK, AHEAD, RIVAL };
+
+static const char *const names[CHECKS] = {"library", "check.c", "ahead.c", "rival.c"};
+
+static struct answer (*const by_hand[CHECKS])(const uint8_t *, size_t, uint32_t *, size_t) = {NULL, check, ahead, rival};
 
 /* The processor time of this program, so that other programs disturb little. */
 static double now(void)
@@ -21,52 +31,36 @@ static double now(void)
     return t.tv_sec + t.tv_nsec / 1e9;
 }
 
-/* The columns of three bytes, two and three that a file has: the usual ones, which stand first among the listed codes; the last ones listed; and unlisted ones. */
-static const char *const usual = "I033638FXA3940SIU4143ENL", *const late = "I033638DAN3940LOD4143DAE", *const unlisted = "I033638ZZA3940ZZB4143ZZC";
-
-/* A flight with a fix each second and these columns, of nearly `size` bytes; returns its length. */
-static size_t make_file(uint8_t *file, size_t size, const char *columns)
+static void *room(size_t size)
 {
-    static const char end[] = "G0123456789ABCDEF\r\n";
-    size_t at = sprintf((char *)file, "AXYZ001\r\nHFDTE150724\r\n%s\r\n", columns);
-    uint32_t random = 1;
-    for (unsigned second = 36000; at + 45 + strlen(end) <= size; second = (second + 1) % 86400) {
-        char line[64];
-        random = random * 1664525u + 1013904223u;
-        unsigned r = random >> 8;
-        int length = snprintf(line, sizeof line, "B%02u%02u%02u%02u%05u%c%03u%05u%c%c%05u%05u%03u%02u%03u\r\n", second / 3600, second / 60 % 60,
-                              second % 60, r % 90, r % 60000, "NS"[r & 1], r % 180, r / 7 % 60000, "EW"[r >> 1 & 1], r % 50 ? 'A' : 'V', r % 9000,
-                              r / 3 % 9000, r % 1000, r % 100, r / 5 % 1000);
-        memcpy(file + at, line, length);
-        at += length;
-    }
-    memcpy(file + at, end, strlen(end));
-    return at + strlen(end);
+    void *memory = malloc(size);
+    if (!memory)
+        exit(2);
+    return memory;
 }
 
-/* One check timed, of the library or by hand; its answer in the same terms. */
-static double timed(int by_hand, const uint8_t *file, size_t length, uint32_t *table, size_t entries, uint64_t *said)
+/* A check's answer in the library's terms: the number, then the answer. */
+struct said {
+    uint64_t number, answer[HIVE_ANSWER];
+};
+
+static struct said told(struct answer a)
 {
-    uint64_t answer[HIVE_ANSWER];
-    double began = now();
-    if (by_hand) {
-        struct answer a = check(file, length, table, entries);
-        double took = now() - began;
-        uint64_t told[] = {a.number, a.line, a.byte, a.day, a.month, a.year, a.lines, a.b_lines, a.k_lines, a.b_length, a.k_length, 0, 0};
-        memcpy(said, told, sizeof told);
-        return took;
+    return (struct said){a.number, {a.line, a.byte, a.day, a.month, a.year, a.lines, a.b_lines, a.k_lines, a.b_length, a.k_length}};
+}
+
+/* One check timed. */
+static double timed(int which, const uint8_t *file, size_t length, uint32_t *table, size_t entries, struct said *said)
+{
+    double began = now(), took;
+    if (which == LIBRARY) {
+        said->number = hive_check(file, length, table, entries, said->answer, HIVE_ANSWER);
+        return now() - began;
     }
-    uint32_t number = hive_check(file, length, table, entries, answer, HIVE_ANSWER);
-    double took = now() - began;
-    said[0] = number;
-    memcpy(said + 1, answer, sizeof answer);
+    struct answer answer = by_hand[which](file, length, table, entries);
+    took = now() - began;
+    *said = told(answer);
     return took;
-}
-
-static int by_size(const void *a, const void *b)
-{
-    double x = *(const double *)a, y = *(const double *)b;
-    return (x > y) - (x < y);
 }
 
 /* Whether a check runs on an emulated processor, as far as that can be told: QEMU's own emulation names itself. */
@@ -84,43 +78,83 @@ static int is_emulated(void)
     return strcmp(name, "TCGTCGTCGTCG") == 0;
 }
 
+/* What the checks took for a byte, the shortest of the runs. */
 struct measured {
-    double library, by_hand;
+    double each[CHECKS];
 };
 
-/* Both checks on a file of nearly `size` bytes, each as often as is said, in turn; the shortest as seconds for a byte. */
-static struct measured measure(size_t size, const char *columns, int repetitions)
+/* The file's answer as it must be: accepted, or the damaged line refused where its latitude stands. */
+static int is_expected(const struct said *said, const struct flight *flight, size_t lines)
 {
-    uint8_t *file = malloc(size);
-    size_t entries = size / 40;
-    uint32_t *tables[2] = {calloc(entries, sizeof(uint32_t)), calloc(entries, sizeof(uint32_t))};
-    static double took[2][MOST_REPETITIONS];
-    uint64_t said[2][1 + HIVE_ANSWER];
-    if (!file || !tables[0] || !tables[1])
-        exit(2);
-    size_t length = make_file(file, size, columns);
+    if (flight->is_damaged)
+        return said->number == HIVE_FORM && said->answer[HIVE_REFUSED_LINE] == lines - 1 && said->answer[HIVE_REFUSED_BYTE] == 8;
+    return said->number == 0 && said->answer[HIVE_LINES] == lines;
+}
+
+/* Each check on a file, each as often as is said, in turn. The tables hold other numbers before, so that what is not to be written shows. */
+static struct measured run_checks(const uint8_t *file, size_t length, const struct flight *flight, size_t lines, int repetitions)
+{
+    struct measured least;
+    struct said said[CHECKS];
+    uint32_t *tables[CHECKS];
+    size_t entries = lines + 8, bytes = entries * sizeof(uint32_t);
+    for (int which = 0; which < CHECKS; which++)
+        tables[which] = memset(room(bytes), 0xA5, bytes);
     for (int n = 0; n < repetitions; n++)
-        for (int by_hand = 0; by_hand < 2; by_hand++)
-            took[by_hand][n] = timed(by_hand, file, length, tables[by_hand], entries, said[by_hand]);
-    if (said[0][0] != 0 || memcmp(said[0], said[1], sizeof said[0]) != 0 || memcmp(tables[0], tables[1], entries * sizeof(uint32_t)) != 0) {
-        printf("bench: FAILED: the two checks answer differently, or refuse\n");
-        exit(1);
-    }
-    for (int by_hand = 0; by_hand < 2; by_hand++)
-        qsort(took[by_hand], repetitions, sizeof(double), by_size);
-    double ours = took[0][0], theirs = took[1][0], middle = took[0][repetitions / 2] / took[1][repetitions / 2];
-    printf("%5.1f MiB, %6llu lines, %s: library %6.1f MB/s, by hand in C %6.1f MB/s, ratio %.2f (of the medians %.2f)\n", length / (double)MIB,
-           (unsigned long long)said[0][6], columns, length / ours / 1e6, length / theirs / 1e6, ours / theirs, middle);
+        for (int which = 0; which < CHECKS; which++) {
+            double took = timed(which, file, length, tables[which], entries, &said[which]) / length;
+            if (n == 0 || took < least.each[which])
+                least.each[which] = took;
+        }
+    for (int which = 0; which < CHECKS; which++)
+        if (!is_expected(&said[which], flight, lines) || memcmp(&said[0], &said[which], sizeof said[0]) != 0 || memcmp(tables[0], tables[which], bytes) != 0) {
+            printf("bench: FAILED: %s: answers or tables differ, or are not as the file was made\n", flight->name);
+            exit(1);
+        }
+    for (int which = 0; which < CHECKS; which++)
+        free(tables[which]);
+    return least;
+}
+
+/* A line of the table: the flight, what each check does in a second, and the library's time over that of each in C. */
+static struct measured measure(size_t size, const struct flight *flight, int repetitions)
+{
+    uint8_t *file = room(size);
+    size_t length = make_flight(file, size, flight), lines = 0;
+    for (size_t n = 0; n < length; n++)
+        lines += file[n] == '\n';
+    struct measured took = run_checks(file, length, flight, lines, repetitions);
+    printf("%-38s%4zu%8zu |", flight->name, size / MIB, lines);
+    for (int which = 0; which < CHECKS; which++)
+        printf("%9.0f", 1e-6 / took.each[which]);
+    printf(" |");
+    for (int which = CHECK; which < CHECKS; which++)
+        printf("%9.2f", took.each[LIBRARY] / took.each[which]);
+    printf("\n");
+    fflush(stdout);
     free(file);
-    free(tables[0]);
-    free(tables[1]);
-    return (struct measured){ours / length, theirs / length};
+    return took;
+}
+
+static void measure_checks(int repetitions)
+{
+    printf("%-50s | %35s | %26s\n", "the check of a file", "MB/s", "time of the library over");
+    printf("%-38s%4s%8s |%9s%9s%9s%9s |%9s%9s%9s\n", "", "MiB", "lines", "library", "check.c", "ahead.c", "rival.c", "check.c", "ahead.c", "rival.c");
+    struct measured one = measure(1 * MIB, &flights[0], repetitions);
+    measure(4 * MIB, &flights[0], repetitions);
+    struct measured sixteen = measure(16 * MIB, &flights[0], repetitions);
+    for (int n = 1; n < FLIGHTS; n++)
+        measure(4 * MIB, &flights[n], repetitions);
+    printf("all gave the same answer and the same table for each file\ntime of a byte at 16 MiB over that at 1 MiB:");
+    for (int which = 0; which < CHECKS; which++)
+        printf(" %s %.2f%s", names[which], sixteen.each[which] / one.each[which], which == RIVAL ? "\n" : ",");
 }
 
 /* One fix, one column and one column's number, each asked of the same B line; nanoseconds for a call. */
 static void measure_readers(void)
 {
     static const char line[] = "B1200005130000N00015000WA001000012001208123";
+    const char *usual = flights[0].fixes;
     const uint8_t *text = (const uint8_t *)line, *layout = (const uint8_t *)usual;
     enum { CALLS = 200000 };
     uint64_t answer[HIVE_ANSWER];
@@ -145,20 +179,30 @@ static void measure_readers(void)
            (columns - fixes) / CALLS * 1e9, (numbers - columns) / CALLS * 1e9);
 }
 
+static int write_fixes(size_t fixes)
+{
+    size_t size = 1024 + 64 * fixes;
+    uint8_t *file = room(size);
+    size_t length = make_fixes(file, size, fixes);
+    int is_written = fwrite(file, 1, length, stdout) == length && fflush(stdout) == 0;
+    free(file);
+    return is_written ? 0 : 2;
+}
+
 int main(int count, char **words)
 {
+    if (count == 3 && strcmp(words[1], "write") == 0)
+        return write_fixes(strtoul(words[2], NULL, 10));
+    if (count == 3 && strcmp(words[1], "once") == 0) {
+        measure(1 * MIB, &flights[strtoul(words[2], NULL, 10) % FLIGHTS], 1);
+        return 0;
+    }
     int repetitions = count > 1 ? atoi(words[1]) : 15;
     if (repetitions < 1 || repetitions > MOST_REPETITIONS)
         return 2;
     if (is_emulated())
         printf("bench: the processor is emulated: the figures say little\n");
-    struct measured one = measure(1 * MIB, usual, repetitions);
-    measure(4 * MIB, usual, repetitions);
-    struct measured sixteen = measure(16 * MIB, usual, repetitions);
-    measure(4 * MIB, late, repetitions);
-    measure(4 * MIB, unlisted, repetitions);
-    printf("both gave the same answer and the same table for each file\n");
-    printf("time of a byte at 16 MiB over that at 1 MiB: library %.2f, by hand %.2f\n", sixteen.library / one.library, sixteen.by_hand / one.by_hand);
+    measure_checks(repetitions);
     measure_readers();
     return 0;
 }

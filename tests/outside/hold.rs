@@ -56,7 +56,7 @@ fn head_values(h: &Head) -> [u64; 9] {
     [d, m, y, h.time.into(), fd, fm, fy, h.task.into(), h.turns.into()]
 }
 
-/// The check with a table of so many entries, and every entry afterwards. The check in C that the library is measured against is held too.
+/// The check with a table of so many entries, and every entry afterwards. The checks in C that the library is measured against are held too.
 pub fn check(tally: &mut Tally, file: &[u8], entries: usize) -> Held<(Answer<reading::Accepted>, Vec<u32>)> {
     let lent: Vec<u32> = (0..entries as u32).map(|n| 0xDEAD_0000 ^ n).collect();
     let mut theirs = lent.clone();
@@ -66,8 +66,12 @@ pub fn check(tally: &mut Tally, file: &[u8], entries: usize) -> Held<(Answer<rea
         let lengths = [a.fixes.length(B_START) as u64, a.notes.length(K_START) as u64];
         [d, m, y, a.lines, a.b_lines, a.k_lines, lengths[0], lengths[1]]
     };
-    let checks: [(&str, fn(&[u8], &mut [u32]) -> Told); 2] =
-        [("hive_check", library::check_file), ("bench/check.c", library::check_by_hand)];
+    let checks: [(&str, fn(&[u8], &mut [u32]) -> Told); 4] = [
+        ("hive_check", library::check_file),
+        ("bench/check.c", library::check_by_hand),
+        ("bench/ahead.c", library::check_ahead),
+        ("bench/rival.c", library::check_of_rival),
+    ];
     for (name, check) in checks {
         let mut ours = lent.clone();
         let raw = check(file, &mut ours);

@@ -107,7 +107,7 @@ mod c {
     }
 }
 
-/// The answer of the check in C that the library is measured against (bench/check.h).
+/// The answer of the checks in C that the library is measured against (bench/check.h).
 #[repr(C)]
 struct ByHand {
     number: u32,
@@ -117,16 +117,29 @@ struct ByHand {
 
 unsafe extern "C" {
     fn check(file: *const u8, length: usize, table: *mut u32, entries: usize) -> ByHand;
+    fn ahead(file: *const u8, length: usize, table: *mut u32, entries: usize) -> ByHand;
+    fn rival(file: *const u8, length: usize, table: *mut u32, entries: usize) -> ByHand;
 }
 
-/// The check in C, told as the library tells its own.
-pub fn check_by_hand(file: &[u8], table: &mut [u32]) -> Told {
-    let said = unsafe { check(file.as_ptr(), file.len(), table.as_mut_ptr(), table.len()) };
+/// A check in C, told as the library tells its own.
+fn by_hand(said: ByHand) -> Told {
     let mut answer = [0; ANSWER];
     for (n, value) in said.place.into_iter().chain(said.values).enumerate() {
         answer[n] = value.into();
     }
     Told { number: said.number, answer }
+}
+
+pub fn check_by_hand(file: &[u8], table: &mut [u32]) -> Told {
+    by_hand(unsafe { check(file.as_ptr(), file.len(), table.as_mut_ptr(), table.len()) })
+}
+
+pub fn check_ahead(file: &[u8], table: &mut [u32]) -> Told {
+    by_hand(unsafe { ahead(file.as_ptr(), file.len(), table.as_mut_ptr(), table.len()) })
+}
+
+pub fn check_of_rival(file: &[u8], table: &mut [u32]) -> Told {
+    by_hand(unsafe { rival(file.as_ptr(), file.len(), table.as_mut_ptr(), table.len()) })
 }
 
 /// One call with an answer lent to it.

@@ -43,7 +43,7 @@ pub fn text_of(line: &[u8], first: u8, last: u8) -> &[u8]
 fn keeps(line: &[u8], e: Entry) -> bool
     ensures { λ r. ⌜ r ≡ keepsRule (e .code) (columnText (now (line .entry)) (spanOf e)) ⌝ }
 {
-    layout::keeps_rule(e.code, text_of(line, e.first, e.last))
+    listed::keeps_rule(e.code, text_of(line, e.first, e.last))
 }
 
 // COLUMN at the first byte of the first listed column that breaks its rule.

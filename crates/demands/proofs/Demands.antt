@@ -1,7 +1,7 @@
 -- Demand 2, what is claimed. Each claim is a line from the room that proves it; its words stand in specs/ (Grammar, Faults, Readings, BothWays), the definitions that
 -- it is about in the rules. Assumes nothing.
 --
--- How these definitions are the library's answers: `file::check` answers `verdict file (length table)` and leaves `tableAfter file table` (promise FileChecked); `file::bounds`
+-- How these definitions are the library's answers: `file::check` answers `verdict file (length table)` and leaves `tableAfter file table` (promise FileChecked); `cut::bounds`
 -- answers `boundsOf` (LineGiven), `Cursor::step` answers `stepAt` (LineStepped), the readers in `read` answer `fixSaid`, `columnSaid` and so on (FixGiven ..); the writers in
 -- `write` keep `Written` (FixWritten ..), from which `BothWays` tells what they write (proofs/Promised). By the laws `only-..` of crate laws, nothing else would keep these promises.
 use Prim.Native.Nat.{ℕ, _≤_}

@@ -1,6 +1,4 @@
--- What the proofs share, that each promise has one answer, and that the text shown is the one that was judged.
-pub mod Places
+-- What the proofs share, that an explanation has room, and that each promise has one answer.
 pub mod Pieces
 pub mod Room
 pub mod Only
-pub mod Judged

@@ -1,14 +1,10 @@
 -- For each promise of this crate: two answers that meet it are the same, and so is the buffer afterwards. Assumes nothing.
 use Prim.Native.Nat.{ℕ}
 use mathlib.Core.List.{List}
-use mathlib.Core.Path.{_≡_, sym, _∙_}
+use mathlib.Core.Path.{_≡_}
 use Rattle.rules.specs.declared.Refusal.{Refusal}
-use Rattle.show.proofs.Only.{only-shown}
-use Rattle.explain.specs.Faulty.{LineTextGiven}
+use Rattle.pieces.proofs.Only.{only-shown}
 use Rattle.explain.specs.Explanation.{RefusalExplained}
-
-pub only-line-text : (file : List ℕ) (n : ℕ) (r r′ : List ℕ) → LineTextGiven file n r → LineTextGiven file n r′ → r ≡ r′
-only-line-text file n r r′ e e′ = e ∙ sym e′
 
 pub only-refusal-explained : (file : List ℕ) (why : Refusal) (out : List ℕ) (r r′ : ℕ) (after after′ : List ℕ)
     → RefusalExplained file why out r after → RefusalExplained file why out r′ after′ → (r ≡ r′) × (after ≡ after′)

@@ -1,44 +1,19 @@
 -- What a person reads of a refusal, by document 01's table of 'Refusal numbers': a line with its number and name, the line and the byte, and when the number is given;
 -- the text of that line; a caret under the byte.
-use Prim.Native.Nat.{ℕ, _+_, _-_}
+use Prim.Native.Nat.{ℕ, _+_}
 use Prim.Native.Char.{code}
-use mathlib.Core.Bool.{_&&_, cond}
-use mathlib.Core.List.{List, [], _∷_, _++_, map}
-use lib.Dec.{eqb, leb}
-use lib.ListN.{length, take, drop, replicate}
+use mathlib.Core.Bool.{cond}
+use mathlib.Core.List.{List, [], _∷_, _++_}
+use lib.Dec.{eqb}
+use Rattle.pieces.specs.Buffer.{Shown}
+use Rattle.quote.specs.Quote.{before, quote}
+use Rattle.refusals.specs.Table.{name, meaning}
 use Rattle.rules.specs.Choice.{bytes}
 use Rattle.rules.specs.Listing.{shown, lf}
 use Rattle.rules.specs.Refusals.{number}
 use Rattle.rules.specs.declared.Reason.{Reason}
 use Rattle.rules.specs.declared.Refusal.{Refusal}
-use Rattle.show.specs.Lines.{Shown}
-use Rattle.explain.specs.Names.{name, meaning}
-use Rattle.explain.specs.Faulty.{textOf}
-
--- ---- the line's text and the caret
-
--- a byte as it is shown: itself from hex 20 to 7E, else a question mark, so that each byte takes one place and a terminal is not disturbed
-unfoldable pub visible : ℕ → ℕ
-visible b = cond (leb 32 b && leb b 126) b (code "?")
-
--- How many bytes of the line stand before those shown. A byte among the first 80 is shown with these; one further on with 40 bytes before it and 39 after it.
-unfoldable pub before : ℕ → ℕ
-before b = cond (leb b 80) 0 (b - 41)
-
--- at most 80 bytes, so that the byte named is among them
-unfoldable pub window : ℕ → List ℕ → List ℕ
-window b text = take 80 (drop (before b) text)
-
-unfoldable pub windowLine : ℕ → List ℕ → List ℕ
-windowLine b text = map visible (window b text) ++ lf
-
--- "bytes in a line count from 1": the caret stands under byte b, also where that is one past the text (3)
-unfoldable pub caretLine : ℕ → List ℕ
-caretLine b = replicate (b - 1 - before b) (code " ") ++ (code "^" ∷ lf)
-
--- Byte 0 (7, 15, 16) has no caret; and a line past the last one (16) has no text.
-unfoldable pub quote : ℕ → List ℕ → List ℕ
-quote b text = cond (eqb b 0) (cond (eqb (length text) 0) [] (windowLine 0 text)) (windowLine b text ++ caretLine b)
+use Rattle.faulty.specs.Faulty.{textOf}
 
 -- ---- the first line
 

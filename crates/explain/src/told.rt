@@ -1,21 +1,21 @@
 // The first line of an explanation, and the whole, put into a buffer, with the place behind them as the answer.
+ghost use Rattle.pieces.specs.Buffer.{Fills};
 ghost use Rattle.explain.specs.Explanation.{called, counted, placed, begun, meant, head, explanation};
-ghost use Rattle.show.specs.Lines.{Fills};
-use crate::line_text;
-use crate::names::put_meaning;
-use crate::names::put_name;
-use crate::quote::bytes_before;
-use crate::quote::put_quote;
+use faulty::line_text;
+use pieces::put_byte;
+use pieces::put_shown;
+use pieces::put_text;
+use quote::bytes_before;
+use quote::put_quote;
+use refusals::put_meaning;
+use refusals::put_name;
 use rules::Reason;
 use rules::Refusal;
-use show::put_byte;
-use show::put_shown;
-use show::put_text;
 
 fn put_called(out: &mut [u8], reason: Reason) -> usize
     ensures { λ r. ⌜ Fills (now (out .entry)) 0 (called reason) r (now (out .exit)) ⌝ }
 {
-    let number = show::reason_number(reason);
+    let number = refusals::number(reason);
     let a = put_text(out, 0, b"REFUSED");
     let b = put_shown(out, a, number as u64);
     let c = put_byte(out, b, b' ');

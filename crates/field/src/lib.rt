@@ -1,30 +1,28 @@
 // The fields of a line: read at a place of it.
 ghost use Prim.Native.Nat.{_≤_};
 ghost use mathlib.Core.Path.{_≡_};
-ghost use lib.IntN.{pos, negℤ};
-ghost use Rattle.rules.specs.Fields.{isLeap, yearOf, positionAt, placeTold};
+ghost use Rattle.rules.specs.Fields.{isLeap, yearOf};
 ghost use Rattle.field.specs.Days.{DaysGiven};
-ghost use Rattle.rules.specs.Promises.{TimeAt, DateAt, LatitudeAt, LongitudeAt, AltitudeAt};
-use rules::Altitude;
+ghost use Rattle.rules.specs.Promises.{TimeAt, DateAt};
+pub use altitude::altitude_at;
+pub use position::latitude_at;
+pub use position::longitude_at;
 use rules::Date;
 use rules::Day;
-use rules::Height;
 use rules::Number;
-use rules::Place;
-use rules::Position;
 use rules::Time;
 
 // HHMMSS at a place of s, as seconds of the day. NoTime where the field breaks its rule or s ends before.
 pub fn time_at(s: &[u8], at: usize) -> Time
     ensures { λ r. ⌜ TimeAt (now (s .entry)) at r ⌝ }
 {
-    let Number::Value(h) = number::digits(s, at, 2) else {
+    let Number::Value(h) = digits::two(s, at) else {
         return Time::NoTime;
     };
-    let Number::Value(m) = number::digits(s, at + 2, 2) else {
+    let Number::Value(m) = digits::two(s, at + 2) else {
         return Time::NoTime;
     };
-    let Number::Value(x) = number::digits(s, at + 4, 2) else {
+    let Number::Value(x) = digits::two(s, at + 4) else {
         return Time::NoTime;
     };
     if 23 < h {
@@ -85,13 +83,13 @@ fn year_of(yy: u64) -> u16
 pub fn date_at(s: &[u8], at: usize) -> Day
     ensures { λ r. ⌜ DateAt (now (s .entry)) at r ⌝ }
 {
-    let Number::Value(d) = number::digits(s, at, 2) else {
+    let Number::Value(d) = digits::two(s, at) else {
         return Day::NoDay;
     };
-    let Number::Value(m) = number::digits(s, at + 2, 2) else {
+    let Number::Value(m) = digits::two(s, at + 2) else {
         return Day::NoDay;
     };
-    let Number::Value(yy) = number::digits(s, at + 4, 2) else {
+    let Number::Value(yy) = digits::two(s, at + 4) else {
         return Day::NoDay;
     };
     let y = year_of(yy);
@@ -107,81 +105,4 @@ pub fn date_at(s: &[u8], at: usize) -> Day
         month: m as u8,
         year: y,
     })
-}
-
-// Degrees of `width` digits, MMmmm and one of two letters at a place of s, as a count of `most` at most with its letter beside it.
-fn position_at(s: &[u8], at: usize, width: usize, most: u64, a: u8, b: u8) -> Place
-    requires { ⌜ (1 ≤ width) × (width ≤ 3) ⌝ }
-    ensures { λ r. ⌜ placeTold r ≡ positionAt (now (s .entry)) at width most a b ⌝ }
-{
-    let Number::Value(d) = number::digits(s, at, width) else {
-        return Place::NoPlace;
-    };
-    let Number::Value(m) = number::digits(s, at + width, 5) else {
-        return Place::NoPlace;
-    };
-    if 59999 < m {
-        return Place::NoPlace;
-    }
-    let count = d * 60000 + m;
-    if most < count {
-        return Place::NoPlace;
-    }
-    let letter = chars::byte(s, at + width + 5);
-    if chars::is_either(letter, a, b) {
-        return Place::Is(Position { count, letter });
-    }
-    Place::NoPlace
-}
-
-// DDMMmmm and N or S at a place of s. NoPlace where the field breaks its rule, is over 5,400,000, or s ends before.
-pub fn latitude_at(s: &[u8], at: usize) -> Place
-    ensures { λ r. ⌜ LatitudeAt (now (s .entry)) at r ⌝ }
-{
-    position_at(s, at, 2, 5400000, b'N', b'S')
-}
-
-// DDDMMmmm and E or W at a place of s. NoPlace where the field breaks its rule, is over 10,800,000, or s ends before.
-pub fn longitude_at(s: &[u8], at: usize) -> Place
-    ensures { λ r. ⌜ LongitudeAt (now (s .entry)) at r ⌝ }
-{
-    position_at(s, at, 3, 10800000, b'E', b'W')
-}
-
-// v metres up.
-fn above(v: u64) -> Height
-    requires { ⌜ v ≤ 99999 ⌝ }
-    ensures { λ r. ⌜ r ≡ record { metres = pos v } ⌝ }
-{
-    Height { metres: v as i32 }
-}
-
-// v metres down.
-fn below(v: u64) -> Height
-    requires { ⌜ v ≤ 99999 ⌝ }
-    ensures { λ r. ⌜ r ≡ record { metres = negℤ (pos v) } ⌝ }
-{
-    Height {
-        metres: -(v as i32),
-    }
-}
-
-// Five digits, or a minus and four digits that are not all zero, at a place of s. NoAltitude where the field breaks its rule or s ends before.
-pub fn altitude_at(s: &[u8], at: usize) -> Altitude
-    ensures { λ r. ⌜ AltitudeAt (now (s .entry)) at r ⌝ }
-{
-    let b = chars::byte(s, at);
-    if b == b'-' {
-        let Number::Value(v) = number::digits(s, at + 1, 4) else {
-            return Altitude::NoAltitude;
-        };
-        if v < 1 {
-            return Altitude::NoAltitude;
-        }
-        return Altitude::Metres(below(v));
-    }
-    let Number::Value(v) = number::digits(s, at, 5) else {
-        return Altitude::NoAltitude;
-    };
-    Altitude::Metres(above(v))
 }

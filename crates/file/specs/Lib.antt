@@ -1,4 +1,2 @@
--- What the file's own types say, in the paper's terms.
-pub mod Steps
-pub mod Judges
+-- What a turn of the check says, in the paper's terms.
 pub mod Turns

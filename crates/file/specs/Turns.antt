@@ -1,24 +1,34 @@
 -- One turn of the check of a file: a line passed, or what stops the check.
-use Prim.Native.Nat.{ℕ, _+_, _≤_}
+use Prim.Native.Nat.{ℕ, _+_}
 use mathlib.Core.List.{List}
 use mathlib.Core.Path.{_≡_}
-use lib.ListN.{length, drop}
+use lib.ListN.{drop}
 use Rattle.rules.specs.Files.{run}
-use Rattle.rules.specs.Order.{judge}
-use Rattle.rules.specs.Refusals.{says, refusal}
-use Rattle.rules.specs.Split.{line, linesOf}
+use Rattle.rules.specs.Refusals.{refusal}
+use Rattle.rules.specs.Split.{linesOf}
+use Rattle.rules.specs.declared.Judged.{Judged}
+use Rattle.rules.specs.declared.Outcome.the-variants as outcome
+use Rattle.rules.specs.declared.Reason.{Reason}
 use Rattle.rules.specs.declared.Refusal.{Refusal}
 use Rattle.rules.specs.declared.State.{State}
+use Rattle.order.specs.Turns.{Passed}
 use Rattle.file.specs.declared.lines.What.{What}
 use Rattle.file.specs.declared.lines.What.the-variants as what
 
--- the line behind `at` bytes is good, the next one stands behind `next` bytes, and s is the state between them
-pub record Passed (file : List ℕ) (at : ℕ) (st : State) (next : ℕ) (s : State) : Type 0 where
-  pub text : List ℕ
-  pub lines : linesOf (drop at file) ≡ line text (linesOf (drop next file))
-  pub place : at + length text + 2 ≡ next
-  pub within : next ≤ length file
-  pub judged : judge text st ≡ says s
+-- a refusal in the line that comes next
+abbrev pub inNext : Reason → ℕ → State → Refusal
+inNext reason byte st = record { reason = reason; line = st .flight .lines + 1; byte = byte }
+
+-- a judged line that is refused stops the check there
+pub record Halted (judged : Judged) (st : State) (why : Refusal) : Type 0 where
+  pub refused : Refusal
+  pub outcome : judged .outcome ≡ outcome.Refused refused
+  pub placed : why ≡ inNext (refused .reason) (refused .byte) st
+
+-- what a judged line comes to, where the next one stands behind `next` bytes
+abbrev pub LeftBy : Judged → ℕ → State → What → State → Type 0
+LeftBy judged next st (what.Next n) s = (judged .outcome ≡ outcome.Accepted) × (n ≡ next) × (s ≡ judged .state)
+LeftBy judged next st (what.Stop why) s = Halted judged st why
 
 -- the file is refused at the line behind `at` bytes, however many entries the table has
 pub record Stopped (file : List ℕ) (at : ℕ) (st : State) (why : Refusal) : Type 0 where

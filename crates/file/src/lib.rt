@@ -1,40 +1,9 @@
-// A file in lent memory: the check of the whole file with the table of its lines' offsets, a line by its number, and a place that steps over the lines.
-ghost use mathlib.Core.Path.{_≡_};
-ghost use Rattle.rules.specs.Promises.{FileChecked, KindGiven, LineGiven, LineRest};
-ghost use Rattle.file.specs.Steps.{LineStepped, AtFirst, unplaced};
+// A file in lent memory: the check of the whole file, with the table of its lines' offsets.
+ghost use Rattle.rules.specs.Promises.{FileChecked};
 use rules::Checked;
-use rules::Found;
-use rules::Kind;
-use rules::LineRead;
 use rules::Reason;
-use rules::Refusal;
 
-mod judge;
 mod lines;
-mod order;
-mod scan;
-
-// The kind of a line, told by its first byte; NoKind for a byte that is not A to Z.
-pub fn kind_of(b: u8) -> Kind
-    ensures { λ r. ⌜ KindGiven b r ⌝ }
-{
-    match b {
-        b'A' => Kind::A,
-        b'B' => Kind::B,
-        b'C' => Kind::C,
-        b'D' => Kind::D,
-        b'E' => Kind::E,
-        b'F' => Kind::F,
-        b'G' => Kind::G,
-        b'H' => Kind::H,
-        b'I' => Kind::I,
-        b'J' => Kind::J,
-        b'K' => Kind::K,
-        b'L' => Kind::L,
-        b'M'..=b'Z' => Kind::Other,
-        _ => Kind::NoKind,
-    }
-}
 
 // The check of a whole file: what it says, with the table's first entries set to its lines' offsets. Refused with 1 to 16, the table then set for the lines before
 // the faulty one; entries past the last good line stay as they are.
@@ -42,98 +11,10 @@ pub fn check(file: &[u8], table: &mut [u32]) -> Checked
     ensures { λ r. ⌜ FileChecked (now (file .entry)) (now (table .entry)) r (now (table .exit)) ⌝ }
 {
     if file.len() < 1 {
-        return lines::refused(unplaced(Reason::Empty));
+        return lines::refused(cut::unplaced(Reason::Empty));
     }
     if 16777216 < file.len() {
-        return lines::refused(unplaced(Reason::TooLong));
+        return lines::refused(cut::unplaced(Reason::TooLong));
     }
     lines::check_lines(file, table)
-}
-
-// Where line n stands, by a table of the lines' offsets: how many bytes stand before it and before its CR LF. Refused with 17 where n is 0 or past the table's
-// entries, where the entry is neither 0 nor just past a CR LF, and where no CR LF comes from there on.
-pub fn bounds(file: &[u8], table: &[u32], n: usize) -> LineRead
-    ensures { λ r. ⌜ LineGiven (now (file .entry)) (now (table .entry)) n r ⌝ }
-{
-    if n < 1 {
-        return LineRead::Refused(unplaced(Reason::BadValue));
-    }
-    if table.len() < n {
-        return LineRead::Refused(unplaced(Reason::BadValue));
-    }
-    let start = table[n - 1] as usize;
-    if !scan::is_start(file, start) {
-        return LineRead::Refused(unplaced(Reason::BadValue));
-    }
-    let Found::At(end) = scan::crlf_from(file, start) else {
-        return LineRead::Refused(unplaced(Reason::BadValue));
-    };
-    LineRead::Part(start, end)
-}
-
-// Line n without its CR LF, as a part of the file; no bytes where `bounds` refuses it.
-pub fn line<'a>(file: &'a [u8], table: &[u32], n: usize) -> &'a [u8]
-    ensures { λ r. ⌜ LineRest (now (file .entry)) (now (table .entry)) n (now r) ⌝ }
-{
-    match bounds(file, table, n) {
-        LineRead::Part(start, end) => &file[start..end],
-        LineRead::Refused(_) => &file[0..0],
-    }
-}
-
-// A reading place over the lines of a file: how many bytes stand before it.
-pub struct Cursor {
-    pub at: usize,
-}
-
-// What a step finds: a line, by how many bytes stand before it and before its CR LF, with the place after it; or that none is left.
-pub enum Step {
-    Line {
-        start: usize,
-        end: usize,
-        next: Cursor,
-    },
-    Done,
-    Refused(Refusal),
-}
-
-impl Cursor {
-    // The place before the first line.
-    pub fn new() -> Self
-        ensures { λ r. ⌜ AtFirst r ⌝ }
-    {
-        Cursor { at: 0 }
-    }
-
-    // The next line, with the place after it, or that none is left. Refused with 17 where the place is past the end, or bytes remain and no CR LF comes after it.
-    pub fn step(self, file: &[u8]) -> Step
-        ensures { λ r. ⌜ LineStepped (now (file .entry)) (self .at) r ⌝ }
-    {
-        let at = self.at;
-        if file.len() < at {
-            return Step::Refused(unplaced(Reason::BadValue));
-        }
-        if at == file.len() {
-            return Step::Done;
-        }
-        let Found::At(end) = scan::crlf_from(file, at) else {
-            return Step::Refused(unplaced(Reason::BadValue));
-        };
-        Step::Line {
-            start: at,
-            end,
-            next: Cursor { at: end + 2 },
-        }
-    }
-}
-
-// A refusal with no line and no byte.
-fn unplaced(reason: Reason) -> Refusal
-    ensures { λ r. ⌜ r ≡ unplaced reason ⌝ }
-{
-    Refusal {
-        reason,
-        line: 0,
-        byte: 0,
-    }
 }

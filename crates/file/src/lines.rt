@@ -5,13 +5,11 @@ ghost use lib.ListN.{length};
 ghost use Rattle.rules.specs.Files.{CheckedTold, finish};
 ghost use Rattle.rules.specs.Promises.{FileChecked};
 ghost use Rattle.rules.specs.Refusals.{refusal};
-ghost use Rattle.file.specs.Judges.{Few, inNext};
-ghost use Rattle.file.specs.Turns.{Turned};
-use crate::judge;
-use crate::order;
-use crate::scan;
-use crate::scan::Ended;
+ghost use Rattle.order.specs.States.{Few};
+ghost use Rattle.file.specs.Turns.{LeftBy, Turned, inNext};
+use cut::Ended;
 use rules::Checked;
+use rules::Judged;
 use rules::Outcome;
 use rules::Reason;
 use rules::Refusal;
@@ -68,34 +66,39 @@ pub struct Turn {
     pub state: State,
 }
 
+// A turn whose line was judged: the place of the next line, or the refusal in this one.
+fn left_by(judged: Judged, next: usize, st: State) -> Turn
+    requires { ⌜ st .flight .lines ≤ 16777216 ⌝ }
+    ensures { λ r. ⌜ LeftBy judged next st (r .what) (r .state) ⌝ }
+{
+    let outcome = judged.outcome;
+    let state = judged.state;
+    match outcome {
+        Outcome::Accepted => Turn {
+            what: What::Next(next),
+            state,
+        },
+        Outcome::Refused(why) => {
+            let reason = why.reason;
+            Turn {
+                what: What::Stop(in_next(reason, why.byte, st)),
+                state: st,
+            }
+        }
+    }
+}
+
 // One line found, judged and left.
 fn take_turn(file: &[u8], at: usize, st: State) -> Turn
     requires { ⌜ (at < length (now file)) × (length (now file) ≤ 16777216) × Few st ⌝ }
     ensures { λ r. ⌜ Turned (now (file .entry)) at st (r .what) (r .state) ⌝ }
 {
-    match scan::line_end(file, at) {
+    match cut::line_end(file, at) {
         Ended::Broken(end) => Turn {
             what: What::Stop(in_next(Reason::LineEnd, (end - at + 1) as u32, st)),
             state: st,
         },
-        Ended::At(end) => {
-            let judged = judge::judge_line(&file[at..end], st);
-            let outcome = judged.outcome;
-            let state = judged.state;
-            match outcome {
-                Outcome::Accepted => Turn {
-                    what: What::Next(end + 2),
-                    state,
-                },
-                Outcome::Refused(why) => {
-                    let reason = why.reason;
-                    Turn {
-                        what: What::Stop(in_next(reason, why.byte, st)),
-                        state: st,
-                    }
-                }
-            }
-        }
+        Ended::At(end) => left_by(judge::judge_line(&file[at..end], st), end + 2, st),
     }
 }
 
@@ -106,15 +109,21 @@ pub(crate) fn check_lines(file: &[u8], table: &mut [u32]) -> Checked
     let mut at: usize = 0;
     let mut st = order::start_state();
     while at < file.len() {
-        let turn = take_turn(file, at, st);
+        let run = ahead::run_ahead(file, table, at, st);
+        let from = run.at;
+        let reached = run.state;
+        if file.len() <= from {
+            return finished(reached);
+        }
+        let turn = take_turn(file, from, reached);
         let what = turn.what;
         match what {
             What::Next(next) => {
-                let n = st.flight.lines as usize;
+                let n = reached.flight.lines as usize;
                 if table.len() <= n {
-                    return refused(in_next(Reason::TableFull, 0, st));
+                    return refused(in_next(Reason::TableFull, 0, reached));
                 }
-                table[n] = at as u32;
+                table[n] = from as u32;
                 st = turn.state;
                 at = next;
             }

@@ -1,19 +1,13 @@
 // A file: its check, a line by its number, a reading place over its lines.
-ghost use Rattle.hivebasket.specs.Calls.{CheckAnswered, LineAnswered, StepAnswered};
-use crate::answers::give;
-use crate::values;
-use file::Cursor;
+ghost use Rattle.calls_file.specs.Calls.{CheckAnswered};
+ghost use Rattle.calls_place.specs.Calls.{LineAnswered, StepAnswered};
 
 // The check of a whole file, with the table of its lines' offsets.
 #[no_mangle]
 pub extern "C" fn hive_check(file: &[u8], table: &mut [u32], answer: &mut [u64]) -> u32
     ensures { λ r. ⌜ CheckAnswered (now (file .entry)) (now (table .entry)) (now (answer .entry)) r (now (table .exit)) (now (answer .exit)) ⌝ }
 {
-    if answer.len() != 12 {
-        return 17;
-    }
-    let checked = file::check(file, table);
-    give(answer, values::checked(checked))
+    calls_file::check(file, table, answer)
 }
 
 // A line of the file by its number.
@@ -21,7 +15,7 @@ pub extern "C" fn hive_check(file: &[u8], table: &mut [u32], answer: &mut [u64])
 pub extern "C" fn hive_line(file: &[u8], table: &[u32], number: usize, answer: &mut [u64]) -> u32
     ensures { λ r. ⌜ LineAnswered (now (file .entry)) (now (table .entry)) number (now (answer .entry)) r (now (answer .exit)) ⌝ }
 {
-    give(answer, values::line(file::bounds(file, table, number)))
+    calls_place::line(file, table, number, answer)
 }
 
 // The line at a reading place, and the place after it.
@@ -29,6 +23,5 @@ pub extern "C" fn hive_line(file: &[u8], table: &[u32], number: usize, answer: &
 pub extern "C" fn hive_step(file: &[u8], place: usize, answer: &mut [u64]) -> u32
     ensures { λ r. ⌜ StepAnswered (now (file .entry)) place (now (answer .entry)) r (now (answer .exit)) ⌝ }
 {
-    let cursor = Cursor { at: place };
-    give(answer, values::step(cursor.step(file)))
+    calls_place::step(file, place, answer)
 }

@@ -1,9 +1,6 @@
-// Hivebasket for C: the check, the readers and the writers as exported functions over numbers and slices of numbers (c/hivebasket.h).
-mod answers;
-mod declarations;
-mod degrees_of;
+// Hivebasket for C: the check, the readers and the writers as exported functions over numbers and slices of numbers (c/hivebasket.h). Each is one call of a
+// function below that promises the same, since only what stands in this crate gets into the library.
+mod columns;
 mod files;
-mod given;
-mod readers;
-mod values;
+mod lines;
 mod writers;

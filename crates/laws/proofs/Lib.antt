@@ -4,4 +4,5 @@ pub mod Worked
 pub mod Settled
 pub mod Chains
 pub mod Splitting
+pub mod LineEnds
 pub mod Counted

@@ -1,6 +1,5 @@
 -- Laws of the definitions that the proofs share, what holds of the presence word, and that each promise has one answer.
 pub mod Laws
-pub mod Rows
 pub mod Turns
 pub mod Words
 pub mod Common

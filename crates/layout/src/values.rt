@@ -6,17 +6,15 @@ ghost use Rattle.rules.specs.Choice.{leads};
 ghost use Rattle.rules.specs.Listed.{isCodeWord, listed, unlisted};
 ghost use Rattle.rules.specs.Layouts.{entriesOf, emptyLayout, isSpelt, isUnused, allPlaced, bit, wordFrom};
 ghost use Rattle.rules.specs.Promises.{AllowedTest, LengthGiven, LookGiven, PresenceGiven};
-ghost use Rattle.layout.specs.Parts.{Follows, ColumnFound, LineLength};
-use crate::entries::EntryRead;
-use crate::entries::Spot;
-use crate::entries::carries;
-use crate::entries::empty_layout;
-use crate::entries::look;
-use crate::entries::placed;
-use crate::entries::with_entry;
-use crate::reading::first_start;
-use crate::table::listed_at;
-use crate::table::pack;
+ghost use Rattle.layout.specs.Parts.{Follows, LineLength};
+use crate::reading::with_entry;
+use entry::EntryRead;
+use entry::carries;
+use entry::empty_layout;
+use entry::find;
+use entry::first_start;
+use entry::placed;
+use listed::listed_at;
 use rules::ColumnRead;
 use rules::Entry;
 use rules::Family;
@@ -159,20 +157,6 @@ pub fn length(family: Family, l: Layout) -> LengthRead
         });
     }
     LengthRead::Bytes(line_length(family, l) as usize)
-}
-
-// Where the column of a code stands by a layout, allowed or not: its first and last byte, counted from 1. 19 where it has no such code.
-fn find(l: Layout, code: [u8; 3]) -> ColumnRead
-    ensures { λ r. ⌜ ColumnFound l code r ⌝ }
-{
-    let Spot::At(first, last) = look(l, pack(code[0], code[1], code[2])) else {
-        return ColumnRead::Refused(Refusal {
-            reason: Reason::Absent,
-            line: 0,
-            byte: 0,
-        });
-    };
-    ColumnRead::Between(first, last)
 }
 
 // Where the column of a code stands by a layout: its first and last byte, counted from 1. 17 where the layout is not allowed; 19 where it has no such code.

@@ -1,26 +1,14 @@
--- The limits of an altitude as tests of a signed number; and the columns of a tail. Assumes nothing.
-use Prim.Native.Nat.{ℕ, _+_, _<_, _≤_}
+-- The columns of a tail. Assumes nothing.
+use Prim.Native.Nat.{ℕ}
 use mathlib.Core.Bool.{Bool, true, false}
 use mathlib.Core.Option.{Option, none, some}
-use mathlib.Core.Path.{_≡_, refl, sym, _∙_}
-use native.Mathlib.Omega.{arith}
-use borrow.Author.Tests.{le-leb, lt-leb, ltb-true, ltb-false, eq-eqb, ne-eqb}
+use mathlib.Core.Path.{_≡_, sym, _∙_}
+use borrow.Author.Tests.{eq-eqb, ne-eqb}
 use lib.Dec.{eqb}
-use lib.IntN.{ℤ, pos, negsuc}
-use lib.Signed.{ltZ, leZ}
 use Rattle.rules.specs.Choice.{given, need}
 use Rattle.rules.specs.Layouts.{firstStart, allowed, lineLength}
 use Rattle.rules.specs.declared.Family.{Family}
 use Rattle.rules.specs.declared.Layout.{Layout}
-use Rattle.trips.specs.Limits.{isMetres}
-
-pub too-low : (z : ℤ) → ltZ z (negsuc 9998) ≡ true → false ≡ isMetres z
-too-low (pos n) e = cc
-too-low (negsuc n) e = let h : 9998 < n = ltb-true _ _ e in sym (lt-leb (n + 1) 9999 (omega arith))
-
-pub low-enough : (z : ℤ) → ltZ z (negsuc 9998) ≡ false → leZ z (pos 99999) ≡ isMetres z
-low-enough (pos n) e = refl
-low-enough (negsuc n) e = let h : n ≤ 9998 = ltb-false _ _ e in sym (le-leb (n + 1) 9999 (omega arith))
 
 -- ---- whether a column was found that breaks its rule
 

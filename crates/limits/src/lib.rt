@@ -1,5 +1,4 @@
 // Whether values given to a writer keep to their limits: the tests of which number 17 is made.
-mod fields;
 mod lines;
 mod tails;
 

@@ -6,7 +6,7 @@ ghost use Rattle.rules.specs.Choice.{given, part};
 ghost use Rattle.rules.specs.Layouts.{firstStart};
 ghost use Rattle.rules.specs.Listed.{keepsRule};
 ghost use Rattle.trips.specs.Limits.{badTail, goodTail};
-use crate::fields::is_clean;
+use range::is_clean;
 use rules::Entry;
 use rules::Family;
 use rules::Layout;
@@ -29,7 +29,7 @@ fn keeps(start: u8, tail: &[u8], e: Entry) -> bool
 {
     let first = in_tail(start, e.first);
     let last = in_tail(start, e.last);
-    layout::keeps_rule(e.code, column::text_of(tail, first, last))
+    listed::keeps_rule(e.code, column::text_of(tail, first, last))
 }
 
 // Whether each column keeps the rule of its code.

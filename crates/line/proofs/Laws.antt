@@ -8,11 +8,9 @@ use lib.Seq.{drop-cons}
 use Rattle.rules.specs.Chars.{isCode}
 use Rattle.rules.specs.Lines.{badPair, shaped}
 use Rattle.rules.specs.Promises.{foundTold}
-use Rattle.rules.specs.Refusals.{number, Said, refuses, refusal, outcomeTold}
+use Rattle.rules.specs.Refusals.{outcomeTold}
 use Rattle.rules.specs.declared.Found.{Found}
 use Rattle.rules.specs.declared.Found.the-variants as found
-use Rattle.rules.specs.declared.Reason.the-variants.{Form}
-use Rattle.rules.specs.declared.Refusal.{Refusal}
 use Rattle.rules.specs.declared.Outcome.{Outcome}
 use Rattle.rules.specs.declared.Outcome.the-variants as outcome
 use Rattle.shape.proofs.Laws.{accepted-most}
@@ -24,8 +22,9 @@ use lib.Dec.{eqb}
 use Rattle.chars.proofs.Laws.{and-true, and-false}
 use Rattle.rules.specs.Choice.{given}
 use Rattle.rules.specs.declared.Planned.{Planned}
-use Rattle.rules.proofs.Links.{by-some, by-none, need-true, need-false, cond-eq, cond-ne, on-is, number-value, number-none, time-secs, time-none, day-on, day-none, place-is, place-none, altitude-metres, altitude-none, outcome-accepted, outcome-refused, found-at, found-nothing, fix-is, fix-refused}
-use Rattle.line.specs.Parts.{formAt, plannedTold}
+use Rattle.rules.proofs.Links.{by-some, by-none, need-true, need-false, cond-eq, cond-ne, on-is, number-value, number-none, time-secs, time-none, day-on, day-none, place-is, place-none, outcome-accepted, outcome-refused, found-at, found-nothing, fix-is, fix-refused}
+use Rattle.fix.proofs.Laws.{refuses-form}
+use Rattle.line.specs.Parts.{plannedTold}
 use Rattle.line.specs.declared.PlannedRead.{PlannedRead}
 use Rattle.line.specs.declared.PlannedRead.the-variants.{Is, NoPlan}
 
@@ -37,10 +36,7 @@ pub planned-none : {B : Type 0} (n : Option Planned) (r : PlannedRead) (x a : B)
 unfolding plannedTold
 planned-none n r x a f e g h = by-none plannedTold n r x a f e NoPlan refl g h
 
--- ---- a field that breaks its rule
-
-pub refuses-form : {A : Type 0} (w : Refusal) (first : ℕ) → w ≡ formAt first → _≡_ {A = Said A} (refusal w) (refuses (number Form) 0 first)
-refuses-form w first e = rw e
+-- ---- bytes
 
 -- r is the byte that stands there
 pub byte-is : (m n r : ℕ) → r ≡ m → r ≡ n → true ≡ eqb m n
@@ -111,8 +107,6 @@ pub ruleset plans = (cond-eq, cond-ne, number-value, number-none, day-on, day-no
 pub ruleset heads = (refuses-form, number-value, number-none, time-secs, time-none, day-on, day-none, planned-is, planned-none)
 
 pub ruleset points = (refuses-form, outcome-accepted, outcome-refused, place-is, place-none)
-
-pub ruleset fixes = (refuses-form, not-true, not-false, need-true, need-false, on-is, time-secs, time-none, place-is, place-none, altitude-metres, altitude-none)
 
 pub ruleset columned = (outcome-accepted, outcome-refused)
 

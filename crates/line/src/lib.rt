@@ -3,13 +3,14 @@ ghost use mathlib.Core.Path.{_≡_};
 ghost use Prim.Native.Nat.{_-_, _%_};
 ghost use lib.Dec.{eqb};
 ghost use lib.ListN.{length, drop};
-ghost use Rattle.rules.specs.Lines.{isDateMark, plannedAt, headFields, badPair, fixFields, shapedBy};
+ghost use Rattle.rules.specs.Lines.{isDateMark, plannedAt, headFields, badPair, shapedBy};
 ghost use Rattle.rules.specs.Layouts.{firstStart, columns};
 ghost use Rattle.rules.specs.Refusals.{outcomeTold, andThen, says};
 ghost use Rattle.rules.specs.Reads.{headTold, fixTold};
 ghost use Rattle.rules.specs.Promises.{RecorderChecked, DateLineChecked, HeaderChecked, HeadChecked, PointChecked, DifferentialChecked, EventChecked, SatellitesChecked, FixChecked, ExtraChecked, foundTold};
-ghost use Rattle.line.specs.Parts.{formAt, plannedTold};
-use rules::Altitude;
+ghost use Rattle.line.specs.Parts.{plannedTold};
+use fix::fix_fields;
+use fix::form;
 use rules::DateRead;
 use rules::Day;
 use rules::Family;
@@ -29,17 +30,6 @@ use rules::Reason;
 use rules::Refusal;
 use rules::Time;
 use rules::TimeRead;
-
-// FORM at a field's first byte.
-fn form(byte: u32) -> Refusal
-    ensures { λ r. ⌜ r ≡ formAt byte ⌝ }
-{
-    Refusal {
-        reason: Reason::Form,
-        line: 0,
-        byte,
-    }
-}
 
 // An A line: 3 code characters for the maker, 3 for the serial, then text. Refusals: LENGTH, CHARACTER, FORM at 2 or 5.
 pub fn recorder(line: &[u8]) -> Outcome
@@ -211,39 +201,6 @@ pub fn point_line(line: &[u8]) -> PointRead
         return PointRead::Refused(form(10));
     };
     PointRead::Is(Point { lat, lon })
-}
-
-// The fields of a B line before its columns.
-fn fix_fields(line: &[u8]) -> FixRead
-    ensures { λ r. ⌜ fixTold r ≡ fixFields (now (line .entry)) ⌝ }
-{
-    let Time::Secs(time) = field::time_at(line, 1) else {
-        return FixRead::Refused(form(2));
-    };
-    let Place::Is(lat) = field::latitude_at(line, 7) else {
-        return FixRead::Refused(form(8));
-    };
-    let Place::Is(lon) = field::longitude_at(line, 15) else {
-        return FixRead::Refused(form(16));
-    };
-    let validity = chars::byte(line, 24);
-    if !chars::is_either(validity, b'A', b'V') {
-        return FixRead::Refused(form(25));
-    }
-    let Altitude::Metres(pressure) = field::altitude_at(line, 25) else {
-        return FixRead::Refused(form(26));
-    };
-    let Altitude::Metres(gnss) = field::altitude_at(line, 30) else {
-        return FixRead::Refused(form(31));
-    };
-    FixRead::Is(Fix {
-        time,
-        lat,
-        lon,
-        validity,
-        pressure,
-        gnss,
-    })
 }
 
 // Whether the bytes behind the time of an F line make whole pairs.

@@ -1,7 +1,5 @@
-// Lists a file on standard output: its counts, each fix and its columns; or why it is refused. What is printed is made by `pages` and `show`, and written here.
+// Lists a file on standard output: its counts, each fix and its columns; or why it is refused. What is printed is made by `pages`, `block` and `show`, and written here.
 use libc::STDOUT_FILENO;
-use pages::Page;
-use pages::Turn;
 use rules::Entry;
 use rules::Fix;
 use rules::Flight;
@@ -48,17 +46,19 @@ pub fn print_columns(line: &[u8], layout: Layout) {
     }
 }
 
-// Each page of the file, from the first to the last; a line has 14 at most, its fix and 13 columns.
+// Each page of the file, from the first to the last; each passes a line at least.
 fn print_pages(file: &[u8], table: &[u32], lines: u32, layout: Layout) {
-    let mut out = [0u8; 288];
-    let mut page = Page::first();
-    let mut left = 14 * (lines as u64);
+    let mut block = [0u8; 65536];
+    let mut passed = 0;
+    let mut left = lines;
     while 0 < left {
-        let Turn::Put(n, next) = page.step(file, table, lines, layout, &mut out) else {
+        if lines <= passed {
             return;
-        };
-        io::write_all(STDOUT_FILENO, &out[..n]);
-        page = next;
+        }
+        let page = block::fill(passed, file, table, lines, layout, &mut block);
+        let n = page.used;
+        io::write_all(STDOUT_FILENO, &block[..n]);
+        passed = page.passed;
         left -= 1;
     }
 }

@@ -1,202 +1,259 @@
 -- What `begin` puts, and behind it the pages of the file one after the other, are the whole listing. Assumes nothing.
-use Prim.Native.Nat.{ℕ, zero, suc, _+_, _-_, _*_, _≤_, _<_}
-use mathlib.Core.Bool.{Bool, true, false, _&&_, cond}
+use Prim.Native.Nat.{ℕ, zero, suc, _+_, _-_, _≤_, _<_}
+use mathlib.Core.Bool.{Bool, true, false, cond}
 use mathlib.Core.List.{List, [], _∷_, _++_, append-assoc, append-nil}
 use mathlib.Core.Path.{_≡_, refl, sym, ap, subst, _∙_}
+use native.Mathlib.Nat.{add-zero, zero-add}
 use native.Mathlib.Omega.{arith}
-use borrow.Author.Tests.{le-leb, lt-leb, lt-ltb, le-ltb, leb-true, ne-eqb}
-use lib.Dec.{leb, ltb, eqb}
-use native.Mathlib.Nat.{add-zero}
-use native.Mathlib.Numerals.{add-one}
-use lib.ListN.{length, getD, take, drop, drop-of-length-le}
-use lib.Seq.{drop-cons, drop-length}
+use borrow.Author.Tests.{le-leb, lt-ltb, le-ltb, leb-true, leb-false, eqb-true}
 use Prim.Native.Char.{code}
+use lib.Dec.{leb, ltb, eqb}
+use lib.ListN.{length, getD, take, drop, length-drop}
+use Rattle.rules.specs.Choice.{need, part}
 use Rattle.rules.specs.Refusals.{Said, says, refuses, no, valueOr}
-use Rattle.rules.specs.Layouts.{unused, entriesOf, emptyLayout, withEntry, isSpelt, isSaid, placed, allPlaced, allowed, firstStart}
-use Rattle.rules.specs.Split.{Lines, end, broken, line, linesOf, lineText, boundsOf}
-use Rattle.rules.specs.Reads.{fixSaid, withLayout}
-use Rattle.rules.specs.Lines.{bLine}
+use Rattle.rules.specs.Layouts.{allowed, columns}
+use Rattle.rules.specs.Split.{Lines, end, broken, line, linesOf, offsets}
+use Rattle.rules.specs.Reads.{fixSaid}
+use Rattle.rules.specs.Lines.{shapedBy, fixFields, bLine}
 use Rattle.rules.specs.Order.{noFlight}
 use Rattle.rules.specs.Files.{verdict, tableAfter, goodLines}
-use Rattle.rules.specs.Listing.{okText, fixShown, columnShown, columnsShown, lineShown, fixesShown, listedAs, listing}
+use Rattle.rules.specs.Listing.{okText, lineShown, fixesShown, listedAs, listing}
 use Rattle.rules.specs.declared.Reason.the-variants.{BadValue, InputOver}
-use Rattle.rules.specs.declared.Family.the-variants as family
-use Rattle.rules.specs.declared.Entry.{Entry}
 use Rattle.rules.specs.declared.Layout.{Layout}
-use Rattle.rules.specs.declared.Fix.{Fix}
-use Rattle.show.specs.Lines.{columnLine}
-use Rattle.show.proofs.Callers.{column-spelt, shown-text}
-use Rattle.trips.proofs.Laws.{and-inv, need-inv, refuses-says}
-use Rattle.laws.proofs.Splitting.{textsOf}
-use Rattle.laws.proofs.Counted.{lines-counted, line-by-number, textOf}
-use Rattle.pages.specs.Pages.{opened, firstLine, Begins, page, behind, Leaf, fixLeaf, fixPage, columnPage, leafAt, joined}
 use Rattle.rules.specs.declared.Flight.{Flight}
+use Rattle.pieces.proofs.Callers.{shown-text}
+use Rattle.trips.proofs.Laws.{need-inv, then-inv, refuses-says}
+use Rattle.laws.proofs.Splitting.{Whole, textsOf, line-at, none-left}
+use Rattle.laws.proofs.Counted.{lines-counted, entry-put, line-by-number}
+use Rattle.laws.proofs.Counted as counted
+use Rattle.demands.specs.Grammar.{Each}
+use Rattle.demands.specs.Readings.{ReadsFix, ReadsLine}
+use Rattle.demands.proofs.Demands.{readable}
+use Rattle.block.specs.Blocks.{endOf, textAt, printed, Leaf, leaf, before, printedAt, leafFrom, leafAt, joined}
+use Rattle.pages.specs.Pages.{opened, firstLine, Begins}
 use Rattle.pages.specs.declared.Begun.{Begun}
-use Rattle.pages.specs.declared.Page.{Page}
-use Rattle.pages.proofs.Laws.{take-most}
-
--- ---- the entries of a layout by which a fix was read
-
-abbrev AllSpelt : List Entry → Type 0
-AllSpelt [] = Unit {0}
-AllSpelt (e ∷ es) = (isSpelt e ≡ true) × AllSpelt es
-
-all-spelt : (es : List Entry) (start : ℕ) (before : Layout) → allPlaced es start before ≡ true → AllSpelt es
-unfolding allPlaced
-all-spelt [] start before h = tt
-all-spelt (e ∷ es) start before h =
-    let a = and-inv (isSpelt e && isSaid (placed start before e 0)) _ h in
-    (and-inv (isSpelt e) (isSaid (placed start before e 0)) (a .0) .0, all-spelt es (e .last + 1) (withEntry before e) (a .1))
-
-spelt-from : (n : ℕ) (es : List Entry) → AllSpelt es → AllSpelt (drop n es)
-spelt-from zero es h = h
-spelt-from (suc n) [] h = tt
-spelt-from (suc n) (e ∷ es) h = spelt-from n es (h .1)
-
--- at most 13 entries, each of three characters
-abbrev Showable : Layout → Type 0
-Showable layout = (length (entriesOf layout) ≤ 13) × AllSpelt (entriesOf layout)
-
-showable : (layout : Layout) → allowed 36 layout ≡ true → Showable layout
-unfolding allowed
-showable layout h =
-    let a = and-inv (leb (layout .count) 13 && allPlaced (entriesOf layout) 36 emptyLayout) _ h in
-    let b = and-inv (leb (layout .count) 13) _ (a .0) in
-    (omega (arith, take-most (layout .count) (layout .entries), leb-true (layout .count) 13 (b .0)), all-spelt (entriesOf layout) 36 emptyLayout (b .1))
-
-fix-by : (l : List ℕ) (layout : Layout) (f : Fix) → fixSaid l layout ≡ says f → Showable layout
-unfolding fixSaid
-fix-by l layout f h =
-    let laid = need-inv (eqb (getD l 0 0) (code "B")) (no BadValue 0) (says f) (λ _. withLayout family.B layout λ _. bLine layout l) refuses-says h .1 in
-    showable layout (need-inv (allowed 36 layout) (no BadValue 0) (says f) (λ _. bLine layout l) refuses-says laid .0)
-
--- ---- the pages
-
-one-on : (n i : ℕ) → n + 1 + i ≡ n + suc i
-one-on n i = omega arith
-
-back-one : (e : ℕ) → e + 1 - 1 ≡ e
-back-one e = omega arith
 
 module _ (file table : List ℕ) (lines : ℕ) (layout : Layout) where
-  abbrev pages : ℕ → Page → List ℕ
-  pages k p = joined file table lines layout k p
+  abbrev printedFor : ℕ → List ℕ
+  printedFor passed = printedAt file table lines layout passed
 
-  abbrev lineBehind : ℕ → List ℕ
-  lineBehind passed = lineText file (boundsOf file table (passed + 1))
+  -- what is printed for `k` lines, one after the other
+  abbrev allPrinted : ℕ → ℕ → List ℕ
+  allPrinted zero passed = []
+  allPrinted (suc k) passed = printedFor passed ++ allPrinted k (passed + 1)
 
-  abbrev entries : List Entry
-  entries = entriesOf layout
+  -- ---- the lines of a table of their offsets
 
-  done-joined : (k passed : ℕ) → lines ≤ passed → pages k (page passed 0) ≡ []
-  unfolding joined leafAt
-  done-joined zero passed h = refl
-  done-joined (suc k) passed h = rw (le-leb lines passed h)
+  -- the table has these offsets from an entry on
+  abbrev Entered : ℕ → ℕ → Lines → Type 0
+  Entered passed at ls = (i : ℕ) → i < length (textsOf ls) → getD table (passed + i) 0 ≡ getD (offsets at ls) i 0
 
-  fix-joined : (k passed : ℕ) (s : Said Fix) → passed < lines → fixSaid (lineBehind passed) layout ≡ s
-      → pages (suc k) (page passed 0) ≡ fixLeaf passed layout s .text ++ pages k (fixLeaf passed layout s .next)
-  unfolding joined leafAt fixPage
-  fix-joined k passed s h e = rw (lt-leb lines passed h, e)
+  end-there : (ls : Lines) (t : List ℕ) (at passed : ℕ) → at + length t + 2 ≤ length file → linesOf (drop (at + length t + 2) file) ≡ ls → Whole ls
+      → passed + suc (length (textsOf ls)) ≡ lines → Entered passed at (line t ls) → endOf table lines passed (length file) ≡ at + length t
+  unfolding endOf offsets
+  end-there end t at passed h e w c g =
+      let none : length file - (at + length t + 2) ≡ 0 = sym (length-drop (at + length t + 2) file) ∙ ap length (none-left (drop (at + length t + 2) file) e) in
+      rw (le-ltb (passed + 1) lines (omega arith)) (omega arith)
+  end-there (broken n) t at passed h e w c g = absurd w
+  end-there (line u ls) t at passed h e w c g =
+      rw (lt-ltb (passed + 1) lines (omega arith), g 1 (omega arith)) (omega arith)
 
-  column-joined : (k passed e : ℕ) → passed < lines → e < length entries → isSpelt (getD entries e unused) ≡ true
-      → pages (suc k) (page passed (e + 1)) ≡ columnShown (lineBehind passed) (getD entries e unused) ++ pages k (behind passed (e + 1) (length entries))
-  unfolding joined leafAt columnPage
-  column-joined k passed e h i s =
-      rw (lt-leb lines passed h, ne-eqb (e + 1) 0 (λ z. omega arith), back-one e, lt-leb (length entries) e i, column-spelt (lineBehind passed) (getD entries e unused) s)
+  text-there : (ls : Lines) (t : List ℕ) (at passed : ℕ) → linesOf (drop at file) ≡ line t ls → Whole ls → passed + suc (length (textsOf ls)) ≡ lines → Entered passed at (line t ls)
+      → textAt file table lines passed ≡ t
+  unfolding textAt offsets
+  text-there ls t at passed e w c g =
+      let l = line-at file at t ls e in
+      let from : getD table passed 0 ≡ at = rw add-zero at (g 0 (omega arith)) in
+      let to = end-there ls t at passed (l .inside) (l .after) w c g in
+      rw (from, to, le-leb at (at + length t) (omega arith), le-leb (at + length t) (length file) (omega (arith, l .inside))) (l .text)
 
-  -- the columns from an entry on, and what comes behind the line
-  module _ (passed m : ℕ) (h : passed < lines) (after : List ℕ) (then : (k : ℕ) → m ≤ k → pages k (page (passed + 1) 0) ≡ after) where
-    columns-joined : (d k e : ℕ) → e + d ≡ length entries → AllSpelt (drop e entries) → d + m ≤ k
-        → pages k (behind passed e (length entries)) ≡ columnsShown (lineBehind passed) (drop e entries) ++ after
-    unfolding behind columnsShown
-    columns-joined zero k e i s b =
-        rw (le-ltb e (length entries) (omega arith), drop-of-length-le entries {i = e} (omega arith)) (then k (omega arith))
-    columns-joined (suc d) zero e i s b = let z : ⊥ = omega arith in absurd z
-    columns-joined (suc d) (suc k) e i s b =
-        let low : e < length entries = omega arith in
-        let cut = drop-cons entries e unused low in
-        let s′ : AllSpelt (getD entries e unused ∷ drop (suc e) entries) = subst AllSpelt cut s in
-        let next = columns-joined d k (e + 1) (omega arith) (subst (λ n. AllSpelt (drop n entries)) (sym (add-one e)) (s′ .1)) (omega arith) in
-        let same : columnsShown (lineBehind passed) (drop (e + 1) entries) ≡ columnsShown (lineBehind passed) (drop (suc e) entries) =
-        ap (λ n. columnsShown (lineBehind passed) (drop n entries)) (add-one e) in
-        rw (lt-ltb e (length entries) low, column-joined k passed e h low (s′ .0), next, same, cut)
-        (sym (append-assoc (columnShown (lineBehind passed) (getD entries e unused)) (columnsShown (lineBehind passed) (drop (suc e) entries)) after))
+  -- ---- what is printed for each
 
-    line-joined : (k : ℕ) (s : Said Fix) → fixSaid (lineBehind passed) layout ≡ s → 13 + m ≤ k
-        → fixLeaf passed layout s .text ++ pages k (fixLeaf passed layout s .next) ≡ lineShown (passed + 1) layout (lineBehind passed) s ++ after
-    unfolding fixLeaf lineShown
-    line-joined k (says f) e b =
-        let w = fix-by (lineBehind passed) layout f e in
-        rw (columns-joined (length entries) k 0 (omega arith) (w .1) (omega (arith, w .0)))
-        (sym (append-assoc (fixShown (passed + 1) f) (columnsShown (lineBehind passed) entries) after))
-    line-joined k (refuses n l c) e b = then k (omega arith)
+  -- a line by the fields alone, where a B line has passed all that the check asks of it
+  as-read : (passed : ℕ) (t : List ℕ) → (getD t 0 0 ≡ code "B" → ReadsFix layout t) → printed passed layout t ≡ lineShown (passed + 1) layout t (fixSaid t layout)
+  unfolding printed lineShown fixSaid bLine
+  as-read passed t reads = by (eqb (getD t 0 0) (code "B")) refl
+    where
+      by : (b : Bool) → eqb (getD t 0 0) (code "B") ≡ b → (need b [] λ _. lineShown (passed + 1) layout t (fixFields t)) ≡ lineShown (passed + 1) layout t (fixSaid t layout)
+      by false e = rw e
+      by true e =
+          let r = reads (eqb-true (getD t 0 0) (code "B") e) in
+          let b = need-inv (eqb (getD t 0 0) (code "B")) _ (says (r .fix)) _ refuses-says (r .reads) in
+          let c = need-inv (allowed 36 layout) _ (says (r .fix)) _ refuses-says (b .1) in
+          let d = then-inv (shapedBy 36 layout t) (r .fix) _ (c .1) in
+          let f = then-inv (fixFields t) (r .fix) _ (d .2) in
+          let g = then-inv (columns t layout) (r .fix) _ (f .2) in
+          let same : fixFields t ≡ fixSaid t layout = f .1 ∙ g .2 ∙ sym (r .reads) in
+          ap (lineShown (passed + 1) layout t) same
 
-  -- the pages of the lines that are left
-  lines-joined : (ls : Lines) (passed k : ℕ) → passed + length (textsOf ls) ≡ lines → ((i : ℕ) → i < length (textsOf ls) → lineBehind (passed + i) ≡ getD (textsOf ls) i [])
-      → 14 * length (textsOf ls) ≤ k → pages k (page passed 0) ≡ fixesShown (passed + 1) layout ls
-  unfolding fixesShown
-  lines-joined end passed k c at b = done-joined k passed (omega arith)
-  lines-joined (broken n) passed k c at b = done-joined k passed (omega arith)
-  lines-joined (line t ls) passed zero c at b = let z : ⊥ = omega arith in absurd z
-  lines-joined (line t ls) passed (suc k) c at b =
-      let low : passed < lines = omega arith in
-      let here : lineBehind passed ≡ t = rw add-zero at (at 0 (omega arith)) in
-      let later : (i : ℕ) → i < length (textsOf ls) → lineBehind (passed + 1 + i) ≡ getD (textsOf ls) i [] = λ i j. ap lineBehind (one-on passed i) ∙ at (suc i) (omega (arith, j)) in
-      let rest : (j : ℕ) → 14 * length (textsOf ls) ≤ j → pages j (page (passed + 1) 0) ≡ fixesShown (passed + 1 + 1) layout ls = λ j m. lines-joined ls (passed + 1) j (omega arith) later m in
-      fix-joined k passed (fixSaid (lineBehind passed) layout) low refl
-      ∙ line-joined passed (14 * length (textsOf ls)) low (fixesShown (passed + 1 + 1) layout ls) rest k (fixSaid (lineBehind passed) layout) refl (omega arith)
-      ∙ rw here
+  abbrev Read : Lines → Type 0
+  Read ls = (i : ℕ) → i < length (textsOf ls) → getD (getD (textsOf ls) i []) 0 0 ≡ code "B" → ReadsFix layout (getD (textsOf ls) i [])
+
+  -- the lines that are left
+  lines-printed : (ls : Lines) (at passed : ℕ) → linesOf (drop at file) ≡ ls → Whole ls → passed + length (textsOf ls) ≡ lines → Entered passed at ls → Read ls
+      → allPrinted (length (textsOf ls)) passed ≡ fixesShown (passed + 1) layout ls
+  unfolding fixesShown printedAt offsets
+  lines-printed end at passed e w c g r = refl
+  lines-printed (broken n) at passed e w c g r = absurd w
+  lines-printed (line t ls) at passed e w c g r =
+      let l = line-at file at t ls e in
+      let later : Entered (passed + 1) (at + length t + 2) ls = λ i h. ap (λ (n : ℕ). getD table n 0) (one-on passed i) ∙ g (suc i) (omega (arith, h)) in
+      rw (text-there ls t at passed e w c g, as-read passed t (r 0 (omega arith)))
+      (ap (λ (r : List ℕ). lineShown (passed + 1) layout t (fixSaid t layout) ++ r) (lines-printed ls (at + length t + 2) (passed + 1) (l .after) w (omega arith) later (λ i h. r (suc i) (omega (arith, h)))))
+    where
+      one-on : (n i : ℕ) → n + 1 + i ≡ n + suc i
+      one-on n i = omega arith
+
+  -- ---- page by page
+
+  -- a page and what is printed for the lines behind it
+  record Parted (k passed : ℕ) (s : Leaf) : Type 0 where
+    text : s .text ++ allPrinted (lines - s .next) (s .next) ≡ allPrinted k passed
+    on : passed ≤ s .next
+
+  module _ (room : ℕ) where
+    parted : (k passed used : ℕ) → passed + k ≡ lines → Parted k passed (leafFrom file table lines layout room k passed used)
+    unfolding leafFrom
+    parted zero passed used c =
+        let z : lines - passed ≡ 0 = omega arith in record { text = rw z; on = omega arith }
+    parted (suc k) passed used c = by (ltb room (used + 4096)) (parted k (passed + 1) (used + length (printedFor passed)) (omega arith))
+      where
+        by : (b : Bool) {s : Leaf} → Parted k (passed + 1) s → Parted (suc k) passed (cond b (leaf [] passed) (before (printedFor passed) s))
+        by true {s} p = let z : lines - passed ≡ suc k = omega arith in record { text = rw z; on = omega arith }
+        by false {s} p = record {
+          text = append-assoc (printedFor passed) (s .text) (allPrinted (lines - s .next) (s .next)) ∙ ap (λ (r : List ℕ). printedFor passed ++ r) (p .text);
+          on = omega (arith, p .on);
+        }
+
+    module _ (enough : 4096 ≤ room) where
+      -- each page passes a line at least
+      moves : (k passed : ℕ) → passed + suc k ≡ lines → passed < leafFrom file table lines layout room (suc k) passed 0 .next
+      unfolding leafFrom
+      moves k passed c =
+          let free : ltb room (0 + 4096) ≡ false = le-ltb room (0 + 4096) (omega arith) in
+          rw free (omega (arith, parted k (passed + 1) (0 + length (printedFor passed)) (omega arith) .on))
+
+      pages-printed : allowed 36 layout ≡ true → (k passed : ℕ) → lines - passed ≤ k → joined file table lines layout room k passed ≡ allPrinted (lines - passed) passed
+      unfolding joined leafAt
+      pages-printed ok zero passed h = let z : lines - passed ≡ 0 = omega arith in rw z
+      pages-printed ok (suc k) passed h = by (leb lines passed) refl (λ p. pages-printed ok k p)
+        where
+          one-less : passed < lines → lines - passed ≡ suc (lines - (passed + 1))
+          one-less low = omega arith
+
+          page : Leaf
+          page = leafFrom file table lines layout room (lines - passed) passed 0
+
+          by : (b : Bool) → leb lines passed ≡ b → ((p : ℕ) → lines - p ≤ k → joined file table lines layout room k p ≡ allPrinted (lines - p) p)
+              → cond b [] (leafAt file table lines layout room passed .text ++ joined file table lines layout room k (leafAt file table lines layout room passed .next)) ≡ allPrinted (lines - passed) passed
+          by true e later = let z : lines - passed ≡ 0 = omega (arith, leb-true lines passed e) in rw z
+          by false e later =
+              let low : passed < lines = leb-false lines passed e in
+              let more : passed < page .next = rw (one-less low) (moves (lines - (passed + 1)) passed (omega arith)) in
+              let p : Parted (lines - passed) passed page = parted (lines - passed) passed 0 (omega arith) in
+              rw ok (ap (λ (r : List ℕ). page .text ++ r) (later (page .next) (omega arith)) ∙ p .text)
+
+  -- ---- a layout that is not allowed reads no fix
+
+  module _ (not-ok : allowed 36 layout ≡ false) where
+    no-line : (n : ℕ) (t : List ℕ) → lineShown n layout t (fixSaid t layout) ≡ []
+    unfolding lineShown fixSaid
+    no-line n t = rw not-ok (by (eqb (getD t 0 0) (code "B")))
+      where
+        by : (b : Bool) → lineShown n layout t (need b (no BadValue 0) λ _. no BadValue 0) ≡ []
+        by true = refl
+        by false = refl
+
+    no-lines : (ls : Lines) (n : ℕ) → fixesShown n layout ls ≡ []
+    unfolding fixesShown
+    no-lines end n = refl
+    no-lines (broken k) n = refl
+    no-lines (line t ls) n = rw (no-line n t) (no-lines ls (n + 1))
+
+    none-behind : (room k : ℕ) → joined file table lines layout room k lines ≡ []
+    unfolding joined
+    none-behind room zero = refl
+    none-behind room (suc k) = rw (le-leb lines lines (omega arith))
+
+    no-pages : (room k passed : ℕ) → joined file table lines layout room k passed ≡ []
+    unfolding joined leafAt
+    no-pages room zero passed = refl
+    no-pages room (suc k) passed = rw not-ok (by (leb lines passed))
+      where
+        by : (b : Bool) → cond b [] ([] ++ joined file table lines layout room k lines) ≡ []
+        by true = refl
+        by false = none-behind room k
 
 -- ---- the whole listing
 
--- behind the first line of an accepted file, by its table and what the check said of it
-pages-left : (file table : List ℕ) (f : Flight) → verdict file (length table) ≡ says f
-    → joined file (tableAfter file table) (f .lines) (f .fixes) (14 * f .lines) (page 0 0) ≡ fixesShown 1 (f .fixes) (linesOf file)
-unfolding goodLines
-pages-left file table f e =
-    let many = lines-counted file (length table) f e in
-    let there : (i : ℕ) → i < length (textsOf (linesOf file)) → lineText file (boundsOf file (tableAfter file table) (0 + i + 1)) ≡ getD (textsOf (linesOf file)) i [] =
-    λ i h. by-place i (line-by-number file table (i + 1) (omega arith) (rw e (omega (arith, many))) .bytes) in
-    lines-joined file (tableAfter file table) (f .lines) (f .fixes) (linesOf file) 0 (14 * f .lines) (omega (arith, many)) there (omega (arith, many))
-  where
-    by-place : (i : ℕ) → lineText file (boundsOf file (tableAfter file table) (i + 1)) ≡ textOf file (i + 1)
-        → lineText file (boundsOf file (tableAfter file table) (0 + i + 1)) ≡ getD (textsOf (linesOf file)) i []
-    by-place i h =
-        let z : 0 + i + 1 ≡ i + 1 = omega arith in
-        ap (λ n. lineText file (boundsOf file (tableAfter file table) n)) z ∙ h ∙ ap (λ n. getD (textsOf (linesOf file)) n []) (back-one i)
+back-one : (n : ℕ) → n + 1 - 1 ≡ n
+back-one n = omega arith
 
-module _ (most : ℕ) (file table : List ℕ) where
+each-at : (P : List ℕ → Type 0) (ls : List (List ℕ)) (i : ℕ) → i < length ls → Each P ls → P (getD ls i [])
+each-at P [] i h p = let z : ⊥ = omega arith in absurd z
+each-at P (l ∷ ls) zero h p = p .0
+each-at P (l ∷ ls) (suc i) h p = each-at P ls i (omega arith) (p .1)
+
+-- behind the first line of an accepted file, by its table and what the check said of it
+pages-left : (file table : List ℕ) (f : Flight) (room : ℕ) → 4096 ≤ room → verdict file (length table) ≡ says f
+    → joined file (tableAfter file table) (f .lines) (f .fixes) room (f .lines) 0 ≡ fixesShown 1 (f .fixes) (linesOf file)
+unfolding goodLines
+pages-left file table f room enough e = by (allowed 36 (f .fixes)) refl
+  where
+    many : f .lines ≡ length (textsOf (linesOf file))
+    many = lines-counted file (length table) f e
+
+    there : (i : ℕ) → i < length (textsOf (linesOf file)) → getD (tableAfter file table) (0 + i) 0 ≡ getD (offsets 0 (linesOf file)) i 0
+    there i h = rw zero-add (entry-put file table i 0 (rw e (omega (arith, many))))
+
+    read : (i : ℕ) → i < length (textsOf (linesOf file)) → getD (getD (textsOf (linesOf file)) i []) 0 0 ≡ code "B" → ReadsFix (f .fixes) (getD (textsOf (linesOf file)) i [])
+    read i h =
+        let r = readable file table f e in
+        let low : i < length (r .lines) = omega (arith, many, r .counted) in
+        let same : getD (r .lines) i [] ≡ getD (textsOf (linesOf file)) i [] = sym (r .numbered i low) ∙ line-by-number file table (i + 1) (omega arith) (rw e (omega (arith, many))) .bytes ∙ ap (λ n. getD (textsOf (linesOf file)) n []) (back-one i) in
+        subst (λ (l : List ℕ). getD l 0 0 ≡ code "B" → ReadsFix (f .fixes) l) same (each-at (ReadsLine (f .fixes) (f .extras)) (r .lines) i low (r .reads) .b)
+
+    by : (b : Bool) → allowed 36 (f .fixes) ≡ b
+        → joined file (tableAfter file table) (f .lines) (f .fixes) room (f .lines) 0 ≡ fixesShown 1 (f .fixes) (linesOf file)
+    by true ok =
+        let all : f .lines - 0 ≡ length (textsOf (linesOf file)) = omega (arith, many) in
+        pages-printed file (tableAfter file table) (f .lines) (f .fixes) room enough ok (f .lines) 0 (omega arith)
+        ∙ rw all (lines-printed file (tableAfter file table) (f .lines) (f .fixes) (linesOf file) 0 0 refl (counted.accepted-whole file (length table) f e) (omega (arith, many)) there read)
+    by false not-ok = no-pages file (tableAfter file table) (f .lines) (f .fixes) not-ok room (f .lines) 0 ∙ sym (no-lines file (tableAfter file table) (f .lines) (f .fixes) not-ok (linesOf file) 1)
+
+module _ (most : ℕ) (file table : List ℕ) (room : ℕ) (enough : 4096 ≤ room) where
   abbrev kept : List ℕ
   kept = cond (leb (length file) most) (tableAfter file table) table
 
   abbrev lefts : Said Flight → List ℕ
-  lefts s = joined file kept ((valueOr noFlight s) .lines) ((valueOr noFlight s) .fixes) (14 * (valueOr noFlight s) .lines) (page 0 0)
+  lefts s = joined file kept ((valueOr noFlight s) .lines) ((valueOr noFlight s) .fixes) room ((valueOr noFlight s) .lines) 0
 
   accepted-pages : (f : Flight) → opened most file (length table) ≡ says f → lefts (says f) ≡ fixesShown 1 (f .fixes) (linesOf file)
   unfolding opened
   accepted-pages f e =
       let a = need-inv (leb (length file) most) (no InputOver 0) (says f) (λ _. verdict file (length table)) refuses-says e in
-      rw (a .0) (pages-left file table f (a .1))
+      rw (a .0) (pages-left file table f room enough (a .1))
 
   listed-by : (s : Said Flight) → opened most file (length table) ≡ s → firstLine s ++ lefts s ≡ listedAs file s
   unfolding firstLine listedAs joined
   listed-by (says f) e = ap (λ x. okText f ++ x) (accepted-pages f e)
   listed-by (refuses n l b) e = append-nil _
 
--- The OK line of an accepted file and behind it the texts of its pages, by its table and what the check said of it, are its listing.
-pub accepted-whole : (file table : List ℕ) (f : Flight) → verdict file (length table) ≡ says f
-    → okText f ++ joined file (tableAfter file table) (f .lines) (f .fixes) (14 * f .lines) (page 0 0) ≡ listedAs file (verdict file (length table))
+-- The OK line of an accepted file and behind it the pages that blocks of a size take, by its table and what the check said of it, are its listing: a block for each
+-- line at most, and each of 4,096 bytes at least.
+pub accepted-whole : (file table : List ℕ) (f : Flight) (room : ℕ) → 4096 ≤ room → verdict file (length table) ≡ says f
+    → okText f ++ joined file (tableAfter file table) (f .lines) (f .fixes) room (f .lines) 0 ≡ listedAs file (verdict file (length table))
 unfolding listedAs
-accepted-whole file table f e = rw e (ap (λ x. okText f ++ x) (pages-left file table f e))
+accepted-whole file table f room enough e = rw e (ap (λ x. okText f ++ x) (pages-left file table f room enough e))
 
--- What `begin` put, and behind it the texts of the pages from the first on, 14 for each line at most, are the listing of the file.
-pub listed-whole : (most : ℕ) (file table out : List ℕ) (r : Begun) (entries after : List ℕ) → Begins most file table out r entries after
-    → take (r .count) after ++ joined file entries (r .lines) (r .layout) (14 * r .lines) (page 0 0) ≡ listedAs file (opened most file (length table))
-listed-whole most file table out r entries after b =
-    rw (shown-text (b .shown), b .lines, b .layout, b .entered) (listed-by most file table (opened most file (length table)) refl)
+-- What `begin` put, and behind it the pages from the first on, a block for each line at most, are the listing of the file.
+pub listed-whole : (most : ℕ) (file table out : List ℕ) (r : Begun) (entries after : List ℕ) (room : ℕ) → 4096 ≤ room → Begins most file table out r entries after
+    → take (r .count) after ++ joined file entries (r .lines) (r .layout) room (r .lines) 0 ≡ listedAs file (opened most file (length table))
+listed-whole most file table out r entries after room enough b =
+    rw (shown-text (b .shown), b .lines, b .layout, b .entered) (listed-by most file table room enough (opened most file (length table)) refl)
 
 -- with the most bytes and the room that document 01 gives the listing program, it is `listing`
-pub listing-whole : (input table out : List ℕ) (r : Begun) (entries after : List ℕ) → length table ≡ 16384 → Begins 65536 input table out r entries after
-    → take (r .count) after ++ joined input entries (r .lines) (r .layout) (14 * r .lines) (page 0 0) ≡ listing input
+pub listing-whole : (input table out : List ℕ) (r : Begun) (entries after : List ℕ) (room : ℕ) → length table ≡ 16384 → 4096 ≤ room → Begins 65536 input table out r entries after
+    → take (r .count) after ++ joined input entries (r .lines) (r .layout) room (r .lines) 0 ≡ listing input
 unfolding opened listing
-listing-whole input table out r entries after room b = listed-whole 65536 input table out r entries after b ∙ rw room
+listing-whole input table out r entries after room sixteen enough b = listed-whole 65536 input table out r entries after room enough b ∙ rw sixteen

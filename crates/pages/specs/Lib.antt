@@ -1,2 +1,2 @@
--- The listing as its pages.
+-- The first line of the listing.
 pub mod Pages

@@ -1,51 +1,21 @@
--- What is put into an output: bytes one after the other, where they have room; and the lengths of what is put. Assumes nothing.
+-- What is put into an output: bytes one after the other, where they have room; and how many digits are put. Assumes nothing.
 use Prim.Native.Nat.{ℕ, zero, suc, _+_, _-_, _/_, _%_, _≤_, _<_}
-use mathlib.Core.Bool.{Bool, true, false}
 use mathlib.Core.List.{List, [], _∷_, _++_}
 use mathlib.Core.Path.{_≡_, refl, sym, _∙_, ap}
 use native.Mathlib.Nat.{add-zero}
 use native.Mathlib.Numerals.{add-one, sub-one}
 use native.Mathlib.Omega.{arith}
-use borrow.Author.Tests.{le-leb, lt-leb, le-ltb}
-use lib.Dec.{leb·zero}
-use lib.IntN.{ℤ, pos, negsuc, natAbs, _-ℤ_}
+use borrow.Author.Tests.{le-leb, lt-leb}
 use lib.ListN.{length, getD, drop, set, length-append, drop-of-length-le}
 use lib.Seq.{sets, length-sets, set-comm, drop-cons}
-use lib.Signed.{mag, nonNeg, leZ}
 use Rattle.rules.specs.Numbers.{digitsOf}
-use Rattle.rules.specs.Fields.{timeText, dateText, positionText, metresText, altitudeText}
 use Rattle.rules.specs.Writes.{putAt}
-use Rattle.rules.specs.declared.Date.{Date}
-use Rattle.rules.specs.declared.Position.{Position}
-use Rattle.rules.specs.declared.Height.{Height}
 use Rattle.put.specs.Puts.{Fills}
-
--- ---- lengths
 
 pub digits-length : (n v : ℕ) → length (digitsOf n v) ≡ n
 unfolding digitsOf
 digits-length zero v = refl
 digits-length (suc n) v = simp (length-append, digits-length n (v / 10)) (add-one n)
-
-pub time-length : (t : ℕ) → length (timeText t) ≡ 6
-unfolding timeText
-time-length t = simp (length-append, digits-length)
-
-pub date-length : (d : Date) → length (dateText d) ≡ 6
-unfolding dateText
-date-length d = simp (length-append, digits-length)
-
-pub position-length : (width : ℕ) (p : Position) → length (positionText width p) ≡ width + 6
-unfolding positionText
-position-length width p = simp (length-append, digits-length)
-
-metres-length : (z : ℤ) → length (metresText z) ≡ 5
-metres-length (pos n) = digits-length 5 n
-metres-length (negsuc n) = ap suc (digits-length 4 (n + 1))
-
-pub altitude-length : (h : Height) → length (altitudeText h) ≡ 5
-unfolding altitudeText
-altitude-length h = metres-length (h .metres)
 
 -- ---- bytes put one after the other
 
@@ -117,57 +87,8 @@ byte-then x l l₁ at v b = put-then x l l₁ at (v ∷ []) b 1 refl
 pub digits-then : (x l l₁ : List ℕ) (at n v : ℕ) (b : List ℕ) → l₁ ≡ putAt l at (digitsOf n v) → Fills l₁ (at + n) b x → Fills l at (digitsOf n v ++ b) x
 digits-then x l l₁ at n v b = put-then x l l₁ at (digitsOf n v) b n (digits-length n v)
 
-pub time-then : (x l l₁ : List ℕ) (at t : ℕ) (b : List ℕ) → l₁ ≡ putAt l at (timeText t) → Fills l₁ (at + 6) b x → Fills l at (timeText t ++ b) x
-time-then x l l₁ at t b = put-then x l l₁ at (timeText t) b 6 (time-length t)
-
-pub date-then : (x l l₁ : List ℕ) (at : ℕ) (d : Date) (b : List ℕ) → l₁ ≡ putAt l at (dateText d) → Fills l₁ (at + 6) b x → Fills l at (dateText d ++ b) x
-date-then x l l₁ at d b = put-then x l l₁ at (dateText d) b 6 (date-length d)
-
-pub position-then : (x l l₁ : List ℕ) (at width : ℕ) (p : Position) (b : List ℕ) → l₁ ≡ putAt l at (positionText width p) → Fills l₁ (at + (width + 6)) b x
-    → Fills l at (positionText width p ++ b) x
-position-then x l l₁ at width p b = put-then x l l₁ at (positionText width p) b (width + 6) (position-length width p)
-
-pub altitude-then : (x l l₁ : List ℕ) (at : ℕ) (h : Height) (b : List ℕ) → l₁ ≡ putAt l at (altitudeText h) → Fills l₁ (at + 5) b x → Fills l at (altitudeText h ++ b) x
-altitude-then x l l₁ at h b = put-then x l l₁ at (altitudeText h) b 5 (altitude-length h)
-
 pub text-then : (x l l₁ : List ℕ) (at : ℕ) (t b : List ℕ) → l₁ ≡ putAt l at t → Fills l₁ (at + length t) b x → Fills l at (t ++ b) x
 text-then x l l₁ at t b = put-then x l l₁ at t b (length t) refl
 
--- a field of its digits, and a line of its fields
+-- a field of its digits
 pub ruleset puts = (put-last, byte-then, digits-then)
-
-pub ruleset fields = (put-last, byte-then, time-then, date-then, position-then, altitude-then)
-
--- ---- signs
-
--- of a negative z: -1 - z is its size less one
-pub turned : (z : ℤ) → nonNeg z ≡ false → negsuc 0 -ℤ z ≡ pos (mag z)
-turned (pos n) h = let e : _≡_ {A = ℕ} 0 1 = cc in absurd (omega arith)
-turned (negsuc k) h = rw (le-ltb (suc k) 1 (omega arith)) (ap pos (omega arith))
-
-pub one-more : (z : ℤ) → nonNeg z ≡ false → mag z + 1 ≡ natAbs z
-one-more (pos n) h = let e : _≡_ {A = ℕ} 0 1 = cc in absurd (omega arith)
-one-more (negsuc k) h = omega arith
-
-pub zero-below : (z : ℤ) → leZ (pos 0) z ≡ nonNeg z
-zero-below (pos n) = leb·zero n
-zero-below (negsuc n) = refl
-
--- an altitude's text by its sign and its size
-plain-metres : (z : ℤ) → nonNeg z ≡ true → metresText z ≡ digitsOf 5 (natAbs z)
-plain-metres (pos n) h = refl
-plain-metres (negsuc n) h = let e : _≡_ {A = ℕ} 0 1 = cc in absurd (omega arith)
-
-minus-metres : (z : ℤ) → nonNeg z ≡ false → metresText z ≡ 45 ∷ digitsOf 4 (natAbs z)
-minus-metres (pos n) h = let e : _≡_ {A = ℕ} 0 1 = cc in absurd (omega arith)
-minus-metres (negsuc n) h = rw add-one
-
--- r is what the test of the sign said, and m the size
-module _ (x l : List ℕ) (at : ℕ) (h : Height) (r : Bool) (m : ℕ) (e : r ≡ nonNeg (h .metres)) (f : m ≡ natAbs (h .metres)) where
-  pub plain-fills : r ≡ true → Fills l at (digitsOf 5 m) x → Fills l at (altitudeText h) x
-  unfolding altitudeText
-  plain-fills g p = rw (plain-metres (h .metres) (sym e ∙ g), ← f) p
-
-  pub minus-fills : r ≡ false → Fills l at (45 ∷ digitsOf 4 m) x → Fills l at (altitudeText h) x
-  unfolding altitudeText
-  minus-fills g p = rw (minus-metres (h .metres) (sym e ∙ g), ← f) p

@@ -1,9 +1,7 @@
 // The readers of a line, total on every line and every layout: 17 first, then the checks of its kind, then 19 and 20; with 0 for the line number.
 ghost use mathlib.Core.Path.{_≡_};
-ghost use Rattle.rules.specs.Refusals.{outcomeTold};
-ghost use Rattle.rules.specs.Reads.{lineSaid, layoutLetter};
+ghost use Rattle.rules.specs.Reads.{layoutLetter};
 ghost use Rattle.rules.specs.Promises.{EventGiven, SatellitesGiven, DateGiven, HeadGiven, HeadRest, PointGiven, PointRest, FixGiven, ExtraGiven, ColumnGiven, ColumnRest, NumberGiven, LayoutGiven};
-use layout::Spot;
 use rules::ColumnRead;
 use rules::DateRead;
 use rules::Family;
@@ -12,12 +10,10 @@ use rules::HeadRead;
 use rules::Layout;
 use rules::LayoutRead;
 use rules::NumberRead;
-use rules::Outcome;
 use rules::PointRead;
 use rules::Reason;
 use rules::Refusal;
 use rules::TimeRead;
-use rules::Whole;
 
 // The time of an E line. BAD_VALUE for another kind; then what `line::event` refuses.
 pub fn event(line: &[u8]) -> TimeRead
@@ -119,13 +115,6 @@ pub fn point_rest(line: &[u8]) -> &[u8]
 pub fn fix(line: &[u8], layout: Layout) -> FixRead
     ensures { λ r. ⌜ FixGiven (now (line .entry)) layout r ⌝ }
 {
-    if chars::byte(line, 0) != b'B' {
-        return FixRead::Refused(Refusal {
-            reason: Reason::BadValue,
-            line: 0,
-            byte: 0,
-        });
-    }
     if !layout::allowed(Family::B, layout) {
         return FixRead::Refused(Refusal {
             reason: Reason::BadValue,
@@ -133,20 +122,13 @@ pub fn fix(line: &[u8], layout: Layout) -> FixRead
             byte: 0,
         });
     }
-    line::fix_line(line, layout)
+    known::fix(line, layout)
 }
 
 // The time of a K line by its J layout. BAD_VALUE for another kind or a layout that is not allowed; then what `line::extra_line` refuses.
 pub fn extra(line: &[u8], layout: Layout) -> TimeRead
     ensures { λ r. ⌜ ExtraGiven (now (line .entry)) layout r ⌝ }
 {
-    if chars::byte(line, 0) != b'K' {
-        return TimeRead::Refused(Refusal {
-            reason: Reason::BadValue,
-            line: 0,
-            byte: 0,
-        });
-    }
     if !layout::allowed(Family::K, layout) {
         return TimeRead::Refused(Refusal {
             reason: Reason::BadValue,
@@ -154,41 +136,21 @@ pub fn extra(line: &[u8], layout: Layout) -> TimeRead
             byte: 0,
         });
     }
-    line::extra_line(line, layout)
-}
-
-// Whether a B or a K line is one that its layout allows. BAD_VALUE for another kind or layout; then what its check refuses.
-fn by_layout(line: &[u8], layout: Layout) -> Outcome
-    ensures { λ r. ⌜ outcomeTold r ≡ lineSaid (now (line .entry)) layout ⌝ }
-{
-    if chars::byte(line, 0) == b'B' {
-        return match fix(line, layout) {
-            FixRead::Is(_) => Outcome::Accepted,
-            FixRead::Refused(r) => Outcome::Refused(r),
-        };
-    }
-    match extra(line, layout) {
-        TimeRead::Secs(_) => Outcome::Accepted,
-        TimeRead::Refused(r) => Outcome::Refused(r),
-    }
+    known::extra(line, layout)
 }
 
 // Where the column of a code, any three bytes, stands in a B or a K line. BAD_VALUE for another kind or layout, what the line's check refuses, then ABSENT.
 pub fn column_of(line: &[u8], layout: Layout, code: [u8; 3]) -> ColumnRead
     ensures { λ r. ⌜ ColumnGiven (now (line .entry)) layout code r ⌝ }
 {
-    if let Outcome::Refused(r) = by_layout(line, layout) {
-        return ColumnRead::Refused(r);
-    }
-    let x = layout::pack(code[0], code[1], code[2]);
-    let Spot::At(first, last) = layout::look(layout, x) else {
+    if !layout::allowed(known::family(b'B', line), layout) {
         return ColumnRead::Refused(Refusal {
-            reason: Reason::Absent,
+            reason: Reason::BadValue,
             line: 0,
             byte: 0,
         });
-    };
-    ColumnRead::Between(first, last)
+    }
+    known::column(line, layout, code)
 }
 
 // The text of that column, as a part of the line; empty where `column_of` refuses.
@@ -205,19 +167,14 @@ pub fn column_text<'a>(line: &'a [u8], layout: Layout, code: [u8; 3]) -> &'a [u8
 pub fn column_number(line: &[u8], layout: Layout, code: [u8; 3]) -> NumberRead
     ensures { λ r. ⌜ NumberGiven (now (line .entry)) layout code r ⌝ }
 {
-    match column_of(line, layout, code) {
-        ColumnRead::Refused(r) => NumberRead::Refused(r),
-        ColumnRead::Between(first, last) => {
-            let Whole::Of(z) = number::whole(column::text_of(line, first, last)) else {
-                return NumberRead::Refused(Refusal {
-                    reason: Reason::NotNumber,
-                    line: 0,
-                    byte: 0,
-                });
-            };
-            NumberRead::Is(z)
-        }
+    if !layout::allowed(known::family(b'B', line), layout) {
+        return NumberRead::Refused(Refusal {
+            reason: Reason::BadValue,
+            line: 0,
+            byte: 0,
+        });
     }
+    known::number(line, layout, code)
 }
 
 // The kind of line that tells the layout of a family.

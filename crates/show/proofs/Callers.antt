@@ -1,31 +1,18 @@
--- What a caller asks of a line that was put into its buffer; and that the column lines are those of the rules for every entry that a layout line can spell. Assumes nothing.
+-- What a caller asks of a line that was put into its buffer, which `pieces` shows of every text; and that the column lines are those of the rules for every entry that a layout line can spell. Assumes nothing.
 use Prim.Native.Nat.{ℕ, _/_, _%_, _≤_}
 use mathlib.Core.Bool.{Bool, true, false, _&&_, _||_}
 use mathlib.Core.List.{List}
-use mathlib.Core.Path.{_≡_, refl, sym, ap}
+use mathlib.Core.Path.{_≡_, refl}
 use native.Mathlib.Omega.{arith}
 use borrow.Author.Tests.{le-leb, leb-true}
 use lib.Dec.{leb}
-use lib.ListN.{length, take, drop, length-append}
-use lib.Seq.{take-at}
+pub use Rattle.pieces.proofs.Callers.{shown-text, shown-counts, shown-fits}
 use Rattle.rules.specs.Chars.{isDigit, isCode}
 use Rattle.rules.specs.Listed.{isCodeWord}
 use Rattle.rules.specs.Layouts.{isSpelt}
 use Rattle.rules.specs.Listing.{columnShown}
 use Rattle.rules.specs.declared.Entry.{Entry}
-use Rattle.show.specs.Lines.{Shown, columnLine}
-
--- ---- `&out[..r]` is the line
-
-module _ {text out after : List ℕ} {r : ℕ} (s : Shown text out r after) where
-  pub shown-text : take r after ≡ text
-  shown-text = rw (s .bytes) (take-at text (drop (length text) out) r (sym (s .count)))
-
-  pub shown-counts : r ≡ length (take r after)
-  shown-counts = rw shown-text (s .count)
-
-  pub shown-fits : r ≤ length after
-  shown-fits = omega (arith, s .count, length-append text (drop (length text) out), ap length (s .bytes))
+use Rattle.show.specs.Lines.{columnLine}
 
 -- ---- the entries of a layout that was read are shown
 

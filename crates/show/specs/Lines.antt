@@ -1,29 +1,18 @@
--- The promises of the lines that the listing prints, each put into a lent buffer; and what the pieces of a line put there, one after the other.
-use Prim.Native.Nat.{ℕ, _+_, _-_}
+-- The promises of the lines that the listing prints, each put into a lent buffer.
+use Prim.Native.Nat.{ℕ}
 use mathlib.Core.List.{List, [], _++_}
-use mathlib.Core.Path.{_≡_}
 use lib.Dec.{leb}
-use lib.ListN.{length, take, drop}
-use lib.Seq.{sets}
+pub use Rattle.pieces.specs.Buffer.{Shown}
 use Rattle.rules.specs.Choice.{need, bytes}
 use Rattle.rules.specs.Refusals.{number}
 use Rattle.rules.specs.Layouts.{lineLength}
 use Rattle.rules.specs.Listing.{shown, shownLetter, shownMetres, lf, refusedText, okText, fixShown, columnShown}
-use Rattle.rules.specs.declared.Reason.{Reason}
 use Rattle.rules.specs.declared.Refusal.{Refusal}
 use Rattle.rules.specs.declared.Entry.{Entry}
 use Rattle.rules.specs.declared.Layout.{Layout}
 use Rattle.rules.specs.declared.Position.{Position}
 use Rattle.rules.specs.declared.Fix.{Fix}
 use Rattle.rules.specs.declared.Flight.{Flight}
-
-abbrev pub NumberOf : Reason → ℕ → Type 0
-NumberOf reason r = r ≡ number reason
-
--- the buffer afterwards begins with the whole text and is behind it as it was; the answer is how many bytes the text has
-pub record Shown (text out : List ℕ) (r : ℕ) (after : List ℕ) : Type 0 where
-  pub bytes : after ≡ text ++ drop (length text) out
-  pub count : r ≡ length text
 
 abbrev pub RefusalShown : Refusal → List ℕ → ℕ → List ℕ → Type 0
 RefusalShown w out r after = Shown (refusedText (number (w .reason)) (w .line) (w .byte)) out r after
@@ -40,11 +29,6 @@ columnLine l e = need (leb (e .code) 0xFFFFFF) [] λ _. columnShown l e
 
 abbrev pub ColumnShown : List ℕ → Entry → List ℕ → ℕ → List ℕ → Type 0
 ColumnShown l e out r after = Shown (columnLine l e) out r after
-
--- a piece of a line: as much of the text as has room stands in the buffer from a place on, and the answer is the place behind it
-pub record Fills (out : List ℕ) (at : ℕ) (text : List ℕ) (r : ℕ) (after : List ℕ) : Type 0 where
-  pub bytes : after ≡ sets out at (take (length out - at) text)
-  pub next : r ≡ at + length (take (length out - at) text)
 
 -- ---- the parts that the longer lines are put together from
 

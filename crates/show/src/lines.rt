@@ -4,13 +4,14 @@ ghost use mathlib.Core.Path.{_≡_};
 ghost use Rattle.rules.specs.Choice.{byte};
 ghost use Rattle.rules.specs.Layouts.{lineLength, columnText, spanOf};
 ghost use Rattle.rules.specs.Listing.{refusedText, okText, fixShown, columnShown};
-ghost use Rattle.show.specs.Lines.{Fills, lengthsShown, positionShown, fixPlaces, fixHeights};
-use crate::pieces::put_byte;
-use crate::pieces::put_code;
-use crate::pieces::put_letter;
-use crate::pieces::put_metres;
-use crate::pieces::put_shown;
-use crate::pieces::put_text;
+ghost use Rattle.pieces.specs.Buffer.{Fills};
+ghost use Rattle.show.specs.Lines.{columnLine, lengthsShown, positionShown, fixPlaces, fixHeights};
+use crate::values::put_code;
+use crate::values::put_letter;
+use crate::values::put_metres;
+use pieces::put_byte;
+use pieces::put_shown;
+use pieces::put_text;
 use rules::Entry;
 use rules::Fix;
 use rules::Flight;
@@ -73,10 +74,10 @@ fn put_position(out: &mut [u8], at: usize, p: Position) -> usize
 }
 
 // A fix's line up to its position.
-fn put_places(out: &mut [u8], line: u32, f: Fix) -> usize
-    ensures { λ r. ⌜ Fills (now (out .entry)) 0 (fixPlaces line f) r (now (out .exit)) ⌝ }
+fn put_places(out: &mut [u8], at: usize, line: u32, f: Fix) -> usize
+    ensures { λ r. ⌜ Fills (now (out .entry)) at (fixPlaces line f) r (now (out .exit)) ⌝ }
 {
-    let a = put_text(out, 0, b"FIX");
+    let a = put_text(out, at, b"FIX");
     let b = put_shown(out, a, line as u64);
     let c = put_shown(out, b, f.time as u64);
     let d = put_position(out, c, f.lat);
@@ -93,11 +94,11 @@ fn put_heights(out: &mut [u8], at: usize, f: Fix) -> usize
     put_byte(out, c, b'\n')
 }
 
-// A fix's line.
-pub(crate) fn put_fix(out: &mut [u8], line: u32, f: Fix) -> usize
-    ensures { λ r. ⌜ Fills (now (out .entry)) 0 (fixShown line f) r (now (out .exit)) ⌝ }
+// A fix's line, from a place of the buffer on.
+pub fn put_fix(out: &mut [u8], at: usize, line: u32, f: Fix) -> usize
+    ensures { λ r. ⌜ Fills (now (out .entry)) at (fixShown line f) r (now (out .exit)) ⌝ }
 {
-    let a = put_places(out, line, f);
+    let a = put_places(out, at, line, f);
     put_heights(out, a, f)
 }
 
@@ -129,14 +130,24 @@ fn column_text(line: &[u8], e: Entry) -> &[u8]
     &line[from..to]
 }
 
-// A column's line.
-pub(crate) fn put_column(out: &mut [u8], line: &[u8], e: Entry) -> usize
+// A column's line, where the code is three bytes.
+fn put_spelt(out: &mut [u8], at: usize, line: &[u8], e: Entry) -> usize
     requires { ⌜ e .code ≤ 0xFFFFFF ⌝ }
-    ensures { λ r. ⌜ Fills (now (out .entry)) 0 (columnShown (now (line .entry)) e) r (now (out .exit)) ⌝ }
+    ensures { λ r. ⌜ Fills (now (out .entry)) at (columnShown (now (line .entry)) e) r (now (out .exit)) ⌝ }
 {
-    let a = put_text(out, 0, b"COL ");
+    let a = put_text(out, at, b"COL ");
     let b = put_code(out, a, e.code);
     let c = put_byte(out, b, b' ');
     let d = put_text(out, c, column_text(line, e));
     put_byte(out, d, b'\n')
+}
+
+// A column's line, from a place of the buffer on; nothing where the code is no three bytes.
+pub fn put_column(out: &mut [u8], at: usize, line: &[u8], e: Entry) -> usize
+    ensures { λ r. ⌜ Fills (now (out .entry)) at (columnLine (now (line .entry)) e) r (now (out .exit)) ⌝ }
+{
+    if 0xFFFFFF < e.code {
+        return at;
+    }
+    put_spelt(out, at, line, e)
 }

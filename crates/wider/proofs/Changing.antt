@@ -24,7 +24,7 @@ use Rattle.trips.proofs.Extras.{extra-there}
 use Rattle.trips.proofs.Fixes.{fix-there}
 use Rattle.wider.specs.Wider.{WiderLine, isFront}
 use Rattle.wider.specs.Before.{isB, isK, AsBefore}
-use Rattle.wider.proofs.Placed.{Sound}
+use Rattle.sound.proofs.Placed.{Sound}
 use Rattle.wider.proofs.OneLine.{Reading, fix-reading, extra-reading, says-same, as-before}
 use Rattle.wider.proofs.Judged.{judged-there, judged-here, wide, staged, follows-time, order-free, order-stage, leading-in, leading-out, isBody, Alike, order-alike}
 

@@ -28,7 +28,7 @@ use Rattle.laws.proofs.Counted as counted
 use Rattle.wider.specs.Wider.{Extends, widthIn, AfterLayouts, done, same, fix, extra, without, changed, put, FromJ, FromI, Wider, head, from}
 use Rattle.wider.specs.Before.{isB, isK, linesWith, addedFrom, addedIn, MoreBits, putInJ, putInI, putIn}
 use Rattle.wider.proofs.Lists.{found-one}
-use Rattle.wider.proofs.Placed.{Sound}
+use Rattle.sound.proofs.Placed.{Sound}
 use Rattle.wider.proofs.Changing.{is-b, is-k, i-line, j-line, told-kind}
 
 -- ---- the lines without columns

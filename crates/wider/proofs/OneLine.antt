@@ -35,7 +35,8 @@ use Rattle.trips.proofs.Fixes.{fix-there, fix-trip}
 use Rattle.wider.specs.Wider.{Each, textIn, KeepsRules, WiderLine}
 use Rattle.wider.specs.Before.{textSaid, AsBefore}
 use Rattle.wider.proofs.Lists.{each-map, each-both, nothing-found, none-passes, found-one}
-use Rattle.wider.proofs.Placed.{Sound, own, columns-valid}
+use Rattle.sound.proofs.Placed.{Sound}
+use Rattle.wider.proofs.Placed.{own, columns-valid}
 
 -- ---- parts of a valid text
 

@@ -27,7 +27,7 @@ use Rattle.laws.proofs.Counted.{OneMore, judge-counts}
 use Rattle.wider.specs.Wider.{Extends, isFront, isPlain, AfterLayouts, done, same, fix, extra, without, changed, put, FromJ, FromI, Wider, head, from}
 use Rattle.wider.specs.Before.{isB, isK, linesWith, AsBefore}
 use Rattle.wider.proofs.Lists.{Pairs}
-use Rattle.wider.proofs.Placed.{Sound, sound-line, sound-empty}
+use Rattle.sound.proofs.Placed.{Sound, sound-line, sound-empty}
 use Rattle.wider.proofs.Judged.{Judged, judged-there, judged-again, run-there, run-here, wideFlight, wide, staged, follows, order-stage, leading-out, isBody, Alike, alike-same, alike-early, order-alike, after-heads}
 use Rattle.wider.proofs.Changing.{is-b, is-k, b-lines, k-lines, step, i-line, j-line, told-kind, told-after, told-passes}
 

@@ -1,14 +1,11 @@
 -- The parts of a line that a function of its own fills: what stands behind the first fields.
 use mathlib.Core.List.{List, _∷_, _++_}
-use Prim.Native.Nat.{ℕ, _≤_, _<_}
-use lib.ListN.{getD}
+use Prim.Native.Nat.{ℕ}
 use Rattle.rules.specs.Numbers.{digitsOf}
 use Rattle.rules.specs.Fields.{latitudeText, longitudeText, altitudeText}
-use Rattle.rules.specs.Layouts.{unused}
 use Rattle.rules.specs.Writes.{plannedText}
 use Rattle.rules.specs.declared.Fix.{Fix}
 use Rattle.rules.specs.declared.Head.{Head}
-use Rattle.rules.specs.declared.Layout.{Layout}
 
 -- a head's flight date, task number, number of turn points and text
 abbrev pub planText : Head → List ℕ → List ℕ
@@ -21,8 +18,3 @@ heightsText f tail = altitudeText (f .pressure) ++ (altitudeText (f .gnss) ++ ta
 -- a fix's position, validity, altitudes and columns
 abbrev pub placeText : Fix → List ℕ → List ℕ
 placeText f tail = latitudeText (f .lat) ++ (longitudeText (f .lon) ++ (f .validity ∷ heightsText f tail))
-
--- a layout of 13 entries at most, the codes of three bytes each
-pub record Spells (l : Layout) : Type 0 where
-  pub few : l .count ≤ 13
-  pub codes : (i : ℕ) → i < l .count → (getD (l .entries) i unused) .code < 16777216

@@ -3,8 +3,8 @@ ghost use mathlib.Core.List.{_++_};
 ghost use Rattle.rules.specs.Writes.{extraText, crlf};
 ghost use Rattle.rules.specs.Promises.{ExtraWritten};
 ghost use Rattle.put.specs.Puts.{Fills};
-use crate::ending::close;
-use crate::ending::refused;
+use ending::close;
+use ending::refused;
 use rules::Layout;
 use rules::Reason;
 use rules::Wrote;
@@ -14,7 +14,7 @@ fn fill_extra(t: u32, tail: &[u8], out: &mut [u8])
     ensures { λ _. ⌜ Fills (now (out .entry)) 0 (extraText t (now (tail .entry)) ++ crlf) (now (out .exit)) ⌝ }
 {
     put::byte(out, 0, b'K');
-    put::time(out, 1, t);
+    spell::time(out, 1, t);
     close(out, 7, tail);
 }
 

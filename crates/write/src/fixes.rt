@@ -4,8 +4,8 @@ ghost use Rattle.rules.specs.Writes.{fixText, crlf};
 ghost use Rattle.rules.specs.Promises.{FixWritten};
 ghost use Rattle.put.specs.Puts.{Fills};
 ghost use Rattle.write.specs.Parts.{heightsText, placeText};
-use crate::ending::close;
-use crate::ending::refused;
+use ending::close;
+use ending::refused;
 use rules::Fix;
 use rules::Layout;
 use rules::Reason;
@@ -15,8 +15,8 @@ use rules::Wrote;
 fn fill_heights(f: Fix, tail: &[u8], out: &mut [u8])
     ensures { λ _. ⌜ Fills (now (out .entry)) 25 (heightsText f (now (tail .entry)) ++ crlf) (now (out .exit)) ⌝ }
 {
-    put::altitude(out, 25, f.pressure);
-    put::altitude(out, 30, f.gnss);
+    spell::altitude(out, 25, f.pressure);
+    spell::altitude(out, 30, f.gnss);
     close(out, 35, tail);
 }
 
@@ -24,8 +24,8 @@ fn fill_heights(f: Fix, tail: &[u8], out: &mut [u8])
 fn fill_place(f: Fix, tail: &[u8], out: &mut [u8])
     ensures { λ _. ⌜ Fills (now (out .entry)) 7 (placeText f (now (tail .entry)) ++ crlf) (now (out .exit)) ⌝ }
 {
-    put::latitude(out, 7, f.lat);
-    put::longitude(out, 15, f.lon);
+    spell::latitude(out, 7, f.lat);
+    spell::longitude(out, 15, f.lon);
     put::byte(out, 24, f.validity);
     fill_heights(f, tail, out);
 }
@@ -35,7 +35,7 @@ fn fill_fix(f: Fix, tail: &[u8], out: &mut [u8])
     ensures { λ _. ⌜ Fills (now (out .entry)) 0 (fixText f (now (tail .entry)) ++ crlf) (now (out .exit)) ⌝ }
 {
     put::byte(out, 0, b'B');
-    put::time(out, 1, f.time);
+    spell::time(out, 1, f.time);
     fill_place(f, tail, out);
 }
 

@@ -5,8 +5,8 @@ ghost use Rattle.rules.specs.Writes.{headText, plannedText, putAt, crlf};
 ghost use Rattle.rules.specs.Promises.{HeadWritten};
 ghost use Rattle.put.specs.Puts.{Fills};
 ghost use Rattle.write.specs.Parts.{planText};
-use crate::ending::close;
-use crate::ending::refused;
+use ending::close;
+use ending::refused;
 use rules::Head;
 use rules::Planned;
 use rules::Reason;
@@ -20,7 +20,7 @@ fn put_planned(out: &mut [u8], at: usize, f: Planned)
         put::digits(out, at, 6, 0);
         return;
     };
-    put::date(out, at, d);
+    spell::date(out, at, d);
 }
 
 // What stands behind a head's date and time.
@@ -39,8 +39,8 @@ fn fill_head(h: Head, rest: &[u8], out: &mut [u8])
     ensures { λ _. ⌜ Fills (now (out .entry)) 0 (headText h (now (rest .entry)) ++ crlf) (now (out .exit)) ⌝ }
 {
     put::byte(out, 0, b'C');
-    put::date(out, 1, h.declared);
-    put::time(out, 7, h.time);
+    spell::date(out, 1, h.declared);
+    spell::time(out, 7, h.time);
     fill_plan(h, rest, out);
 }
 

@@ -10,9 +10,8 @@ use Rattle.rules.specs.Layouts.{entriesOf, spanOf, columnText, badColumn, colum
 use Rattle.rules.specs.Listed.{keepsRule}
 use Rattle.rules.specs.Refusals.{outcomeTold}
 use Rattle.rules.specs.declared.Entry.{Entry}
-use Rattle.layout.proofs.Laws.{unmapped}
 use Rattle.column.proofs.Laws.{columns-clear, columns-bad}
-use Rattle.layout.proofs.Turns.{entry-hit, entry-miss, entry-past, entry-end}
+use Rattle.entry.proofs.Turns.{unmapped, entry-hit, entry-miss, entry-past, entry-end}
 use borrow.Author.Needs.{needs}
 use Rattle.column.proofs.columns.Statement.{statement}
 use Rattle.column.proofs.columns.Tie as tie

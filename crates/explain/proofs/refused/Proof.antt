@@ -1,6 +1,6 @@
 -- `explain::refused` meets its contract. Assumes nothing.
 use borrow.Author.Needs.{needs}
-use Rattle.show.proofs.Laws.{whole}
+use Rattle.pieces.proofs.Laws.{whole}
 use Rattle.explain.proofs.Room.{explanation-room}
 use Rattle.explain.proofs.refused.Statement.{statement}
 use Rattle.explain.proofs.refused.Tie as tie

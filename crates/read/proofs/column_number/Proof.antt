@@ -1,22 +1,19 @@
--- `read::column_number` meets its contract: each way out is a way through `numberSaid`. Assumes nothing.
+-- `read::column_number` meets its contract: by a layout that is allowed it is what `known` reads. Assumes nothing.
+use mathlib.Core.Path.{sym, _∙_}
 use borrow.Author.Needs.{needs}
-use Rattle.rules.specs.Reads.{numberSaid, numberReadTold}
-use Rattle.read.proofs.Laws.{texts}
+use borrow.Author.Tests.{not-true, not-false}
+use Rattle.rules.specs.Reads.{numberReadTold}
+use Rattle.known.proofs.Laws.{number-allowed, number-not-allowed}
 use Rattle.read.proofs.column_number.Statement.{statement}
 use Rattle.read.proofs.column_number.Tie as tie
 
 pub column-number-spec : {M : Type 1} → statement M
-unfolding numberSaid numberReadTold
+unfolding numberReadTold
 column-number-spec =
     tie.close
     (tie.spec
     (λ c κs. search needs)
-    (λ c. search needs)
-    (λ c. search needs)
     (λ c κs. search needs)
+    (λ c. number-not-allowed _ _ _ (rw (c .before .before .family .ensures) at (sym (c .before .allowed .ensures)) ∙ not-true _ (c .if1 .taken)))
     (λ c κs. search needs)
-    (λ c. search needs)
-    (λ c. search needs)
-    (λ c. search texts depth 8)
-    (λ c. search texts depth 8)
-    (λ c. search texts depth 8))
+    (λ c. c .number .ensures ∙ number-allowed _ _ _ (rw (c .before .before .before .family .ensures) at (sym (c .before .before .allowed .ensures)) ∙ not-false _ (c .before .if1 .left))))

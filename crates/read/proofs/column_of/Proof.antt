@@ -1,26 +1,19 @@
--- `read::column_of` meets its contract: each way out is a way through `columnSaid`. Assumes nothing.
+-- `read::column_of` meets its contract: by a layout that is allowed it is what `known` reads. Assumes nothing.
+use mathlib.Core.Path.{sym, _∙_}
 use borrow.Author.Needs.{needs}
-use Rattle.rules.specs.Reads.{columnSaid}
+use borrow.Author.Tests.{not-true, not-false}
 use Rattle.rules.specs.Layouts.{columnTold}
-use Rattle.read.proofs.Laws.{spots}
+use Rattle.known.proofs.Laws.{column-allowed, column-not-allowed}
 use Rattle.read.proofs.column_of.Statement.{statement}
 use Rattle.read.proofs.column_of.Tie as tie
 
 pub column-of-spec : {M : Type 1} → statement M
-unfolding columnSaid columnTold
+unfolding columnTold
 column-of-spec =
     tie.close
     (tie.spec
     (λ c κs. search needs)
-    (λ c. search needs)
-    (λ c. search spots depth 8)
-    (λ c. search needs)
-    (λ c. search needs)
-    (λ c. search needs)
-    (λ c. search needs)
     (λ c κs. search needs)
+    (λ c. column-not-allowed _ _ _ (rw (c .before .before .family .ensures) at (sym (c .before .allowed .ensures)) ∙ not-true _ (c .if1 .taken)))
     (λ c κs. search needs)
-    (λ c. search needs)
-    (λ c. search needs)
-    (λ c. search spots depth 8)
-    (λ c. search spots depth 8))
+    (λ c. c .column .ensures ∙ column-allowed _ _ _ (rw (c .before .before .before .family .ensures) at (sym (c .before .before .allowed .ensures)) ∙ not-false _ (c .before .if1 .left))))

@@ -1,7 +1,7 @@
 -- `read::date` meets its contract: each way out is a way through `dateSaid`. Assumes nothing.
 use borrow.Author.Needs.{needs}
 use Rattle.rules.specs.Reads.{dateSaid, dateReadTold}
-use Rattle.read.proofs.Laws.{kinds}
+use Rattle.known.proofs.Laws.{kinds}
 use Rattle.read.proofs.date.Statement.{statement}
 use Rattle.read.proofs.date.Tie as tie
 

@@ -1,7 +1,7 @@
 -- `read::event` meets its contract: each way out is a way through `eventSaid`. Assumes nothing.
 use borrow.Author.Needs.{needs}
 use Rattle.rules.specs.Reads.{eventSaid, timeReadTold}
-use Rattle.read.proofs.Laws.{kinds}
+use Rattle.known.proofs.Laws.{kinds}
 use Rattle.read.proofs.event.Statement.{statement}
 use Rattle.read.proofs.event.Tie as tie
 

@@ -1,7 +1,7 @@
 -- `read::head` meets its contract: each way out is a way through `headSaid`. Assumes nothing.
 use borrow.Author.Needs.{needs}
 use Rattle.rules.specs.Reads.{headSaid, headTold}
-use Rattle.read.proofs.Laws.{kinds}
+use Rattle.known.proofs.Laws.{kinds}
 use Rattle.read.proofs.head.Statement.{statement}
 use Rattle.read.proofs.head.Tie as tie
 

@@ -2,7 +2,7 @@
 use mathlib.Core.Path.{refl, sym, _∙_}
 use Rattle.rules.specs.Reads.{layoutSaid}
 use Rattle.layout.proofs.Turns.{told-same}
-use Rattle.read.proofs.Laws.{kind-is, kind-is-not}
+use Rattle.known.proofs.Laws.{kind-is, kind-is-not}
 use borrow.Author.Needs.{needs}
 use Rattle.read.proofs.layout_of.Statement.{statement}
 use Rattle.read.proofs.layout_of.Tie as tie

@@ -1,7 +1,7 @@
 -- `read::point` meets its contract: each way out is a way through `pointSaid`. Assumes nothing.
 use borrow.Author.Needs.{needs}
 use Rattle.rules.specs.Reads.{pointSaid, pointTold}
-use Rattle.read.proofs.Laws.{kinds}
+use Rattle.known.proofs.Laws.{kinds}
 use Rattle.read.proofs.point.Statement.{statement}
 use Rattle.read.proofs.point.Tie as tie
 

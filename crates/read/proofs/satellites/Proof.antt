@@ -1,7 +1,7 @@
 -- `read::satellites` meets its contract: each way out is a way through `satellitesSaid`. Assumes nothing.
 use borrow.Author.Needs.{needs}
 use Rattle.rules.specs.Reads.{satellitesSaid, timeReadTold}
-use Rattle.read.proofs.Laws.{kinds}
+use Rattle.known.proofs.Laws.{kinds}
 use Rattle.read.proofs.satellites.Statement.{statement}
 use Rattle.read.proofs.satellites.Tie as tie
 

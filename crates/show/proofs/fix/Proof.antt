@@ -1,6 +1,7 @@
 -- `show::fix` meets its contract. Assumes nothing.
 use borrow.Author.Needs.{needs}
-use Rattle.show.proofs.Laws.{whole, fix-room}
+use Rattle.pieces.proofs.Laws.{whole}
+use Rattle.show.proofs.Laws.{fix-room}
 use Rattle.show.proofs.fix.Statement.{statement}
 use Rattle.show.proofs.fix.Tie as tie
 

@@ -1,6 +1,7 @@
 -- `show::ok` meets its contract. Assumes nothing.
 use borrow.Author.Needs.{needs}
-use Rattle.show.proofs.Laws.{whole, ok-room}
+use Rattle.pieces.proofs.Laws.{whole}
+use Rattle.show.proofs.Laws.{ok-room}
 use Rattle.show.proofs.ok.Statement.{statement}
 use Rattle.show.proofs.ok.Tie as tie
 

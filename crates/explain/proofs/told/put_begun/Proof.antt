@@ -2,8 +2,9 @@
 use native.Mathlib.Omega.{arith}
 use borrow.Author.Needs.{needs}
 use Rattle.rules.specs.Choice.{bytes}
-use Rattle.show.proofs.Laws.{pieces}
-use Rattle.explain.proofs.Pieces.{begun-none, begun-some, before-least}
+use Rattle.pieces.proofs.Laws.{pieces}
+use Rattle.quote.proofs.Pieces.{before-least}
+use Rattle.explain.proofs.Pieces.{begun-none, begun-some}
 use Rattle.explain.proofs.told.put_begun.Statement.{statement}
 use Rattle.explain.proofs.told.put_begun.Tie as tie
 

@@ -2,7 +2,7 @@
 use borrow.Author.Needs.{needs}
 use Rattle.rules.specs.Choice.{bytes}
 use Rattle.explain.specs.Explanation.{called}
-use Rattle.show.proofs.Laws.{then}
+use Rattle.pieces.proofs.Laws.{then}
 use Rattle.explain.proofs.Pieces.{number-fills}
 use Rattle.explain.proofs.told.put_called.Statement.{statement}
 use Rattle.explain.proofs.told.put_called.Tie as tie
@@ -14,7 +14,7 @@ returns c =
     let s = b .before .before .before .before in
     let t = s .before .before .before .before in
     then (t .put-text .ensures)
-    (number-fills _ _ (t .before .before .before .reason-number .ensures) (s .put-shown .ensures) (then (b .put-byte .ensures) (c .before .before .put-name .ensures)))
+    (number-fills _ _ (t .before .before .before .number .ensures) (s .put-shown .ensures) (then (b .put-byte .ensures) (c .before .before .put-name .ensures)))
 
 pub put-called-spec : {M : Type 1} → statement M
 put-called-spec =

@@ -1,7 +1,7 @@
 -- `explain::told::put_head` meets its contract. Assumes nothing.
 use borrow.Author.Needs.{needs}
 use Rattle.explain.specs.Explanation.{head}
-use Rattle.show.proofs.Laws.{pieces}
+use Rattle.pieces.proofs.Laws.{pieces}
 use Rattle.explain.proofs.told.put_head.Statement.{statement}
 use Rattle.explain.proofs.told.put_head.Tie as tie
 

@@ -2,7 +2,7 @@
 use borrow.Author.Needs.{needs}
 use Rattle.rules.specs.Choice.{bytes}
 use Rattle.explain.specs.Explanation.{meant}
-use Rattle.show.proofs.Laws.{then}
+use Rattle.pieces.proofs.Laws.{then}
 use Rattle.explain.proofs.told.put_meant.Statement.{statement}
 use Rattle.explain.proofs.told.put_meant.Tie as tie
 

@@ -2,7 +2,7 @@
 use borrow.Author.Needs.{needs}
 use Rattle.rules.specs.Choice.{bytes}
 use Rattle.explain.specs.Explanation.{placed}
-use Rattle.show.proofs.Laws.{pieces}
+use Rattle.pieces.proofs.Laws.{pieces}
 use Rattle.explain.proofs.told.put_placed.Statement.{statement}
 use Rattle.explain.proofs.told.put_placed.Tie as tie
 

@@ -2,8 +2,8 @@
 use mathlib.Core.Path.{sym, _∙_}
 use native.Mathlib.Omega.{arith}
 use borrow.Author.Needs.{needs}
-use Rattle.file.proofs.Cuts.{cut, torn}
-use Rattle.file.proofs.Turns.{turn-passed, turn-stopped, turn-torn}
+use Rattle.cut.proofs.Cuts.{cut, torn}
+use Rattle.file.proofs.Turns.{turn-left, turn-torn}
 use Rattle.file.proofs.lines.take_turn.Statement.{statement}
 use Rattle.file.proofs.lines.take_turn.Tie as tie
 
@@ -22,10 +22,7 @@ take-turn-spec =
     (λ c. omega (arith, cut _ _ _ (sym (c .before .end2 .given .1) ∙ c .before .before .before .line-end .ensures)))
     (λ c. omega (arith, cut _ _ _ (sym (c .before .end2 .given .1) ∙ c .before .before .before .line-end .ensures)))
     (λ c κs. search needs)
-    (λ c. search needs)
-    (λ c. omega (arith, cut _ _ _ (sym (c .before .before .before .before .before .before .end2 .given .1) ∙ c .before .before .before .before .before .before .before .before .line-end .ensures)))
-    (λ c. search needs)
+    (λ c. omega (arith, cut _ _ _ (sym (c .before .before .before .end2 .given .1) ∙ c .before .before .before .before .before .line-end .ensures)))
     (λ c κs. search needs)
     (λ c. turn-torn _ _ _ _ (torn _ _ _ (sym (c .before .before .end .given .1) ∙ c .before .before .before .before .line-end .ensures) (search needs)) _ (c .in-next .ensures))
-    (λ c. turn-passed _ (cut _ _ _ (sym (c .before .before .before .before .before .before .end2 .given .1) ∙ c .before .before .before .before .before .before .before .before .line-end .ensures)) _ (c .before .before .before .judge-line .ensures) (c .enum-told .given .1))
-    (λ c. turn-stopped _ (cut _ _ _ (sym (c .before .before .before .before .before .before .before .before .end2 .given .1) ∙ c .before .before .before .before .before .before .before .before .before .before .line-end .ensures)) _ (c .before .before .before .before .before .judge-line .ensures) _ (c .before .before .outcome .given .1) _ (c .in-next2 .ensures)))
+    (λ c. turn-left _ (search needs) (cut _ _ _ (sym (c .before .before .before .before .end2 .given .1) ∙ c .before .before .before .before .before .before .line-end .ensures)) _ (c .before .judge-line .ensures) (c .left-by .result .what) (c .left-by .result .state) (c .left-by .ensures)))

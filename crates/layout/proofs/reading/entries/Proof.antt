@@ -5,7 +5,7 @@ use native.Mathlib.Nat.{sub-zero}
 use native.Mathlib.Omega.{arith}
 use borrow.Author.Needs.{needs}
 use Rattle.rules.specs.Layouts.{emptyLayout, entriesFrom}
-use Rattle.layout.specs.Parts.{entryTold}
+use Rattle.entry.specs.Parts.{entryTold}
 use Rattle.layout.proofs.Turns.{taken, ends, done, told-same, told-read}
 use Rattle.layout.proofs.reading.entries.Statement.{statement}
 use Rattle.layout.proofs.reading.entries.Tie as tie
@@ -49,7 +49,6 @@ entries-spec =
     μ-loop
     (λ c κs. search needs)
     loop-holds
-    (λ c. search needs)
     (λ c. search needs)
     (λ c κs. search needs)
     (λ c. search needs)

@@ -9,8 +9,7 @@ use Rattle.rules.specs.Choice.{firstOf, part}
 use Rattle.rules.specs.Listed.{keepsRule}
 use Rattle.rules.specs.Layouts.{entriesOf}
 use Rattle.rules.specs.declared.Entry.{Entry}
-use Rattle.layout.proofs.Laws.{unmapped}
-use Rattle.layout.proofs.Turns.{entry-hit, entry-miss, entry-past, entry-end}
+use Rattle.entry.proofs.Turns.{unmapped, entry-hit, entry-miss, entry-past, entry-end}
 use Rattle.trips.specs.Limits.{badTail}
 use Rattle.limits.proofs.Laws.{none-breaks, one-breaks}
 use Rattle.limits.proofs.tails.keeps_all.Statement.{statement}

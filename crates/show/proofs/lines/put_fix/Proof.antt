@@ -1,6 +1,7 @@
 -- `show::lines::put_fix` meets its contract. Assumes nothing.
 use borrow.Author.Needs.{needs}
-use Rattle.show.proofs.Laws.{then, fix-parts}
+use Rattle.pieces.proofs.Laws.{then}
+use Rattle.show.proofs.Laws.{fix-parts}
 use Rattle.show.proofs.lines.put_fix.Statement.{statement}
 use Rattle.show.proofs.lines.put_fix.Tie as tie
 

@@ -3,7 +3,7 @@ use borrow.Author.Needs.{needs}
 use Rattle.rules.specs.Choice.{bytes}
 use Rattle.rules.specs.Listing.{okText}
 use Rattle.show.specs.Lines.{lengthsShown}
-use Rattle.show.proofs.Laws.{then}
+use Rattle.pieces.proofs.Laws.{then}
 use Rattle.show.proofs.lines.put_flight.Statement.{statement}
 use Rattle.show.proofs.lines.put_flight.Tie as tie
 

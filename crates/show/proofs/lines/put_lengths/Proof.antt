@@ -1,7 +1,7 @@
 -- `show::lines::put_lengths` meets its contract. Assumes nothing.
 use borrow.Author.Needs.{needs}
 use Rattle.show.specs.Lines.{lengthsShown}
-use Rattle.show.proofs.Laws.{then}
+use Rattle.pieces.proofs.Laws.{then}
 use Rattle.show.proofs.lines.put_lengths.Statement.{statement}
 use Rattle.show.proofs.lines.put_lengths.Tie as tie
 

@@ -2,7 +2,7 @@
 use borrow.Author.Needs.{needs}
 use Rattle.rules.specs.Choice.{bytes}
 use Rattle.show.specs.Lines.{fixPlaces}
-use Rattle.show.proofs.Laws.{then}
+use Rattle.pieces.proofs.Laws.{then}
 use Rattle.show.proofs.lines.put_places.Statement.{statement}
 use Rattle.show.proofs.lines.put_places.Tie as tie
 

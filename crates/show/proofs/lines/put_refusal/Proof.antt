@@ -2,7 +2,7 @@
 use borrow.Author.Needs.{needs}
 use Rattle.rules.specs.Choice.{bytes}
 use Rattle.rules.specs.Listing.{refusedText}
-use Rattle.show.proofs.Laws.{then}
+use Rattle.pieces.proofs.Laws.{then}
 use Rattle.show.proofs.lines.put_refusal.Statement.{statement}
 use Rattle.show.proofs.lines.put_refusal.Tie as tie
 

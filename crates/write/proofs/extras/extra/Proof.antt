@@ -5,7 +5,8 @@ use native.Mathlib.Omega.{arith}
 use borrow.Author.Needs.{needs}
 use borrow.Author.Tests.{ltb-true, ltb-false}
 use Rattle.trips.proofs.Extras.{extra-good}
-use Rattle.write.proofs.Laws.{bad, short, done, extra-length}
+use Rattle.ending.proofs.Laws.{bad, short, done}
+use Rattle.write.proofs.Laws.{extra-length}
 use Rattle.write.proofs.extras.extra.Statement.{statement}
 use Rattle.write.proofs.extras.extra.Tie as tie
 

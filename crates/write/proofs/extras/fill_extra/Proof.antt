@@ -1,8 +1,8 @@
 -- `write::extras::fill_extra` meets its contract. Assumes nothing.
 use borrow.Author.Needs.{needs}
 use Rattle.rules.specs.Writes.{extraText}
-use Rattle.put.proofs.Laws.{fields}
-use Rattle.write.proofs.Laws.{regroup}
+use Rattle.spell.proofs.Laws.{fields}
+use Rattle.ending.proofs.Laws.{regroup}
 use Rattle.write.proofs.extras.fill_extra.Statement.{statement}
 use Rattle.write.proofs.extras.fill_extra.Tie as tie
 

@@ -1,8 +1,8 @@
 -- `write::fixes::fill_fix` meets its contract. Assumes nothing.
 use borrow.Author.Needs.{needs}
 use Rattle.rules.specs.Writes.{fixText}
-use Rattle.put.proofs.Laws.{fields}
-use Rattle.write.proofs.Laws.{regroup}
+use Rattle.spell.proofs.Laws.{fields}
+use Rattle.ending.proofs.Laws.{regroup}
 use Rattle.write.proofs.fixes.fill_fix.Statement.{statement}
 use Rattle.write.proofs.fixes.fill_fix.Tie as tie
 

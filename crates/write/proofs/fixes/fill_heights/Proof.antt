@@ -1,7 +1,7 @@
 -- `write::fixes::fill_heights` meets its contract. Assumes nothing.
 use borrow.Author.Needs.{needs}
-use Rattle.put.proofs.Laws.{fields}
-use Rattle.write.proofs.Laws.{regroup}
+use Rattle.spell.proofs.Laws.{fields}
+use Rattle.ending.proofs.Laws.{regroup}
 use Rattle.write.proofs.fixes.fill_heights.Statement.{statement}
 use Rattle.write.proofs.fixes.fill_heights.Tie as tie
 

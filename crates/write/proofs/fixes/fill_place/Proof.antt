@@ -1,7 +1,7 @@
 -- `write::fixes::fill_place` meets its contract. Assumes nothing.
 use borrow.Author.Needs.{needs}
-use Rattle.put.proofs.Laws.{fields}
-use Rattle.write.proofs.Laws.{regroup}
+use Rattle.spell.proofs.Laws.{fields}
+use Rattle.ending.proofs.Laws.{regroup}
 use Rattle.write.proofs.fixes.fill_place.Statement.{statement}
 use Rattle.write.proofs.fixes.fill_place.Tie as tie
 

@@ -5,7 +5,8 @@ use native.Mathlib.Omega.{arith}
 use borrow.Author.Needs.{needs}
 use borrow.Author.Tests.{ltb-true, ltb-false}
 use Rattle.trips.proofs.Fixes.{fix-good}
-use Rattle.write.proofs.Laws.{bad, short, done, fix-length}
+use Rattle.ending.proofs.Laws.{bad, short, done}
+use Rattle.write.proofs.Laws.{fix-length}
 use Rattle.write.proofs.fixes.fix.Statement.{statement}
 use Rattle.write.proofs.fixes.fix.Tie as tie
 

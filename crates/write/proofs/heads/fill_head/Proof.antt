@@ -1,8 +1,8 @@
 -- `write::heads::fill_head` meets its contract. Assumes nothing.
 use borrow.Author.Needs.{needs}
 use Rattle.rules.specs.Writes.{headText}
-use Rattle.put.proofs.Laws.{fields}
-use Rattle.write.proofs.Laws.{regroup}
+use Rattle.spell.proofs.Laws.{fields}
+use Rattle.ending.proofs.Laws.{regroup}
 use Rattle.write.proofs.heads.fill_head.Statement.{statement}
 use Rattle.write.proofs.heads.fill_head.Tie as tie
 

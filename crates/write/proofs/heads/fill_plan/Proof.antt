@@ -1,7 +1,8 @@
 -- `write::heads::fill_plan` meets its contract. Assumes nothing.
 use borrow.Author.Needs.{needs}
 use Rattle.put.proofs.Laws.{puts}
-use Rattle.write.proofs.Laws.{regroup, planned-then}
+use Rattle.ending.proofs.Laws.{regroup}
+use Rattle.write.proofs.Laws.{planned-then}
 use Rattle.write.proofs.heads.fill_plan.Statement.{statement}
 use Rattle.write.proofs.heads.fill_plan.Tie as tie
 

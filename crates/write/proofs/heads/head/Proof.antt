@@ -5,7 +5,8 @@ use native.Mathlib.Omega.{arith}
 use borrow.Author.Needs.{needs}
 use borrow.Author.Tests.{ltb-true, ltb-false}
 use Rattle.trips.proofs.Heads.{head-good}
-use Rattle.write.proofs.Laws.{bad, short, done, head-length}
+use Rattle.ending.proofs.Laws.{bad, short, done}
+use Rattle.write.proofs.Laws.{head-length}
 use Rattle.write.proofs.heads.head.Statement.{statement}
 use Rattle.write.proofs.heads.head.Tie as tie
 

@@ -1,0 +1,45 @@
+-- One answer at most meets each promise of this crate. Assumes nothing.
+use Prim.Native.Nat.{ℕ}
+use mathlib.Core.List.{List}
+use mathlib.Core.Path.{_≡_}
+use Rattle.rules.specs.Refusals.{Said}
+use Rattle.rules.specs.declared.Outcome.{Outcome}
+use Rattle.rules.specs.declared.Reason.{Reason}
+use Rattle.rules.specs.declared.State.{State}
+use Rattle.rules.specs.declared.TimeRead.{TimeRead}
+use Rattle.laws.proofs.Only.{Only, same, alike}
+use Rattle.laws.proofs.Told.{outcome-one}
+use Rattle.after.specs.Judges.{JudgedTold, RefusedAt, OutcomeJudged, TimeJudged, HeaderJudged, FixesJudged, ExtrasJudged, DeclarationJudged, FixJudged, ExtraJudged}
+
+pub judged-only : {s : Said State} → Only (JudgedTold s)
+judged-only r r′ e e′ =
+    let answer : r .outcome ≡ r′ .outcome = alike outcome-one (r .outcome) (r′ .outcome) (e .answer) (e′ .answer) in
+    let state : r .state ≡ r′ .state = same (r .state) (r′ .state) (e .state) (e′ .state) in
+    λ i. record { outcome = answer i; state = state i }
+
+pub only-refused-at : (reason : Reason) (byte : ℕ) → Only (RefusedAt reason byte)
+only-refused-at reason byte = judged-only
+
+pub only-outcome-judged : (read : Outcome) (st : State) → Only (OutcomeJudged read st)
+only-outcome-judged read st = judged-only
+
+pub only-time-judged : (read : TimeRead) (st : State) → Only (TimeJudged read st)
+only-time-judged read st = judged-only
+
+pub only-header-judged : (l : List ℕ) (st : State) → Only (HeaderJudged l st)
+only-header-judged l st = judged-only
+
+pub only-fixes-judged : (l : List ℕ) (st : State) → Only (FixesJudged l st)
+only-fixes-judged l st = judged-only
+
+pub only-extras-judged : (l : List ℕ) (st : State) → Only (ExtrasJudged l st)
+only-extras-judged l st = judged-only
+
+pub only-declaration-judged : (l : List ℕ) (st : State) → Only (DeclarationJudged l st)
+only-declaration-judged l st = judged-only
+
+pub only-fix-judged : (l : List ℕ) (st : State) → Only (FixJudged l st)
+only-fix-judged l st = judged-only
+
+pub only-extra-judged : (l : List ℕ) (st : State) → Only (ExtraJudged l st)
+only-extra-judged l st = judged-only

@@ -1,0 +1,168 @@
+// The state after a line of each kind, by the rules of the kind: what its reading says, and the time order.
+ghost use Rattle.rules.specs.Order.{timed, dated, begun, pointed};
+ghost use Rattle.rules.specs.Refusals.{says, refusal, andThen};
+ghost use Rattle.rules.specs.Reads.{fixTold, dateReadTold, headTold, pointTold};
+ghost use Rattle.after.specs.Judges.{JudgedTold, RefusedAt, OutcomeJudged, TimeJudged, HeaderJudged, FixesJudged, ExtrasJudged, DeclarationJudged, FixJudged, ExtraJudged};
+use rules::DateRead;
+use rules::Family;
+use rules::FixRead;
+use rules::HeadRead;
+use rules::Judged;
+use rules::Outcome;
+use rules::PointRead;
+use rules::Reason;
+use rules::Refusal;
+use rules::State;
+use rules::TimeRead;
+
+fn passed(st: State) -> Judged
+    ensures { λ r. ⌜ JudgedTold (says st) r ⌝ }
+{
+    Judged {
+        outcome: Outcome::Accepted,
+        state: st,
+    }
+}
+
+fn refused(why: Refusal) -> Judged
+    ensures { λ r. ⌜ JudgedTold (refusal why) r ⌝ }
+{
+    Judged {
+        outcome: Outcome::Refused(why),
+        state: order::start_state(),
+    }
+}
+
+// A refusal of the line in hand.
+pub fn refused_at(reason: Reason, byte: u32) -> Judged
+    ensures { λ r. ⌜ RefusedAt reason byte r ⌝ }
+{
+    refused(Refusal {
+        reason,
+        line: 0,
+        byte,
+    })
+}
+
+fn timed_at(t: u32, st: State) -> Judged
+    ensures { λ r. ⌜ JudgedTold (timed t st) r ⌝ }
+{
+    if order::is_back(st.clock, t) {
+        return refused_at(Reason::Back, 2);
+    }
+    passed(order::clocked_to(t, st))
+}
+
+// After a line that leaves this state where it is accepted.
+pub fn after_outcome(outcome: Outcome, st: State) -> Judged
+    ensures { λ r. ⌜ OutcomeJudged outcome st r ⌝ }
+{
+    match outcome {
+        Outcome::Accepted => passed(st),
+        Outcome::Refused(why) => refused(why),
+    }
+}
+
+fn after_date(read: DateRead, st: State) -> Judged
+    ensures { λ r. ⌜ JudgedTold (andThen (dateReadTold read) λ d. says (dated d st)) r ⌝ }
+{
+    match read {
+        DateRead::On(date) => passed(order::dated_to(date, st)),
+        DateRead::Refused(why) => refused(why),
+    }
+}
+
+fn after_head(read: HeadRead, st: State) -> Judged
+    ensures { λ r. ⌜ JudgedTold (andThen (headTold read) λ h. says (begun h st)) r ⌝ }
+{
+    match read {
+        HeadRead::Is(head) => passed(order::begun_by(head, st)),
+        HeadRead::Refused(why) => refused(why),
+    }
+}
+
+fn after_point(read: PointRead, st: State) -> Judged
+    ensures { λ r. ⌜ JudgedTold (andThen (pointTold read) λ _. says (pointed st)) r ⌝ }
+{
+    match read {
+        PointRead::Is(_) => passed(order::pointed_by(st)),
+        PointRead::Refused(why) => refused(why),
+    }
+}
+
+// After a line of this time.
+pub fn after_time(read: TimeRead, st: State) -> Judged
+    ensures { λ r. ⌜ TimeJudged read st r ⌝ }
+{
+    match read {
+        TimeRead::Secs(t) => timed_at(t, st),
+        TimeRead::Refused(why) => refused(why),
+    }
+}
+
+fn after_fix(read: FixRead, st: State) -> Judged
+    ensures { λ r. ⌜ JudgedTold (andThen (fixTold read) λ f. timed (f .time) st) r ⌝ }
+{
+    match read {
+        FixRead::Is(fix) => timed_at(fix.time, st),
+        FixRead::Refused(why) => refused(why),
+    }
+}
+
+// An H line: the second line of the file is the date line.
+pub fn judge_header(line: &[u8], st: State) -> Judged
+    ensures { λ r. ⌜ HeaderJudged (now (line .entry)) st r ⌝ }
+{
+    if st.flight.lines == 2 {
+        return after_date(line::date_line(line), st);
+    }
+    after_outcome(line::header(line), st)
+}
+
+// An I line.
+pub fn judge_fixes(line: &[u8], st: State) -> Judged
+    ensures { λ r. ⌜ FixesJudged (now (line .entry)) st r ⌝ }
+{
+    let read = layout::layout_line(Family::B, line);
+    let outcome = read.outcome;
+    let layout = read.layout;
+    after_outcome(outcome, order::with_fixes(layout, st))
+}
+
+// A J line.
+pub fn judge_extras(line: &[u8], st: State) -> Judged
+    ensures { λ r. ⌜ ExtrasJudged (now (line .entry)) st r ⌝ }
+{
+    let read = layout::layout_line(Family::K, line);
+    let outcome = read.outcome;
+    let layout = read.layout;
+    after_outcome(outcome, order::with_extras(layout, st))
+}
+
+// A C line: a point where points are still to come, else the head of a declaration.
+pub fn judge_declaration(line: &[u8], st: State) -> Judged
+    ensures { λ r. ⌜ DeclarationJudged (now (line .entry)) st r ⌝ }
+{
+    if st.points == 0 {
+        return after_head(line::head_line(line), st);
+    }
+    after_point(line::point_line(line), st)
+}
+
+// A B line, with one B line more in the state.
+pub fn judge_fix(line: &[u8], st: State) -> Judged
+    ensures { λ r. ⌜ FixJudged (now (line .entry)) st r ⌝ }
+{
+    let flight = st.flight;
+    let layout = flight.fixes;
+    after_fix(line::fix_line(line, layout), order::fix_counted(st))
+}
+
+// A K line, with one K line more in the state.
+pub fn judge_extra(line: &[u8], st: State) -> Judged
+    ensures { λ r. ⌜ ExtraJudged (now (line .entry)) st r ⌝ }
+{
+    let flight = st.flight;
+    let layout = flight.extras;
+    after_time(line::extra_line(line, layout), order::extra_counted(st))
+}

@@ -1,0 +1,107 @@
+-- What holds at each turn of a run: the lines so far are passed, and the pace has the numbers after them. Assumes nothing.
+use Prim.Native.Nat.{ℕ, _+_, _*_, _≤_, _<_}
+use mathlib.Core.Bool.{true}
+use mathlib.Core.List.{List, [], _∷_}
+use mathlib.Core.Path.{_≡_, refl, sym, ap, _∙_}
+use native.Mathlib.Omega.{arith}
+use borrow.Author.Tests.{leb-true}
+use lib.Dec.{leb}
+use lib.ListN.{length, set, take, drop, replicate, length-set, length-take, length-replicate}
+use lib.Seq.{sets, sets-eq, length-sets, take-at}
+use Rattle.rules.specs.Layouts.{firstStart, allowed, entriesOf}
+use Rattle.rules.specs.declared.Entry.{Entry}
+use Rattle.rules.specs.declared.Layout.{Layout}
+use Rattle.rules.specs.declared.State.{State}
+use Rattle.plain.proofs.Laws.{and-inv}
+use Rattle.order.specs.States.{Few}
+use Rattle.order.specs.Turns.{Passed, Here}
+use Rattle.order.proofs.Counts.{lines-counted, bs-counted, ks-counted}
+use Rattle.order.proofs.Turns.{here-next}
+use Rattle.sure.specs.Sure.{patternOf}
+use Rattle.pace.specs.Paces.{paced, Going, Takes, TakenAs}
+use Rattle.pace.specs.declared.Pace.{Pace}
+use Rattle.pace.specs.declared.Taken.{Taken}
+use Rattle.pace.specs.declared.Taken.the-variants as taken
+use Rattle.ahead.specs.Runs.{Ran}
+use Rattle.ahead.specs.declared.Ahead.{Ahead}
+
+-- the numbers of a state, at a place
+abbrev pub paceOf : ℕ → State → Pace
+paceOf at st = record { at = at; stage = st .stage; clock = st .clock; lines = st .flight .lines; bs = st .flight .bs; ks = st .flight .ks }
+
+pub taken-is : {file : List ℕ} {st : State} {p q : Pace} (r : Taken) → TakenAs file st p r → r ≡ taken.Next q → Takes file st p q
+taken-is r t e = rw e at t
+
+-- ---- the loop's invariant
+
+pub record Running (file table₀ : List ℕ) (from : ℕ) (st : State) (table : List ℕ) (p : Pace) : Type 0 where
+  pub going : Going st p
+  pub long : length table ≡ length table₀
+  pub begun : from ≤ p .at
+  pub within : p .at ≤ length file
+  pub lines : p .lines + from ≤ st .flight .lines + p .at
+  pub bs : p .bs + from ≤ st .flight .bs + p .at
+  pub ks : p .ks + from ≤ st .flight .ks + p .at
+  pub reach : (t₀ : List ℕ) → Here file t₀ table₀ from st → Here file t₀ table (p .at) (paced st p)
+
+pub running-first : (file table : List ℕ) (from : ℕ) (st : State) (p : Pace) → p ≡ paceOf from st → from ≤ length file → st .points ≡ 0 → 2 ≤ st .stage → st .stage ≤ 5
+    → Running file table from st table p
+running-first file table from st p e w points low high =
+    rw e (record {
+      going = record { points = points; low = low; high = high };
+      long = refl;
+      begun = omega arith;
+      within = w;
+      lines = omega arith;
+      bs = omega arith;
+      ks = omega arith;
+      reach = λ t₀ h. h;
+    })
+
+module _ {file table₀ table : List ℕ} {from : ℕ} {st : State} {p : Pace} (g : Running file table₀ from st table p) where
+  pub running-next : {q : Pace} → Takes file st p q → p .lines < length table → Running file table₀ from st (set table (p .lines) (p .at)) q
+  running-next {q} t l =
+      let d = t .passed in
+      let n : q .lines ≡ p .lines + 1 = lines-counted (d .text) (paced st p) (paced st q) (d .judged) in
+      let b : q .bs ≤ p .bs + 1 = bs-counted (d .text) (paced st p) (paced st q) (d .judged) in
+      let k : q .ks ≤ p .ks + 1 = ks-counted (d .text) (paced st p) (paced st q) (d .judged) in
+      record {
+        going = record { points = g .going .points; low = omega (arith, t .stage); high = omega (arith, t .stage) };
+        long = length-set table (p .lines) (p .at) ∙ g .long;
+        begun = omega (arith, g .begun, d .place);
+        within = d .within;
+        lines = omega (arith, g .lines, d .place, n);
+        bs = omega (arith, g .bs, d .place, b);
+        ks = omega (arith, g .ks, d .place, k);
+        reach = λ t₀ h. let i = g .reach t₀ h in here-next i d (omega (arith, l, i .size));
+      }
+
+  pub running-less : {q : Pace} → Takes file st p q → p .at < q .at
+  running-less t = omega (arith, t .passed .place)
+
+  pub running-end : (r : Ahead) → r ≡ record { at = p .at; state = paced st p } → Ran file table₀ from st r table
+  running-end r e = rw e (record { onward = g .begun; long = g .long; reach = g .reach })
+
+pub ran-none : (file table : List ℕ) (from : ℕ) (st : State) (r : Ahead) → r ≡ record { at = from; state = st } → Ran file table from st r table
+ran-none file table from st r e = rw e (record { onward = omega arith; long = refl; reach = λ t₀ h. h })
+
+-- ---- the pattern that was put for a layout
+
+pattern-long : (es : List Entry) → length (patternOf es) ≡ 3 * length es
+unfolding patternOf
+pattern-long [] = refl
+pattern-long (e ∷ es) = let h = pattern-long es in omega arith
+
+pub count-most : (start : ℕ) (l : Layout) → allowed start l ≡ true → l .count ≤ 13
+unfolding allowed
+count-most start l a = leb-true (l .count) 13 (and-inv (leb (l .count) 13) _ (and-inv _ _ a .0) .0)
+
+pub pattern-put : (l : Layout) (r : List ℕ) → length (l .entries) ≡ 13 → l .count ≤ 13 → r ≡ sets (replicate 39 0) 0 (patternOf (entriesOf l)) → take (3 * l .count) r ≡ patternOf (entriesOf l)
+pattern-put l r n c e =
+    let m : length (entriesOf l) ≡ l .count = simp length-take (omega arith) in
+    let k : length (patternOf (entriesOf l)) ≡ 3 * l .count = pattern-long (entriesOf l) ∙ ap (λ (x : ℕ). 3 * x) m in
+    let w : 0 + length (patternOf (entriesOf l)) ≤ length {A = ℕ} (replicate 39 0) = omega arith in
+    rw (e, sets-eq (patternOf (entriesOf l)) (replicate 39 0) 0 w) (take-at (patternOf (entriesOf l)) _ (3 * l .count) k)
+
+pub pattern-fits : (l : Layout) (r : List ℕ) → l .count ≤ 13 → r ≡ sets (replicate 39 0) 0 (patternOf (entriesOf l)) → 3 * l .count ≤ length r
+pattern-fits l r c e = let n : length r ≡ 39 = rw e (length-sets (replicate 39 0) 0 (patternOf (entriesOf l))) in omega arith

@@ -1,0 +1,185 @@
+// A run of body lines that are surely good, taken by numbers alone: the state with its layouts stays where it is until the run ends.
+ghost use Prim.Native.Nat.{_≤_};
+ghost use mathlib.Core.Bool.{true};
+ghost use mathlib.Core.Path.{_≡_};
+ghost use lib.ListN.{length};
+ghost use Rattle.rules.specs.Layouts.{firstStart, allowed};
+ghost use Rattle.rules.specs.Order.{afterH, inBody};
+ghost use Rattle.rules.specs.declared.Family.the-variants as family;
+ghost use Rattle.order.specs.States.{Few};
+ghost use Rattle.pace.specs.Paces.{paced, Known};
+ghost use Rattle.ahead.specs.Runs.{MayRun, BothAllowed, Gauged, Ran};
+use pace::Pace;
+use pace::Taken;
+use rules::Family;
+use rules::Layout;
+use rules::State;
+
+// The place after a run, and the state there.
+pub struct Ahead {
+    pub at: usize,
+    pub state: State,
+}
+
+// The pace's place, and the state with its numbers.
+fn ahead_at(p: Pace, st: State) -> Ahead
+    ensures { λ r. ⌜ r ≡ record { at = p .at; state = paced st p } ⌝ }
+{
+    let mut state = st;
+    state.stage = p.stage;
+    state.clock = p.clock;
+    state.flight.lines = p.lines;
+    state.flight.bs = p.bs;
+    state.flight.ks = p.ks;
+    Ahead { at: p.at, state }
+}
+
+// The numbers of a state, at a place.
+fn pace_of(at: usize, st: State) -> Pace
+    ensures { λ r. ⌜ r ≡ record { at = at; stage = st .stage; clock = st .clock; lines = st .flight .lines; bs = st .flight .bs; ks = st .flight .ks } ⌝ }
+{
+    Pace {
+        at,
+        stage: st.stage,
+        clock: st.clock,
+        lines: st.flight.lines,
+        bs: st.flight.bs,
+        ks: st.flight.ks,
+    }
+}
+
+// The lines from a place on, as far as they are surely good and the table has room.
+fn run_lines(
+    file: &[u8],
+    table: &mut [u32],
+    from: usize,
+    b: usize,
+    fixes: &[u8],
+    k: usize,
+    extras: &[u8],
+    st: State,
+) -> Ahead
+    requires { ⌜ (from ≤ length (now file)) × (length (now file) ≤ 16777216) × Few st × (st .points ≡ 0) × (afterH ≤ st .stage) × (st .stage ≤ inBody)
+        × Known family.B st b (now fixes) × Known family.K st k (now extras) ⌝ }
+    ensures { λ r. ⌜ Ran (now (file .entry)) (now (table .entry)) from st r (now (table .exit)) ⌝ }
+{
+    let mut p = pace_of(from, st);
+    while p.at < file.len() {
+        let Taken::Next(next) = pace::take_line(file, p, b, fixes, k, extras) else {
+            return ahead_at(p, st);
+        };
+        let n = p.lines as usize;
+        if table.len() <= n {
+            return ahead_at(p, st);
+        }
+        table[n] = p.at as u32;
+        p = next;
+    }
+    ahead_at(p, st)
+}
+
+// Whether body lines may come at a place of a file of allowed size, and the layouts are allowed.
+fn may_run(file: &[u8], from: usize, st: State) -> bool
+    ensures { λ r. ⌜ (r ≡ true → MayRun (now (file .entry)) from st) ⌝ }
+{
+    if st.points != 0 {
+        return false;
+    }
+    if st.stage < 2 {
+        return false;
+    }
+    if 5 < st.stage {
+        return false;
+    }
+    if 16777216 < file.len() {
+        return false;
+    }
+    if file.len() < from {
+        return false;
+    }
+    order::has_few(st)
+}
+
+// Whether both layouts are allowed.
+fn are_allowed(st: State) -> bool
+    ensures { λ r. ⌜ (r ≡ true → BothAllowed st) ⌝ }
+{
+    let flight = st.flight;
+    let fixes = flight.fixes;
+    let extras = flight.extras;
+    if !layout::allowed(Family::B, fixes) {
+        return false;
+    }
+    layout::allowed(Family::K, extras)
+}
+
+// What a run knows of the lines of a family: their length, and the pattern of their columns, in the first `end` bytes.
+pub struct Gauge {
+    pub size: usize,
+    pub end: usize,
+    pub pattern: [u8; 39],
+}
+
+fn gauge_of(family: Family, layout: Layout) -> Gauge
+    requires { ⌜ allowed (firstStart family) layout ≡ true ⌝ }
+    ensures { λ r. ⌜ Gauged family layout r ⌝ }
+{
+    let size = layout::line_length(family, layout) as usize;
+    let end = 3 * layout.count;
+    let pattern = sure::pattern(layout);
+    Gauge { size, end, pattern }
+}
+
+// The lines from a place on where they may come, by what is known of their families.
+fn run_known(
+    file: &[u8],
+    table: &mut [u32],
+    from: usize,
+    fixes: Gauge,
+    extras: Gauge,
+    st: State,
+) -> Ahead
+    requires { ⌜ MayRun (now file) from st × BothAllowed st × Gauged family.B (st .flight .fixes) fixes × Gauged family.K (st .flight .extras) extras ⌝ }
+    ensures { λ r. ⌜ Ran (now (file .entry)) (now (table .entry)) from st r (now (table .exit)) ⌝ }
+{
+    let b = fixes.size;
+    let m = fixes.end;
+    let columns = fixes.pattern;
+    let k = extras.size;
+    let n = extras.end;
+    let others = extras.pattern;
+    run_lines(file, table, from, b, &columns[..m], k, &others[..n], st)
+}
+
+// The lines from a place on where they may come, with what the layouts say of them.
+fn run_body(file: &[u8], table: &mut [u32], from: usize, st: State) -> Ahead
+    requires { ⌜ MayRun (now file) from st × BothAllowed st ⌝ }
+    ensures { λ r. ⌜ Ran (now (file .entry)) (now (table .entry)) from st r (now (table .exit)) ⌝ }
+{
+    let flight = st.flight;
+    let fixes = flight.fixes;
+    let extras = flight.extras;
+    let b = gauge_of(Family::B, fixes);
+    let k = gauge_of(Family::K, extras);
+    run_known(file, table, from, b, k, st)
+}
+
+// The B, K, E, F and L lines from a place on, as far as they may come, are surely good and the table has room: the place after them and the state there, with their
+// offsets put into the table. It may stop before any line; what it passed is passed as the check passes it.
+pub fn run_ahead(file: &[u8], table: &mut [u32], from: usize, st: State) -> Ahead
+    ensures { λ r. ⌜ Ran (now (file .entry)) (now (table .entry)) from st r (now (table .exit)) ⌝ }
+{
+    if !may_run(file, from, st) {
+        return Ahead {
+            at: from,
+            state: st,
+        };
+    }
+    if !are_allowed(st) {
+        return Ahead {
+            at: from,
+            state: st,
+        };
+    }
+    run_body(file, table, from, st)
+}

@@ -1,0 +1,2 @@
+-- What an answer's numbers are.
+pub mod Answers

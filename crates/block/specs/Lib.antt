@@ -1,0 +1,2 @@
+-- The listing behind its first line, as pages.
+pub mod Blocks

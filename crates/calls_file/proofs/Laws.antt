@@ -1,0 +1,49 @@
+-- An outcome with its values beside it, in numbers; and the check of a file, told the caller. Assumes nothing.
+use Prim.Native.Nat.{ℕ}
+use native.Mathlib.Omega.{arith}
+use mathlib.Core.List.{List}
+use mathlib.Core.Path.{_≡_, _∙_}
+use lib.ListN.{length}
+use borrow.Author.Tests.{eq-eqb, ne-eqb}
+use Rattle.rules.specs.Files.{verdict}
+use Rattle.rules.specs.Order.{noFlight}
+use Rattle.rules.specs.Promises.{FileChecked}
+use Rattle.rules.specs.Refusals.{Said, says, refuses, number, outcome, outcomeTold, valueOr}
+use Rattle.rules.specs.declared.Checked.{Checked}
+use Rattle.rules.specs.declared.Outcome.{Outcome}
+use Rattle.rules.specs.declared.Outcome.the-variants as outcomes
+use Rattle.rules.specs.declared.Refusal.{Refusal}
+use Rattle.answers.specs.Answers.{size, AnswerGiven, accepting, refusing, inNumbers, outcomeNumbers}
+use Rattle.answers.specs.declared.Numbers.{Numbers}
+use Rattle.answers.proofs.Laws.{no-room, same-numbers}
+use Rattle.calls_file.specs.Calls.{flightNumbers, checkedNumbers, CheckAnswered}
+
+-- ---- an outcome, with its values beside it
+
+module _ (values : List ℕ) (o : Outcome) (x : Numbers) where
+  pub outcome-good : o ≡ outcomes.Accepted → x ≡ accepting values → x ≡ outcomeNumbers values o
+  outcome-good e h = rw e h
+
+  pub outcome-bad : (w : Refusal) → o ≡ outcomes.Refused w → x ≡ refusing (number (w .reason)) (w .line) (w .byte) → x ≡ outcomeNumbers values o
+  outcome-bad w e h = rw e h
+
+pub numbers-said : {A : Type 0} (values : A → List ℕ) (d v : A) (o : Outcome) (s : Said A) → outcomeTold o ≡ outcome s → v ≡ valueOr d s → outcomeNumbers (values v) o ≡ inNumbers values s
+unfolding outcomeTold
+numbers-said values d v outcomes.Accepted (says w) e h = rw h
+numbers-said values d v (outcomes.Refused r) (refuses n l b) e h = cc
+numbers-said values d v outcomes.Accepted (refuses n l b) e h = let z : _≡_ {A = ℕ} 0 1 = cc in let y : ⊥ = omega arith in search
+numbers-said values d v (outcomes.Refused r) (says w) e h = let z : _≡_ {A = ℕ} 0 1 = cc in let y : ⊥ = omega arith in search
+
+-- ---- the check of a file
+
+module _ (file table answer : List ℕ) where
+  pub check-no-room : (length answer ≡ size → ⊥) → CheckAnswered file table answer 17 table answer
+  check-no-room h = record { told = no-room _ _ h; entries = rw (ne-eqb (length answer) size h) }
+
+  pub check-room : (checked : Checked) (n : Numbers) (r : ℕ) (tableNow answerNow : List ℕ) → length answer ≡ size → FileChecked file table checked tableNow → n ≡ checkedNumbers checked → AnswerGiven answer n r answerNow → CheckAnswered file table answer r tableNow answerNow
+  unfolding checkedNumbers
+  check-room checked n r tableNow answerNow h f e a =
+      record {
+        told = same-numbers _ _ _ _ _ _ (e ∙ numbers-said flightNumbers noFlight _ _ (verdict file (length table)) (f .told .answer) (f .told .flight)) a;
+        entries = rw (eq-eqb (length answer) size h) (f .entries);
+      }

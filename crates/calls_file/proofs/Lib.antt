@@ -1,0 +1,3 @@
+-- Laws of the check's answer in numbers; and that the promise has one answer.
+mod Laws
+mod Only

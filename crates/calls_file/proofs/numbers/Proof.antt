@@ -1,0 +1,18 @@
+-- `numbers` meets its contract. Assumes nothing.
+use borrow.Author.Needs.{needs}
+use Rattle.calls_file.specs.Calls.{checkedNumbers}
+use Rattle.calls_file.proofs.Laws.{outcome-good, outcome-bad}
+use Rattle.calls_file.proofs.numbers.Statement.{statement}
+use Rattle.calls_file.proofs.numbers.Tie as tie
+
+pub numbers-spec : {M : Type 1} → statement M
+unfolding checkedNumbers
+numbers-spec =
+    tie.close
+    (tie.spec
+    (λ c. search needs)
+    (λ c κs. search needs)
+    (λ c. search needs)
+    (λ c κs. search needs)
+    (λ c. search outcome-good depth 6)
+    (λ c. search outcome-bad depth 6))

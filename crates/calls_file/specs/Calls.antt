@@ -1,0 +1,26 @@
+-- The values of an answer on a file, and the promise of the check: an equation on the number returned and on all that is lent for writing, afterwards.
+use Prim.Native.Nat.{ℕ}
+use mathlib.Core.Bool.{cond}
+use mathlib.Core.List.{List, [], _∷_}
+use mathlib.Core.Path.{_≡_}
+use lib.ListN.{length}
+use Rattle.rules.specs.Files.{verdict, tableAfter}
+use Rattle.rules.specs.Layouts.{lineLength}
+use Rattle.rules.specs.declared.Checked.{Checked}
+use Rattle.rules.specs.declared.Flight.{Flight}
+use Rattle.answers.specs.Answers.{size, inNumbers, outcomeNumbers, hasRoom, AnswerGiven}
+use Rattle.answers.specs.declared.Numbers.{Numbers}
+
+-- "the date, the I and J layouts, the count of lines, of B lines and of K lines": the layouts by the lengths of their lines
+abbrev pub flightNumbers : Flight → List ℕ
+flightNumbers f =
+    f .date .day ∷ f .date .month ∷ f .date .year ∷ f .lines ∷ f .bs ∷ f .ks ∷ lineLength 36 (f .fixes) ∷ lineLength 8 (f .extras) ∷ []
+
+-- the answer on a file
+unfoldable pub checkedNumbers : Checked → Numbers
+checkedNumbers c = outcomeNumbers (flightNumbers (c .flight)) (c .outcome)
+
+-- the check of a file, with the table of its lines' offsets
+pub record CheckAnswered (file table answer : List ℕ) (r : ℕ) (tableNow answerNow : List ℕ) : Type 0 where
+  pub told : AnswerGiven answer (inNumbers flightNumbers (verdict file (length table))) r answerNow
+  pub entries : tableNow ≡ cond (hasRoom size answer) (tableAfter file table) table

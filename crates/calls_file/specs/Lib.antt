@@ -1,0 +1,2 @@
+-- What the check of a file answers.
+pub mod Calls

@@ -1,0 +1,51 @@
+// The call from C on a whole file: its check, with the table of its lines' offsets.
+ghost use mathlib.Core.Path.{_≡_};
+ghost use Rattle.answers.specs.Answers.{accepting};
+ghost use Rattle.calls_file.specs.Calls.{flightNumbers, checkedNumbers, CheckAnswered};
+use answers::Numbers;
+use answers::SIZE;
+use answers::accepted;
+use answers::refused;
+use rules::Checked;
+use rules::Family;
+use rules::Flight;
+use rules::Outcome;
+
+// What an accepted file says.
+fn flight(f: Flight) -> Numbers
+    ensures { λ r. ⌜ r ≡ accepting (flightNumbers f) ⌝ }
+{
+    let date = f.date;
+    let fixes = f.fixes;
+    let extras = f.extras;
+    let b = layout::line_length(Family::B, fixes) as u64;
+    let k = layout::line_length(Family::K, extras) as u64;
+    let day = date.day as u64;
+    let month = date.month as u64;
+    let year = date.year as u64;
+    let lines = f.lines as u64;
+    accepted(day, month, year, lines, f.bs as u64, f.ks as u64, b, k, 0)
+}
+
+// What is said of a file.
+fn numbers(c: Checked) -> Numbers
+    ensures { λ r. ⌜ r ≡ checkedNumbers c ⌝ }
+{
+    let outcome = c.outcome;
+    let f = c.flight;
+    match outcome {
+        Outcome::Accepted => flight(f),
+        Outcome::Refused(why) => refused(why),
+    }
+}
+
+// The check of a whole file, with the table of its lines' offsets.
+pub fn check(file: &[u8], table: &mut [u32], answer: &mut [u64]) -> u32
+    ensures { λ r. ⌜ CheckAnswered (now (file .entry)) (now (table .entry)) (now (answer .entry)) r (now (table .exit)) (now (answer .exit)) ⌝ }
+{
+    if answer.len() != SIZE {
+        return 17;
+    }
+    let checked = file::check(file, table);
+    answers::give(answer, numbers(checked))
+}

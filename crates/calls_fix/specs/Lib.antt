@@ -1,0 +1,2 @@
+-- What the call on a fix answers.
+pub mod Calls

@@ -1,0 +1,3 @@
+-- Laws of a position in degrees; and that each promise has one answer.
+mod Laws
+mod Only

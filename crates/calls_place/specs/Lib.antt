@@ -1,0 +1,2 @@
+-- What a call on where a line stands answers.
+pub mod Calls

@@ -1,0 +1,37 @@
+-- The promise of each call that writes a line, by name: an equation on the number returned, the answer and the lent output afterwards.
+use Prim.Native.Nat.{ℕ}
+use mathlib.Core.Bool.{cond}
+use mathlib.Core.List.{List}
+use mathlib.Core.Path.{_≡_}
+use Rattle.rules.specs.Refusals.{Said}
+use Rattle.rules.specs.Writes.{written, outAfter, fixText, extraText, headText, isHead, pointText, isPoint}
+use Rattle.rules.specs.declared.Fix.{Fix}
+use Rattle.rules.specs.declared.Head.{Head}
+use Rattle.rules.specs.declared.Point.{Point}
+use Rattle.answers.specs.Answers.{size, inNumbers, hasRoom, AnswerGiven}
+use Rattle.given_write.specs.Written.{fixWritten, extraWritten, layoutWritten, layoutTextBy}
+use Rattle.calls_write.specs.Values.{placeNumbers}
+
+-- what is said of a text that is to be written, in numbers, and the output afterwards; an answer of another length leaves it as it was
+pub record WriteAnswered (said : Said ℕ) (text : List ℕ) (place : ℕ) (out answer : List ℕ) (r : ℕ) (outNow answerNow : List ℕ) : Type 0 where
+  pub told : AnswerGiven answer (inNumbers placeNumbers said) r answerNow
+  pub bytes : outNow ≡ cond (hasRoom size answer) (outAfter said text place out) out
+
+abbrev pub WriteFixAnswered : Fix → List ℕ → List ℕ → ℕ → List ℕ → List ℕ → ℕ → List ℕ → List ℕ → Type 0
+WriteFixAnswered f columns l place out answer r outNow answerNow =
+    WriteAnswered (fixWritten f columns l place out) (fixText f columns) place out answer r outNow answerNow
+
+abbrev pub WriteExtraAnswered : ℕ → List ℕ → List ℕ → ℕ → List ℕ → List ℕ → ℕ → List ℕ → List ℕ → Type 0
+WriteExtraAnswered t columns l place out answer r outNow answerNow =
+    WriteAnswered (extraWritten t columns l place out) (extraText t columns) place out answer r outNow answerNow
+
+abbrev pub WriteLayoutAnswered : List ℕ → ℕ → List ℕ → List ℕ → ℕ → List ℕ → List ℕ → Type 0
+WriteLayoutAnswered l place out answer r outNow answerNow = WriteAnswered (layoutWritten l place out) (layoutTextBy l) place out answer r outNow answerNow
+
+abbrev pub WriteHeadAnswered : Head → List ℕ → ℕ → List ℕ → List ℕ → ℕ → List ℕ → List ℕ → Type 0
+WriteHeadAnswered h text place out answer r outNow answerNow =
+    WriteAnswered (written (isHead h text) (headText h text) place out) (headText h text) place out answer r outNow answerNow
+
+abbrev pub WritePointAnswered : Point → List ℕ → ℕ → List ℕ → List ℕ → ℕ → List ℕ → List ℕ → Type 0
+WritePointAnswered p text place out answer r outNow answerNow =
+    WriteAnswered (written (isPoint p text) (pointText p text) place out) (pointText p text) place out answer r outNow answerNow

@@ -1,0 +1,3 @@
+-- What a call that writes a line takes and answers.
+pub mod Values
+pub mod Calls

@@ -1,0 +1,124 @@
+// The calls from C that write a line into a lent output from a place on.
+ghost use Rattle.calls_write.specs.Values.{fixOf, headOf, pointOf};
+ghost use Rattle.calls_write.specs.Calls.{WriteFixAnswered, WriteExtraAnswered, WriteLayoutAnswered, WriteHeadAnswered, WritePointAnswered};
+use answers::SIZE;
+use rules::Date;
+
+mod values;
+
+// A B line of a fix, into an output from a place on.
+pub fn fix(
+    seconds: u32,
+    latitude: u64,
+    n_or_s: u8,
+    longitude: u64,
+    e_or_w: u8,
+    validity: u8,
+    pressure: i32,
+    gnss: i32,
+    columns: &[u8],
+    layout: &[u8],
+    place: usize,
+    out: &mut [u8],
+    answer: &mut [u64],
+) -> u32
+    ensures { λ r. ⌜ WriteFixAnswered (fixOf seconds latitude «n_or_s» longitude «e_or_w» validity pressure gnss) (now (columns .entry)) (now (layout .entry)) place (now (out .entry)) (now (answer .entry)) r (now (out .exit)) (now (answer .exit)) ⌝ }
+{
+    if answer.len() != SIZE {
+        return 17;
+    }
+    let f = values::fix_of(
+        seconds,
+        latitude,
+        n_or_s,
+        longitude,
+        e_or_w,
+        validity,
+        pressure,
+        gnss,
+    );
+    let wrote = given_write::fix(f, columns, layout, out, place);
+    answers::give(answer, values::wrote(wrote))
+}
+
+// A K line of a time, into an output from a place on.
+pub fn extra(
+    seconds: u32,
+    columns: &[u8],
+    layout: &[u8],
+    place: usize,
+    out: &mut [u8],
+    answer: &mut [u64],
+) -> u32
+    ensures { λ r. ⌜ WriteExtraAnswered seconds (now (columns .entry)) (now (layout .entry)) place (now (out .entry)) (now (answer .entry)) r (now (out .exit)) (now (answer .exit)) ⌝ }
+{
+    if answer.len() != SIZE {
+        return 17;
+    }
+    let wrote = given_write::extra(seconds, columns, layout, out, place);
+    answers::give(answer, values::wrote(wrote))
+}
+
+// An I or a J line, into an output from a place on.
+pub fn layout(layout: &[u8], place: usize, out: &mut [u8], answer: &mut [u64]) -> u32
+    ensures { λ r. ⌜ WriteLayoutAnswered (now (layout .entry)) place (now (out .entry)) (now (answer .entry)) r (now (out .exit)) (now (answer .exit)) ⌝ }
+{
+    if answer.len() != SIZE {
+        return 17;
+    }
+    let wrote = given_write::layout(layout, out, place);
+    answers::give(answer, values::wrote(wrote))
+}
+
+// The head of a declaration, into an output from a place on.
+pub fn head(
+    day: u8,
+    month: u8,
+    year: u16,
+    seconds: u32,
+    flight_day: u8,
+    flight_month: u8,
+    flight_year: u16,
+    task: u16,
+    turn_points: u8,
+    text: &[u8],
+    place: usize,
+    out: &mut [u8],
+    answer: &mut [u64],
+) -> u32
+    ensures { λ r. ⌜ WriteHeadAnswered (headOf (record { day = day; month = month; year = year }) seconds (record { day = «flight_day»; month = «flight_month»; year = «flight_year» }) task «turn_points») (now (text .entry)) place (now (out .entry)) (now (answer .entry)) r (now (out .exit)) (now (answer .exit)) ⌝ }
+{
+    if answer.len() != SIZE {
+        return 17;
+    }
+    let declared = Date { day, month, year };
+    let flight = Date {
+        day: flight_day,
+        month: flight_month,
+        year: flight_year,
+    };
+    let h = values::head_of(declared, seconds, flight, task, turn_points);
+    let wrote = write::head(h, text, out, place);
+    answers::give(answer, values::wrote(wrote))
+}
+
+// A point of a declaration, into an output from a place on.
+pub fn point(
+    latitude: u64,
+    n_or_s: u8,
+    longitude: u64,
+    e_or_w: u8,
+    text: &[u8],
+    place: usize,
+    out: &mut [u8],
+    answer: &mut [u64],
+) -> u32
+    ensures { λ r. ⌜ WritePointAnswered (pointOf latitude «n_or_s» longitude «e_or_w») (now (text .entry)) place (now (out .entry)) (now (answer .entry)) r (now (out .exit)) (now (answer .exit)) ⌝ }
+{
+    if answer.len() != SIZE {
+        return 17;
+    }
+    let p = values::point_of(latitude, n_or_s, longitude, e_or_w);
+    let wrote = write::point(p, text, out, place);
+    answers::give(answer, values::wrote(wrote))
+}

@@ -1,0 +1,37 @@
+-- One answer at most meets each promise of this crate. Assumes nothing.
+use Prim.Native.Nat.{ℕ}
+use mathlib.Core.List.{List}
+use mathlib.Core.Option.{Option, none, some}
+use mathlib.Core.Path.{refl, sym, ap, _∙_}
+use Rattle.rules.specs.Split.{Stepped}
+use Rattle.rules.specs.declared.Reason.{Reason}
+use Rattle.laws.proofs.Only.{Only, same, alike}
+use Rattle.laws.proofs.Told.{OneToOne, by-back, answerOf, refusal-back}
+use Rattle.cut.specs.Steps.{stepTold, LineStepped, AtFirst, UnplacedGiven, LineEnded}
+use Rattle.cut.specs.declared.Cursor.{Cursor}
+use Rattle.cut.specs.declared.Step.{Step}
+use Rattle.cut.specs.declared.Step.the-variants as step
+
+cursorAt : ℕ → Cursor
+cursorAt n = record { at = n }
+
+found : Option Stepped → Step
+found (some s) = step.Line (s .from) (s .to) (cursorAt (s .next))
+found none = step.Done
+
+step-one : OneToOne stepTold
+unfolding stepTold found cursorAt
+step-one = by-back (answerOf found step.Refused) (elim [ step.Line a e next ↦ refl | step.Done ↦ refl | step.Refused r ↦ ap step.Refused (refusal-back r) ])
+
+pub only-line-stepped : (file : List ℕ) (at : ℕ) → Only (LineStepped file at)
+only-line-stepped file at = alike step-one
+
+pub only-at-first : Only AtFirst
+unfolding cursorAt
+only-at-first r r′ e e′ = ap cursorAt (e ∙ sym e′)
+
+pub only-unplaced-given : (reason : Reason) → Only (UnplacedGiven reason)
+only-unplaced-given reason = same
+
+pub only-line-ended : (file : List ℕ) (from : ℕ) → Only (LineEnded file from)
+only-line-ended file from = same

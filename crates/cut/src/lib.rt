@@ -1,0 +1,100 @@
+// A file cut into its lines: where a line ends, a line by its number, and a place that steps over the lines.
+ghost use Rattle.rules.specs.Promises.{LineGiven, LineRest};
+ghost use Rattle.cut.specs.Steps.{LineStepped, AtFirst, UnplacedGiven};
+use rules::Found;
+use rules::LineRead;
+use rules::Reason;
+use rules::Refusal;
+
+mod scan;
+
+pub use scan::Ended;
+pub use scan::line_end;
+
+// Where line n stands, by a table of the lines' offsets: how many bytes stand before it and before its CR LF. Refused with 17 where n is 0 or past the table's
+// entries, where the entry is neither 0 nor just past a CR LF, and where no CR LF comes from there on.
+pub fn bounds(file: &[u8], table: &[u32], n: usize) -> LineRead
+    ensures { λ r. ⌜ LineGiven (now (file .entry)) (now (table .entry)) n r ⌝ }
+{
+    if n < 1 {
+        return LineRead::Refused(unplaced(Reason::BadValue));
+    }
+    if table.len() < n {
+        return LineRead::Refused(unplaced(Reason::BadValue));
+    }
+    let start = table[n - 1] as usize;
+    if !scan::is_start(file, start) {
+        return LineRead::Refused(unplaced(Reason::BadValue));
+    }
+    let Found::At(end) = scan::crlf_from(file, start) else {
+        return LineRead::Refused(unplaced(Reason::BadValue));
+    };
+    LineRead::Part(start, end)
+}
+
+// Line n without its CR LF, as a part of the file; no bytes where `bounds` refuses it.
+pub fn line<'a>(file: &'a [u8], table: &[u32], n: usize) -> &'a [u8]
+    ensures { λ r. ⌜ LineRest (now (file .entry)) (now (table .entry)) n (now r) ⌝ }
+{
+    match bounds(file, table, n) {
+        LineRead::Part(start, end) => &file[start..end],
+        LineRead::Refused(_) => &file[0..0],
+    }
+}
+
+// A reading place over the lines of a file: how many bytes stand before it.
+pub struct Cursor {
+    pub at: usize,
+}
+
+// What a step finds: a line, by how many bytes stand before it and before its CR LF, with the place after it; or that none is left.
+pub enum Step {
+    Line {
+        start: usize,
+        end: usize,
+        next: Cursor,
+    },
+    Done,
+    Refused(Refusal),
+}
+
+impl Cursor {
+    // The place before the first line.
+    pub fn new() -> Self
+        ensures { λ r. ⌜ AtFirst r ⌝ }
+    {
+        Cursor { at: 0 }
+    }
+
+    // The next line, with the place after it, or that none is left. Refused with 17 where the place is past the end, or bytes remain and no CR LF comes after it.
+    pub fn step(self, file: &[u8]) -> Step
+        ensures { λ r. ⌜ LineStepped (now (file .entry)) (self .at) r ⌝ }
+    {
+        let at = self.at;
+        if file.len() < at {
+            return Step::Refused(unplaced(Reason::BadValue));
+        }
+        if at == file.len() {
+            return Step::Done;
+        }
+        let Found::At(end) = scan::crlf_from(file, at) else {
+            return Step::Refused(unplaced(Reason::BadValue));
+        };
+        Step::Line {
+            start: at,
+            end,
+            next: Cursor { at: end + 2 },
+        }
+    }
+}
+
+// A refusal with no line and no byte.
+pub fn unplaced(reason: Reason) -> Refusal
+    ensures { λ r. ⌜ UnplacedGiven reason r ⌝ }
+{
+    Refusal {
+        reason,
+        line: 0,
+        byte: 0,
+    }
+}

@@ -1,0 +1,48 @@
+-- One answer at most meets each promise of this crate. Assumes nothing.
+use Prim.Native.Nat.{ℕ}
+use mathlib.Core.List.{List}
+use mathlib.Core.Option.{Option, none, some}
+use mathlib.Core.Path.{refl, ap}
+use Rattle.rules.specs.Layouts.{Span}
+use Rattle.rules.specs.declared.Entry.{Entry}
+use Rattle.rules.specs.declared.Layout.{Layout}
+use Rattle.rules.specs.declared.Family.{Family}
+use Rattle.laws.proofs.Only.{Only, same, alike}
+use Rattle.laws.proofs.Told.{OneToOne, by-back, answerOf, refusal-back, column-one}
+use Rattle.entry.specs.Parts.{spotTold, SpotFound, CarriesTest, ColumnFound, entryTold, EntryPlaced, EntryGiven, NoColumns, StartGiven}
+use Rattle.entry.specs.declared.Spot.{Spot}
+use Rattle.entry.specs.declared.Spot.the-variants as spot
+use Rattle.entry.specs.declared.EntryRead.the-variants as entryRead
+
+spotOf : Option Span → Spot
+spotOf (some s) = spot.At (s .first) (s .last)
+spotOf none = spot.Nowhere
+
+spot-one : OneToOne spotTold
+unfolding spotTold spotOf
+spot-one = by-back spotOf (elim [ spot.At a e ↦ refl | spot.Nowhere ↦ refl ])
+
+pub only-spot-found : (l : Layout) (x : ℕ) → Only (SpotFound l x)
+only-spot-found l x = alike spot-one
+
+pub only-carries-test : (l : Layout) (x : ℕ) → Only (CarriesTest l x)
+only-carries-test l x = same
+
+pub only-column-found : (l : Layout) (name : List ℕ) → Only (ColumnFound l name)
+only-column-found l name = alike column-one
+
+entry-one : OneToOne entryTold
+unfolding entryTold
+entry-one = by-back (answerOf entryRead.Is entryRead.Refused) (elim [ entryRead.Is e ↦ refl | entryRead.Refused r ↦ ap entryRead.Refused (refusal-back r) ])
+
+pub only-entry-placed : (start : ℕ) (before : Layout) (e : Entry) (first : ℕ) → Only (EntryPlaced start before e first)
+only-entry-placed start before e first = alike entry-one
+
+pub only-entry-given : (l : List ℕ) (i start : ℕ) (before : Layout) → Only (EntryGiven l i start before)
+only-entry-given l i start before = alike entry-one
+
+pub only-no-columns : Only NoColumns
+only-no-columns = same
+
+pub only-start-given : (f : Family) → Only (StartGiven f)
+only-start-given f = same

@@ -1,0 +1,65 @@
+-- The promises on the entries of a layout, and their answers in the paper's terms.
+use Prim.Native.Nat.{ℕ, _+_, _*_}
+use mathlib.Core.Bool.{Bool}
+use mathlib.Core.List.{List}
+use mathlib.Core.Option.{Option, none, some}
+use mathlib.Core.Path.{_≡_}
+use Rattle.rules.specs.Choice.{given}
+use Rattle.rules.specs.Listed.{packedOf, codeAt}
+use Rattle.rules.specs.Refusals.{Said, says, no, refusal}
+use Rattle.rules.specs.Layouts.{Span, look, carries, placed, entryAt, columnTold, emptyLayout, firstStart}
+use Rattle.rules.specs.declared.Reason.the-variants.{Absent}
+use Rattle.rules.specs.declared.Entry.{Entry}
+use Rattle.rules.specs.declared.Layout.{Layout}
+use Rattle.rules.specs.declared.Family.{Family}
+use Rattle.rules.specs.declared.ColumnRead.{ColumnRead}
+use Rattle.entry.specs.declared.Spot.{Spot}
+use Rattle.entry.specs.declared.Spot.the-variants as spot
+use Rattle.entry.specs.declared.EntryRead.{EntryRead}
+use Rattle.entry.specs.declared.EntryRead.the-variants as entryRead
+use Rattle.entry.specs.declared.Letters.{Letters}
+use Rattle.entry.specs.declared.Letters.the-variants as letters
+
+-- no columns
+abbrev pub NoColumns : Layout → Type 0
+NoColumns r = r ≡ emptyLayout
+
+-- where the first column of a family starts
+abbrev pub StartGiven : Family → ℕ → Type 0
+StartGiven f r = r ≡ firstStart f
+
+-- where a code's column stands
+unfoldable pub spotTold : Spot → Option Span
+spotTold (spot.At a e) = some (record { first = a; last = e })
+spotTold spot.Nowhere = none
+
+abbrev pub SpotFound : Layout → ℕ → Spot → Type 0
+SpotFound l x r = spotTold r ≡ look l x
+
+-- whether an entry has a code
+abbrev pub CarriesTest : Layout → ℕ → Bool → Type 0
+CarriesTest l x r = r ≡ carries l x
+
+-- the column of a code by a layout, allowed or not
+abbrev pub ColumnFound : Layout → List ℕ → ColumnRead → Type 0
+ColumnFound l name r = columnTold r ≡ given (look l (packedOf name)) (no Absent 0) λ s. says s
+
+-- an entry, or its refusal
+unfoldable pub entryTold : EntryRead → Said Entry
+entryTold (entryRead.Is e) = says e
+entryTold (entryRead.Refused r) = refusal r
+
+abbrev pub EntryPlaced : ℕ → Layout → Entry → ℕ → EntryRead → Type 0
+EntryPlaced start before e first r = entryTold r ≡ placed start before e first
+
+-- three code characters at a place
+unfoldable pub lettersTold : Letters → Option ℕ
+lettersTold (letters.Code x) = some x
+lettersTold letters.NoCode = none
+
+abbrev pub CodeRead : List ℕ → ℕ → Letters → Type 0
+CodeRead l at r = lettersTold r ≡ codeAt l at
+
+-- the entry behind i others: the letter, NN and 7 bytes for each entry stand before it
+abbrev pub EntryGiven : List ℕ → ℕ → ℕ → Layout → EntryRead → Type 0
+EntryGiven l i start before r = entryTold r ≡ entryAt l (3 + 7 * i) start before

@@ -1,0 +1,162 @@
+// The entries of a layout: looked up by code, one held against those before it, and one read at its place of an I or a J line.
+ghost use Prim.Native.Nat.{_≤_};
+ghost use mathlib.Core.Path.{_≡_};
+ghost use Rattle.rules.specs.Refusals.{no};
+ghost use Rattle.entry.specs.Parts.{NoColumns, StartGiven, SpotFound, CarriesTest, ColumnFound, EntryPlaced, CodeRead, EntryGiven, entryTold};
+use rules::ColumnRead;
+use rules::Entry;
+use rules::Family;
+use rules::Layout;
+use rules::Number;
+use rules::Reason;
+use rules::Refusal;
+
+// Where the column of a code stands: its first and its last byte, counted from 1.
+pub enum Spot {
+    At(u8, u8),
+    Nowhere,
+}
+
+// An entry that keeps the rules.
+pub enum EntryRead {
+    Is(Entry),
+    Refused(Refusal),
+}
+
+// No columns.
+pub fn empty_layout() -> Layout
+    ensures { λ r. ⌜ NoColumns r ⌝ }
+{
+    let unused = Entry {
+        first: 0,
+        last: 0,
+        code: 0,
+    };
+    let entries = [unused; 13];
+    Layout { count: 0, entries }
+}
+
+// Where the column of a code stands. Nowhere, where no entry has the code.
+pub fn look(l: Layout, code: u32) -> Spot
+    ensures { λ r. ⌜ SpotFound l code r ⌝ }
+{
+    let n = l.count;
+    let mut i = 0;
+    while i < 13 {
+        if n <= i {
+            return Spot::Nowhere;
+        }
+        let e = l.entries[i];
+        if e.code == code {
+            return Spot::At(e.first, e.last);
+        }
+        i += 1;
+    }
+    Spot::Nowhere
+}
+
+// Whether an entry has the code.
+pub fn carries(l: Layout, code: u32) -> bool
+    ensures { λ r. ⌜ CarriesTest l code r ⌝ }
+{
+    let Spot::At(_, _) = look(l, code) else {
+        return false;
+    };
+    true
+}
+
+// No entry: a refusal of the line in hand, at a byte of it.
+fn refuse(reason: Reason, byte: u32) -> EntryRead
+    ensures { λ r. ⌜ entryTold r ≡ no reason byte ⌝ }
+{
+    EntryRead::Refused(Refusal {
+        reason,
+        line: 0,
+        byte,
+    })
+}
+
+// An entry that has to start at `start`, behind those of a layout, refusals at the byte `first`: 10 where it does not start there or ends before it starts,
+// 11 where its code was there before, 12 where its code is listed and its width is wrong.
+pub fn placed(start: usize, before: Layout, e: Entry, first: u32) -> EntryRead
+    ensures { λ r. ⌜ EntryPlaced start before e first r ⌝ }
+{
+    if e.first as usize != start {
+        return refuse(Reason::Tile, first);
+    }
+    if e.last < e.first {
+        return refuse(Reason::Tile, first);
+    }
+    if carries(before, e.code) {
+        return refuse(Reason::Twice, first);
+    }
+    if !listed::width_fits(e.code, (e.last - e.first) as usize + 1) {
+        return refuse(Reason::Width, first);
+    }
+    EntryRead::Is(e)
+}
+
+// A code's three characters as one number.
+pub enum Letters {
+    Code(u32),
+    NoCode,
+}
+
+// The code at a place of a line. NoCode where not three code characters stand there.
+fn code_at(line: &[u8], at: usize) -> Letters
+    requires { ⌜ at ≤ 2000 ⌝ }
+    ensures { λ r. ⌜ CodeRead (now (line .entry)) at r ⌝ }
+{
+    if !chars::codes_at(line, at, 3) {
+        return Letters::NoCode;
+    }
+    Letters::Code(listed::pack(
+        chars::byte(line, at),
+        chars::byte(line, at + 1),
+        chars::byte(line, at + 2),
+    ))
+}
+
+// The entry of a line behind i others, that has to start at `start` behind those of a layout. 9 at the first byte of SS, FF or CCC, whichever breaks its
+// rule first; then 10, 11 and 12 at the entry's first byte.
+pub fn entry_at(line: &[u8], i: u8, start: usize, before: Layout) -> EntryRead
+    ensures { λ r. ⌜ EntryGiven (now (line .entry)) i start before r ⌝ }
+{
+    let at = 3 + 7 * (i as usize);
+    let Number::Value(ss) = number::digits(line, at, 2) else {
+        return refuse(Reason::Form, at as u32 + 1);
+    };
+    let Number::Value(ff) = number::digits(line, at + 2, 2) else {
+        return refuse(Reason::Form, at as u32 + 3);
+    };
+    let Letters::Code(code) = code_at(line, at + 4) else {
+        return refuse(Reason::Form, at as u32 + 5);
+    };
+    let first = ss as u8;
+    let last = ff as u8;
+    placed(start, before, Entry { first, last, code }, at as u32 + 1)
+}
+
+// Where the first column of a family starts: byte 36 of a B line, byte 8 of a K line.
+pub fn first_start(family: Family) -> usize
+    ensures { λ r. ⌜ StartGiven family r ⌝ }
+{
+    match family {
+        Family::B => 36,
+        Family::K => 8,
+    }
+}
+
+// Where the column of a code stands by a layout, allowed or not: its first and last byte, counted from 1. 19 where it has no such code.
+pub fn find(l: Layout, code: [u8; 3]) -> ColumnRead
+    ensures { λ r. ⌜ ColumnFound l code r ⌝ }
+{
+    let Spot::At(first, last) = look(l, listed::pack(code[0], code[1], code[2])) else {
+        return ColumnRead::Refused(Refusal {
+            reason: Reason::Absent,
+            line: 0,
+            byte: 0,
+        });
+    };
+    ColumnRead::Between(first, last)
+}

@@ -1,0 +1,2 @@
+-- The text of the line that a refusal names.
+pub mod Faulty

@@ -1,8 +1,0 @@
--- `file::order::fix_counted` meets its contract. Assumes nothing.
-use native.Mathlib.Nat.{add-zero}
-use borrow.Author.Needs.{needs}
-use Rattle.file.proofs.order.fix_counted.Statement.{statement}
-use Rattle.file.proofs.order.fix_counted.Tie as tie
-
-pub fix-counted-spec : {M : Type 1} → statement M
-fix-counted-spec = tie.close (tie.spec (λ c. search needs) (λ c. rw add-zero))

@@ -1,0 +1,2 @@
+-- What the quick test of a B line's fields says.
+pub mod Front

@@ -1,0 +1,34 @@
+-- For each promise of this crate: two answers that meet it are the same. Assumes nothing.
+use Prim.Native.Nat.{ℕ}
+use mathlib.Core.List.{List}
+use mathlib.Core.Path.{refl, ap}
+use Rattle.rules.specs.declared.Family.{Family}
+use Rattle.laws.proofs.Only.{Only, alike, layout-only}
+use Rattle.laws.proofs.Told.{OneToOne, by-back, answerOf, refusal-back, fix-one, timed-one, column-one, value-one, presence-one}
+use Rattle.given.specs.Given.{columnAtTold, LayoutBy, FixBy, ExtraBy, ColumnBy, NumberBy, EntryBy, PresenceBy}
+use Rattle.given.specs.declared.ColumnAt.the-variants as columnAt
+
+pub only-layout-by : (f : Family) (l : List ℕ) → Only (LayoutBy f l)
+only-layout-by f l = layout-only
+
+pub only-fix-by : (line l : List ℕ) → Only (FixBy line l)
+only-fix-by line l = alike fix-one
+
+pub only-extra-by : (line l : List ℕ) → Only (ExtraBy line l)
+only-extra-by line l = alike timed-one
+
+pub only-column-by : (line l name : List ℕ) → Only (ColumnBy line l name)
+only-column-by line l name = alike column-one
+
+pub only-number-by : (line l name : List ℕ) → Only (NumberBy line l name)
+only-number-by line l name = alike value-one
+
+column-at-one : OneToOne columnAtTold
+unfolding columnAtTold
+column-at-one = by-back (answerOf columnAt.Is columnAt.Refused) (elim [ columnAt.Is e ↦ refl | columnAt.Refused r ↦ ap columnAt.Refused (refusal-back r) ])
+
+pub only-entry-by : (l : List ℕ) (n : ℕ) → Only (EntryBy l n)
+only-entry-by l n = alike column-at-one
+
+pub only-presence-by : (l : List ℕ) → Only (PresenceBy l)
+only-presence-by l = alike presence-one

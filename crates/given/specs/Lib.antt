@@ -1,0 +1,2 @@
+-- What is said of a line with the layout given as the text of its line.
+pub mod Given

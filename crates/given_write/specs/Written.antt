@@ -1,0 +1,47 @@
+-- What is said of a line that is written by a layout given as the text of its own line, and the output afterwards.
+use Prim.Native.Nat.{ℕ}
+use Prim.Native.Char.{code}
+use mathlib.Core.List.{List}
+use mathlib.Core.Path.{_≡_}
+use Rattle.rules.specs.Layouts.{emptyLayout, firstStart, allowed}
+use Rattle.rules.specs.Reads.{layoutSaid}
+use Rattle.rules.specs.Refusals.{Said, andThen, valueOr}
+use Rattle.rules.specs.Writes.{wroteTold, written, outAfter, layoutText, fixText, isFix, extraText, isExtra}
+use Rattle.rules.specs.declared.Family.the-variants as family
+use Rattle.rules.specs.declared.Fix.{Fix}
+use Rattle.rules.specs.declared.Wrote.{Wrote}
+use Rattle.known.specs.Known.{familyBy}
+use Rattle.given.specs.Given.{orBadValue, layoutBy}
+
+-- what is said of a text that is to be written, and the output afterwards
+pub record SaidWritten (said : Said ℕ) (text : List ℕ) (place : ℕ) (out : List ℕ) (r : Wrote) (after : List ℕ) : Type 0 where
+  pub told : wroteTold r ≡ said
+  pub bytes : after ≡ outAfter said text place out
+
+-- "17 BAD_VALUE: .. layout .. given is not allowed", then what the writer of a B line says
+unfoldable pub fixWritten : Fix → List ℕ → List ℕ → ℕ → List ℕ → Said ℕ
+fixWritten f columns l place out = andThen (layoutBy family.B l) λ layout. written (isFix f columns layout) (fixText f columns) place out
+
+-- the same of a K line
+unfoldable pub extraWritten : ℕ → List ℕ → List ℕ → ℕ → List ℕ → Said ℕ
+extraWritten t columns l place out = andThen (layoutBy family.K l) λ layout. written (isExtra t columns layout) (extraText t columns) place out
+
+-- an I or a J line from its text: 17 where it tells no layout, then what the writer of that layout says
+unfoldable pub layoutWritten : List ℕ → ℕ → List ℕ → Said ℕ
+layoutWritten l place out =
+    andThen (orBadValue (layoutSaid (familyBy (code "I") l) l)) λ layout.
+    written (allowed (firstStart (familyBy (code "I") l)) layout) (layoutText (familyBy (code "I") l) layout) place out
+
+unfoldable pub layoutTextBy : List ℕ → List ℕ
+layoutTextBy l = layoutText (familyBy (code "I") l) (valueOr emptyLayout (layoutSaid (familyBy (code "I") l) l))
+
+-- ---- the promises of this crate's functions
+
+abbrev pub FixWrittenBy : Fix → List ℕ → List ℕ → ℕ → List ℕ → Wrote → List ℕ → Type 0
+FixWrittenBy f columns l place out r after = SaidWritten (fixWritten f columns l place out) (fixText f columns) place out r after
+
+abbrev pub ExtraWrittenBy : ℕ → List ℕ → List ℕ → ℕ → List ℕ → Wrote → List ℕ → Type 0
+ExtraWrittenBy t columns l place out r after = SaidWritten (extraWritten t columns l place out) (extraText t columns) place out r after
+
+abbrev pub LayoutWrittenBy : List ℕ → ℕ → List ℕ → Wrote → List ℕ → Type 0
+LayoutWrittenBy l place out r after = SaidWritten (layoutWritten l place out) (layoutTextBy l) place out r after

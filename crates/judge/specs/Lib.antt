@@ -1,0 +1,2 @@
+-- The promise of a line judged.
+pub mod Lines

@@ -1,0 +1,3 @@
+-- What the proofs of several readers use; and that each promise has one answer.
+pub mod Laws
+mod Only

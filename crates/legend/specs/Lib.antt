@@ -1,0 +1,2 @@
+-- The layouts that a line can spell.
+pub mod Spelling

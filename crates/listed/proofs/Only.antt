@@ -1,0 +1,14 @@
+-- One answer at most meets each promise of this crate. Assumes nothing.
+use Prim.Native.Nat.{ℕ}
+use Rattle.laws.proofs.Only.{Only, same, alike}
+use Rattle.laws.proofs.Told.{found-one}
+use Rattle.listed.specs.Parts.{CodePacked, ListedFound, WidthTest}
+
+pub only-code-packed : (a b c : ℕ) → Only (CodePacked a b c)
+only-code-packed a b c = same
+
+pub only-listed-found : (x : ℕ) → Only (ListedFound x)
+only-listed-found x = alike found-one
+
+pub only-width-test : (x width : ℕ) → Only (WidthTest x width)
+only-width-test x width = same

@@ -1,0 +1,25 @@
+-- What a row of the table says, and the promises on codes that the rules do not name.
+use Prim.Native.Nat.{ℕ}
+use mathlib.Core.Bool.{Bool}
+use mathlib.Core.Path.{_≡_}
+use Rattle.rules.specs.Listed.{packed, packedOf, listedNumber, widthFits}
+use Rattle.rules.specs.Promises.{foundTold}
+use Rattle.rules.specs.declared.Found.{Found}
+use Rattle.rules.specs.declared.Listed.{Listed}
+use Rattle.listed.specs.declared.Row.{Row}
+
+-- a row of the table: code, least width, most width, sign flag
+abbrev pub inRow : Row → Listed
+inRow r = record { code = packedOf (r .0); least = r .1; most = r .2; sign = r .3 }
+
+-- three characters as one number
+abbrev pub CodePacked : ℕ → ℕ → ℕ → ℕ → Type 0
+CodePacked a b c r = r ≡ packed a b c
+
+-- a listed code's number
+abbrev pub ListedFound : ℕ → Found → Type 0
+ListedFound x r = foundTold r ≡ listedNumber x
+
+-- whether a column of a code may have a width
+abbrev pub WidthTest : ℕ → ℕ → Bool → Type 0
+WidthTest x width r = r ≡ widthFits x width

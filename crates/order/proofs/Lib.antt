@@ -1,0 +1,5 @@
+pub mod Others
+pub mod Counts
+pub mod Turns
+pub mod States
+pub mod Only

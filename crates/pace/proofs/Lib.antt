@@ -1,0 +1,2 @@
+-- What the proofs of a line taken by numbers share.
+pub mod Lines

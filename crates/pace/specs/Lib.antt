@@ -1,0 +1,2 @@
+-- What a line taken by numbers says.
+pub mod Paces

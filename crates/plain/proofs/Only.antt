@@ -1,0 +1,18 @@
+-- One answer at most meets each promise of this crate. Assumes nothing.
+use Prim.Native.Nat.{ℕ}
+use mathlib.Core.Bool.{Bool}
+use mathlib.Core.List.{List}
+use Rattle.laws.proofs.Only.{Only, same}
+use Rattle.plain.specs.Plain.{PlainTest, MildTest, DigitsTest, SignTest}
+
+pub only-plain-test : (l : List ℕ) → Only (PlainTest l)
+only-plain-test l = same
+
+pub only-mild-test : (l : List ℕ) → Only (MildTest l)
+only-mild-test l = same
+
+pub only-digits-test : (l : List ℕ) (from : ℕ) → Only (DigitsTest l from)
+only-digits-test l from = same
+
+pub only-sign-test : (sign : Bool) (l : List ℕ) → Only (SignTest sign l)
+only-sign-test sign l = same

@@ -1,0 +1,2 @@
+-- What the tests of every byte say.
+pub mod Plain

@@ -1,0 +1,2 @@
+-- The law that the proof of a position uses.
+pub mod Laws

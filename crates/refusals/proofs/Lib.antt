@@ -1,0 +1,3 @@
+-- What the proofs share, and that each promise has one answer.
+pub mod Words
+pub mod Only

@@ -1,0 +1,2 @@
+-- Document 01's table of refusals, and the promises of this crate.
+pub mod Table

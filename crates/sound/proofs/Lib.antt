@@ -1,0 +1,2 @@
+-- What a layout is that a line tells.
+pub mod Placed

@@ -1,0 +1,2 @@
+-- What is surely good of a line with columns.
+pub mod Sure

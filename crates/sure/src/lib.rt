@@ -1,0 +1,149 @@
+// A line with columns that is surely good, told quickly: its time, or nothing where the line is refused or not sure to be good.
+ghost use mathlib.Core.Bool.{_||_};
+ghost use mathlib.Core.Path.{_≡_};
+ghost use lib.ListN.{drop};
+ghost use Rattle.rules.specs.Choice.{byte};
+ghost use Rattle.rules.specs.Fields.{timeTold};
+ghost use Rattle.rules.specs.Layouts.{firstStart};
+ghost use Rattle.rules.specs.Lines.{fixFields};
+ghost use Rattle.rules.specs.Listed.{isDigits};
+ghost use Rattle.plain.specs.Plain.{isMild, every};
+ghost use Rattle.sure.specs.Sure.{ruleOf, keepsAs, keepsPattern, timeOf, fieldsTime, PatternGiven, SureTold};
+use rules::Family;
+use rules::FixRead;
+use rules::Layout;
+use rules::Time;
+
+// What the column of a code must hold: 0 any text, 1 digits, 2 digits that may follow a minus.
+fn rule_of(code: u32) -> u8
+    ensures { λ r. ⌜ r ≡ ruleOf code ⌝ }
+{
+    if listed::keeps_rule(code, b"A") {
+        return 0;
+    }
+    if listed::keeps_rule(code, b"-0") {
+        return 2;
+    }
+    1
+}
+
+// The pattern of a layout: for each column its first and last byte and what it must hold, one after the other; zeros behind the last.
+pub fn pattern(layout: Layout) -> [u8; 39]
+    ensures { λ r. ⌜ PatternGiven layout r ⌝ }
+{
+    let n = layout.count;
+    let mut p = [0u8; 39];
+    let mut i = 0;
+    while i < 13 {
+        if n <= i {
+            return p;
+        }
+        let e = layout.entries[i];
+        let at = 3 * i;
+        p[at] = e.first;
+        p[at + 1] = e.last;
+        p[at + 2] = rule_of(e.code);
+        i += 1;
+    }
+    p
+}
+
+fn keeps(rule: u8, text: &[u8]) -> bool
+    ensures { λ r. ⌜ r ≡ keepsAs rule (now (text .entry)) ⌝ }
+{
+    if rule == 0 {
+        return true;
+    }
+    plain::keeps_sign(rule == 2, text)
+}
+
+// Whether every column of a line holds what the pattern says.
+fn keeps_pattern(line: &[u8], pattern: &[u8]) -> bool
+    ensures { λ r. ⌜ r ≡ keepsPattern (now (line .entry)) (now (pattern .entry)) ⌝ }
+{
+    let n = pattern.len() / 3;
+    let mut i = 0;
+    while i < n {
+        let at = 3 * i;
+        let first = pattern[at];
+        let last = pattern[at + 1];
+        let rule = pattern[at + 2];
+        if !keeps(rule, column::text_of(line, first, last)) {
+            return false;
+        }
+        i += 1;
+    }
+    true
+}
+
+// Whether every byte is mild; most lines have plain bytes alone.
+fn is_clean(line: &[u8]) -> bool
+    ensures { λ r. ⌜ r ≡ every isMild (now (line .entry)) ⌝ }
+{
+    if plain::is_plain(line) {
+        return true;
+    }
+    plain::is_mild(line)
+}
+
+// The time of a B line whose fields before its columns keep their rules. Where its bytes tell that the other fields do, none of them is read.
+fn fix_time(line: &[u8]) -> Time
+    ensures { λ r. ⌜ timeTold r ≡ timeOf (fixFields (now (line .entry))) ⌝ }
+{
+    if front::is_front(line) {
+        return field::time_at(line, 1);
+    }
+    match fix::fix_fields(line) {
+        FixRead::Is(f) => Time::Secs(f.time),
+        FixRead::Refused(_) => Time::NoTime,
+    }
+}
+
+// The time of a line whose fields before its columns keep their rules.
+fn fields_time(family: Family, line: &[u8]) -> Time
+    ensures { λ r. ⌜ timeTold r ≡ fieldsTime family (now (line .entry)) ⌝ }
+{
+    match family {
+        Family::B => fix_time(line),
+        Family::K => field::time_at(line, 1),
+    }
+}
+
+// The offset of a family's first column.
+fn columns_from(family: Family) -> usize
+    ensures { λ r. ⌜ r ≡ byte (firstStart family) ⌝ }
+{
+    match family {
+        Family::B => 35,
+        Family::K => 7,
+    }
+}
+
+// Whether the columns of a line are digits alone, or hold what the pattern says.
+fn keeps_columns(family: Family, line: &[u8], pattern: &[u8]) -> bool
+    ensures { λ r. ⌜ r ≡ (isDigits (drop (byte (firstStart family)) (now (line .entry))) || keepsPattern (now (line .entry)) (now (pattern .entry))) ⌝ }
+{
+    if plain::is_digits_from(line, columns_from(family)) {
+        return true;
+    }
+    keeps_pattern(line, pattern)
+}
+
+// The time of a line of this many bytes, all mild, whose fields keep their rules and whose columns are digits alone or hold what the pattern says. NoTime for any other line.
+pub fn sure_line(family: Family, line: &[u8], size: usize, pattern: &[u8]) -> Time
+    ensures { λ r. ⌜ SureTold family (now (line .entry)) size (now (pattern .entry)) r ⌝ }
+{
+    if line.len() != size {
+        return Time::NoTime;
+    }
+    if !is_clean(line) {
+        return Time::NoTime;
+    }
+    let Time::Secs(t) = fields_time(family, line) else {
+        return Time::NoTime;
+    };
+    if !keeps_columns(family, line, pattern) {
+        return Time::NoTime;
+    }
+    Time::Secs(t)
+}

@@ -1,0 +1,126 @@
+// A line read by the readers of its kind: what it says is printed, or why it is refused. A good I or J line tells the layout of those after it.
+use libc::STDOUT_FILENO;
+use rules::DateRead;
+use rules::Family;
+use rules::FixRead;
+use rules::HeadRead;
+use rules::Kind;
+use rules::Layout;
+use rules::Outcome;
+use rules::PointRead;
+use rules::TimeRead;
+
+// The layouts of B and K lines that the lines so far have told.
+pub struct Told {
+    pub fixes: Layout,
+    pub extras: Layout,
+}
+
+pub fn none_told() -> Told {
+    Told {
+        fixes: layout::empty_layout(),
+        extras: layout::empty_layout(),
+    }
+}
+
+fn pass() {
+    io::write_all(STDOUT_FILENO, b"PASS\n");
+}
+
+fn print_outcome(outcome: Outcome) {
+    match outcome {
+        Outcome::Accepted => pass(),
+        Outcome::Refused(why) => lister::print_refusal(why),
+    }
+}
+
+fn print_time(read: TimeRead) {
+    match read {
+        TimeRead::Secs(_) => pass(),
+        TimeRead::Refused(why) => lister::print_refusal(why),
+    }
+}
+
+fn print_date(line: &[u8]) {
+    match read::date(line) {
+        DateRead::On(_) => pass(),
+        DateRead::Refused(why) => lister::print_refusal(why),
+    }
+}
+
+fn print_head(line: &[u8]) {
+    match read::head(line) {
+        HeadRead::Is(_) => pass(),
+        HeadRead::Refused(why) => lister::print_refusal(why),
+    }
+}
+
+fn print_point(line: &[u8]) {
+    match read::point(line) {
+        PointRead::Is(_) => pass(),
+        PointRead::Refused(why) => lister::print_refusal(why),
+    }
+}
+
+fn print_fix(line: &[u8], layout: Layout) {
+    match read::fix(line, layout) {
+        FixRead::Is(f) => {
+            lister::print_fix(0, f);
+            lister::print_columns(line, layout);
+        }
+        FixRead::Refused(why) => lister::print_refusal(why),
+    }
+}
+
+fn print_layout(family: Family, line: &[u8]) {
+    let read = read::layout_of(family, line);
+    let outcome = read.outcome;
+    print_outcome(outcome);
+}
+
+// What the readers of a line's kind say of it; an H line is read as a date line and as another, a C line as a head and as a point.
+fn print_line(line: &[u8], fixes: Layout, extras: Layout) {
+    match judge::kind_of(chars::byte(line, 0)) {
+        Kind::A => print_outcome(line::recorder(line)),
+        Kind::B => print_fix(line, fixes),
+        Kind::C => {
+            print_head(line);
+            print_point(line);
+        }
+        Kind::D => print_outcome(line::differential(line)),
+        Kind::E => print_time(read::event(line)),
+        Kind::F => print_time(read::satellites(line)),
+        Kind::G => print_outcome(shape::shaped(line, 2, 255, false)),
+        Kind::H => {
+            print_date(line);
+            print_outcome(line::header(line));
+        }
+        Kind::I => print_layout(Family::B, line),
+        Kind::J => print_layout(Family::K, line),
+        Kind::K => print_time(read::extra(line, extras)),
+        Kind::L => print_outcome(shape::shaped(line, 1, 99, false)),
+        Kind::Other => print_outcome(shape::shaped(line, 1, 255, false)),
+        Kind::NoKind => print_time(read::event(line)),
+    }
+}
+
+fn next_layout(family: Family, line: &[u8], old: Layout) -> Layout {
+    let read = read::layout_of(family, line);
+    let outcome = read.outcome;
+    let layout = read.layout;
+    match outcome {
+        Outcome::Accepted => layout,
+        Outcome::Refused(_) => old,
+    }
+}
+
+// The layouts that are told after a line.
+pub fn read(line: &[u8], told: Told) -> Told {
+    let fixes = told.fixes;
+    let extras = told.extras;
+    print_line(line, fixes, extras);
+    Told {
+        fixes: next_layout(Family::B, line, fixes),
+        extras: next_layout(Family::K, line, extras),
+    }
+}
