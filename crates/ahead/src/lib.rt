@@ -78,7 +78,7 @@ fn run_lines(
     ahead_at(p, st)
 }
 
-// Whether body lines may come at a place of a file of allowed size, and the layouts are allowed.
+// Whether body lines may come at a place of a file of allowed size, and the counts are few.
 fn may_run(file: &[u8], from: usize, st: State) -> bool
     ensures { λ r. ⌜ (r ≡ true → MayRun (now (file .entry)) from st) ⌝ }
 {

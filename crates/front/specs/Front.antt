@@ -1,4 +1,4 @@
--- A B line whose fields before the columns are told to be good by bounds for each byte, and the promise of the test.
+-- A B line whose fields before the columns, the hours of its time apart, are told to be good by bounds for each byte, and the promise of the test.
 use Prim.Native.Nat.{ℕ}
 use Prim.Native.Char.{code}
 use mathlib.Core.Bool.{Bool, true, false, _&&_, _||_}

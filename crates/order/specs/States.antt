@@ -47,7 +47,7 @@ hasFew st = isFew (st .flight .lines) && isFew (st .flight .bs) && isFew (st .fl
 abbrev pub FewTest : State → Bool → Type 0
 FewTest st r = r ≡ hasFew st
 
--- ---- the state before the first line, and what a line changes in it; a count that is not few stays
+-- ---- the state before the first line, and what a line changes in it; where the count that would move is not few, the state stays as it is
 
 abbrev pub NoFlight : Flight → Type 0
 NoFlight r = r ≡ noFlight

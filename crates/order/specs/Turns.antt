@@ -17,7 +17,7 @@ pub record Passed (file : List ℕ) (at : ℕ) (st : State) (next : ℕ) (s : St
   pub within : next ≤ length file
   pub judged : judge text st ≡ says s
 
--- the lines before `at` are passed and st is the state they left: what is left to compute from here is the whole answer, and the table so far has their offsets
+-- the lines before `at` have their offsets in the table so far, and from st the rest of the file gives the whole answer
 pub record Here (file table₀ table : List ℕ) (at : ℕ) (st : State) : Type 0 where
   pub passed : List ℕ
   pub count : length passed ≡ st .flight .lines

@@ -104,7 +104,7 @@ abbrev pub JudgedAs : List ℕ → State → Pace → ℕ → Taken → Type 0
 JudgedAs l st p next (taken.Next q) = Judges l st p next q
 JudgedAs l st p next taken.Unsure = Unit {0}
 
--- the same of a line whose bytes are all mild
+-- the same, and the line's bytes are all mild
 abbrev pub MildAs : List ℕ → State → Pace → ℕ → Taken → Type 0
 MildAs l st p next (taken.Next q) = Judges l st p next q × (every isMild l ≡ true)
 MildAs l st p next taken.Unsure = Unit {0}

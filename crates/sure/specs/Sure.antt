@@ -1,4 +1,4 @@
--- A line with columns that is surely good: its bytes are valid in every line, its fields keep their rules, and its columns hold what the pattern of their layout says.
+-- A line with columns that is surely good: its bytes are mild, and so valid in every line, its fields keep their rules, and its columns hold what the pattern of their layout says.
 use Prim.Native.Nat.{ℕ}
 use mathlib.Core.Bool.{Bool, true, cond, _&&_, _||_}
 use mathlib.Core.List.{List, [], _∷_}
