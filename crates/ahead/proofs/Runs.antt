@@ -8,7 +8,8 @@ use borrow.Author.Tests.{leb-true}
 use lib.Dec.{leb}
 use lib.ListN.{length, set, take, drop, replicate, length-set, length-take, length-replicate}
 use lib.Seq.{sets, sets-eq, length-sets, take-at}
-use Rattle.rules.specs.Layouts.{firstStart, allowed, entriesOf}
+use Rattle.rules.specs.Families.{firstStart}
+use Rattle.rules.specs.Layouts.{allowed, entriesOf}
 use Rattle.rules.specs.declared.Entry.{Entry}
 use Rattle.rules.specs.declared.Layout.{Layout}
 use Rattle.rules.specs.declared.State.{State}

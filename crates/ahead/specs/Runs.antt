@@ -4,8 +4,9 @@ use mathlib.Core.Bool.{true}
 use mathlib.Core.List.{List}
 use mathlib.Core.Path.{_≡_}
 use lib.ListN.{length, take}
-use Rattle.rules.specs.Layouts.{firstStart, allowed, lineLength, entriesOf}
-use Rattle.rules.specs.Order.{afterH, inBody}
+use Rattle.rules.specs.Families.{firstStart}
+use Rattle.rules.specs.Roles.{afterH, inBody}
+use Rattle.rules.specs.Layouts.{allowed, lineLength, entriesOf}
 use Rattle.rules.specs.declared.Family.{Family}
 use Rattle.rules.specs.declared.Family.the-variants as family
 use Rattle.rules.specs.declared.Layout.{Layout}

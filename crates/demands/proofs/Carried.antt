@@ -16,7 +16,7 @@ use Rattle.rules.specs.Chars.{isValid, isCode, codesAt}
 use Rattle.rules.specs.Fields.{timeAt, timeText, dateAt, dateText, isEither}
 use Rattle.rules.specs.Lines.{shaped, aLine, isDateMark, dateLine, hLine, dLine, eLine, badPair, fLine, lLine, gLine, otherLine}
 use Rattle.rules.specs.declared.Date.{Date}
-use Rattle.trips.specs.Limits.{isTime, isDate}
+use Rattle.rules.specs.Limits.{isTime, isDate}
 use Rattle.trips.proofs.Laws.{none-some, refuses-says, given-inv, need-inv, then-inv, and-inv, past, byte-there}
 use Rattle.trips.proofs.Times.{time-trip}
 use Rattle.trips.proofs.Dates.{date-trip}

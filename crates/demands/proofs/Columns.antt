@@ -12,11 +12,12 @@ use lib.Dec.{eqb, leb}
 use lib.IntN.{pos, negℤ}
 use lib.ListN.{length, getD, drop, length-append, length-drop, take-append-drop}
 use lib.Seq.{drop-length, drop-drop, length-take-le}
+use Rattle.rules.specs.Families.{firstStart}
 use Rattle.rules.specs.Choice.{given, need, on, firstOf, part}
 use Rattle.rules.specs.Refusals.{says, refuses, number}
 use Rattle.rules.specs.Numbers.{numberAt, digitsOf, wholeOf}
 use Rattle.rules.specs.Listed.{packedOf, codeText}
-use Rattle.rules.specs.Layouts.{emptyLayout, withEntry, entriesOf, Span, spanOf, look, firstStart, allowed, lineLength, columnText}
+use Rattle.rules.specs.Layouts.{emptyLayout, withEntry, entriesOf, Span, spanOf, look, allowed, lineLength, columnText}
 use Rattle.rules.specs.Reads.{lineSaid, columnSaid, columnRest, numberSaid}
 use Rattle.rules.specs.declared.Signed.{Signed}
 use Rattle.rules.specs.declared.Entry.{Entry}

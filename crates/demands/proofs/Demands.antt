@@ -11,10 +11,11 @@ use mathlib.Core.List.{List, [], _∷_, _++_}
 use mathlib.Core.Logic.{_↔_}
 use mathlib.Core.Path.{_≡_, refl, sym, _∙_, ap}
 use lib.ListN.{length, getD}
+use Rattle.rules.specs.Families.{firstStart}
 use Rattle.rules.specs.Refusals.{says, refuses}
 use Rattle.rules.specs.Files.{verdict}
 use Rattle.rules.specs.Listed.{widthFits, keepsRule}
-use Rattle.rules.specs.Layouts.{isSaid, firstStart, allowed}
+use Rattle.rules.specs.Layouts.{isSaid, allowed}
 use Rattle.rules.specs.Reads.{fixSaid, extraSaid, headSaid, pointSaid, layoutSaid}
 use Rattle.rules.specs.Writes.{fixText, extraText, headText, pointText, layoutText, isFix, isExtra, isHead, isPoint}
 use Rattle.rules.specs.declared.Date.{Date}
@@ -25,7 +26,7 @@ use Rattle.rules.specs.declared.Head.{Head}
 use Rattle.rules.specs.declared.Point.{Point}
 use Rattle.rules.specs.declared.Flight.{Flight}
 use Rattle.rules.proofs.Damaged.{fiveLines}
-use Rattle.trips.specs.Limits.{isDate, goodFix, goodExtra, goodHead, goodPoint}
+use Rattle.rules.specs.Limits.{isDate, goodFix, goodExtra, goodHead, goodPoint}
 use Rattle.trips.proofs.Fixes.{fix-trip, fix-good}
 use Rattle.trips.proofs.Extras.{extra-trip, extra-good}
 use Rattle.trips.proofs.Heads.{head-trip, head-good}

@@ -11,13 +11,14 @@ use native.Mathlib.Omega.{arith}
 use borrow.Author.Tests.{le-leb, lt-leb, eqb-true, eqb-false, eq-eqb, ne-eqb}
 use lib.Dec.{eqb, leb, ltb}
 use lib.ListN.{length, getD, drop, replicate, length-append}
+use Rattle.rules.specs.Families.{firstStart}
 use Rattle.rules.specs.Choice.{given, need, on, firstOf}
 use Rattle.rules.specs.Refusals.{number, Said, says, refuses, andThen}
 use Rattle.rules.specs.Chars.{isValid, isCode, codesAt, firstInvalid, characters}
 use Rattle.rules.specs.Numbers.{numberAt}
 use Rattle.rules.specs.Fields.{timeAt, dateAt, latitudeAt, longitudeAt, altitudeAt, isEither}
 use Rattle.rules.specs.Listed.{codeAt, widthFits, keepsRule}
-use Rattle.rules.specs.Layouts.{unused, firstStart, withEntry, lineLength, spanOf, look, carries, placed, entryAt, entriesFrom, layoutFields, columnText, badColumn, columns}
+use Rattle.rules.specs.Layouts.{unused, withEntry, lineLength, spanOf, look, carries, placed, entryAt, entriesFrom, layoutFields, columnText, badColumn, columns}
 use Rattle.rules.specs.Lines.{kindOf, isSized, shaped, aLine, isDateMark, dateLine, hLine, layoutLine, plannedAt, headFields, headLine, pointLine, dLine, eLine, badPair, fLine, fixFields, shapedBy, bLine, kLine, lLine, gLine, otherLine}
 use Rattle.rules.specs.Order.{isKind, orderOf, moved, dated, withFixes, withExtras, counted, begun, pointed, onward, nextDay, back, isBack, passing, timed, ruled, judge}
 use Rattle.rules.specs.declared.Entry.{Entry}

@@ -11,14 +11,15 @@ use borrow.Author.Tests.{le-leb, eqb-true, eq-eqb, ne-eqb}
 use lib.Dec.{eqb, leb}
 use lib.ListN.{length, getD, replicate, length-append}
 use lib.Seq.{drop-length}
+use Rattle.rules.specs.Families.{firstStart, layoutLetter}
 use Rattle.rules.specs.Choice.{leads}
 use Rattle.rules.specs.Refusals.{says}
 use Rattle.rules.specs.Chars.{isValid, isCode}
 use Rattle.rules.specs.Numbers.{numberAt, digitsOf}
 use Rattle.rules.specs.Listed.{codeText, isCodeWord}
-use Rattle.rules.specs.Layouts.{firstStart, emptyLayout, entriesOf, layoutFields, isSpelt, isUnused, allPlaced, allowed}
+use Rattle.rules.specs.Layouts.{emptyLayout, entriesOf, layoutFields, isSpelt, isUnused, allPlaced, allowed}
 use Rattle.rules.specs.Lines.{shaped, layoutLine}
-use Rattle.rules.specs.Reads.{layoutLetter, layoutSaid}
+use Rattle.rules.specs.Reads.{layoutSaid}
 use Rattle.rules.specs.Writes.{entryText, entryTexts, layoutText}
 use Rattle.rules.specs.declared.Entry.{Entry}
 use Rattle.rules.specs.declared.Layout.{Layout}

@@ -10,11 +10,12 @@ use native.Mathlib.Omega.{arith}
 use borrow.Author.Tests.{le-leb, lt-leb, leb-true, leb-false, eqb-true, eqb-false, eq-eqb, ne-eqb, ltb-true, ltb-false, lt-ltb, le-ltb, not-true}
 use lib.Dec.{leb, eqb, ltb}
 use lib.ListN.{length, getD}
+use Rattle.rules.specs.Roles.{leading, stageAfter}
 use Rattle.rules.specs.Choice.{on, leads}
 use Rattle.rules.specs.Refusals.{Said, says, andThen}
 use Rattle.rules.specs.Layouts.{isUnused, allPlaced, allowed}
 use Rattle.rules.specs.Lines.{kindOf, aLine, dateLine, hLine, layoutLine, headLine, pointLine, dLine, eLine, fLine, bLine, kLine, lLine, gLine, otherLine}
-use Rattle.rules.specs.Order.{start, leading, stageAfter, isC, isKind, fitsDeclaration, orderOf, moved, dated, withFixes, withExtras, counted, begun, pointed, clocked, onward, nextDay, back, passing, isBack, timed, ruled, judge}
+use Rattle.rules.specs.Order.{start, isC, isKind, fitsDeclaration, orderOf, moved, dated, withFixes, withExtras, counted, begun, pointed, clocked, onward, nextDay, back, passing, isBack, timed, ruled, judge}
 use Rattle.rules.specs.declared.Date.{Date}
 use Rattle.rules.specs.declared.Layout.{Layout}
 use Rattle.rules.specs.declared.Family.the-variants as family

@@ -9,8 +9,9 @@ use native.Mathlib.Omega.{arith}
 use borrow.Author.Tests.{le-leb, lt-leb, leb-true, leb-false, eqb-true, eq-eqb}
 use lib.Dec.{eqb, leb}
 use lib.ListN.{length}
+use Rattle.rules.specs.Roles.{leading, stageAfter}
 use Rattle.rules.specs.Choice.{need, bytes}
-use Rattle.rules.specs.Order.{leading, stageAfter, isC, fitsDeclaration, orderOf}
+use Rattle.rules.specs.Order.{isC, fitsDeclaration, orderOf}
 use Rattle.rules.specs.declared.Kind.{Kind}
 use Rattle.rules.specs.declared.Kind.the-variants as kind
 use Rattle.rules.specs.declared.State.{State}

@@ -11,14 +11,14 @@ use native.Mathlib.Omega.{arith}
 use borrow.Author.Tests.{le-leb, lt-leb, leb-true, eqb-true, eqb-false, eq-eqb, ne-eqb, ltb-true, lt-ltb, not-false}
 use lib.Dec.{eqb, leb, ltb}
 use lib.ListN.{length, getD, length-append}
+use Rattle.rules.specs.Families.{firstStart, layoutLetter}
 use Rattle.rules.specs.Choice.{bytes}
 use Rattle.rules.specs.Refusals.{says}
 use Rattle.rules.specs.Numbers.{numberAt}
 use Rattle.rules.specs.Fields.{timeAt}
 use Rattle.rules.specs.Listed.{codeAt}
-use Rattle.rules.specs.Layouts.{firstStart, emptyLayout, withEntry, entryAt, entriesFrom, layoutFields, columns}
+use Rattle.rules.specs.Layouts.{emptyLayout, withEntry, entryAt, entriesFrom, layoutFields, columns}
 use Rattle.rules.specs.Lines.{shaped, layoutLine, fixFields, shapedBy, bLine, kLine}
-use Rattle.rules.specs.Reads.{layoutLetter}
 use Rattle.rules.specs.Order.{start, moved, withFixes, withExtras, counted, begun, pointed, clocked}
 use Rattle.rules.specs.declared.Entry.{Entry}
 use Rattle.rules.specs.declared.Layout.{Layout}

@@ -15,7 +15,7 @@ use Rattle.rules.specs.Listed.{keepsRule}
 use Rattle.rules.specs.Layouts.{unused, emptyLayout, withEntry, entriesOf, allowed, lineLength}
 use Rattle.rules.specs.declared.Entry.{Entry}
 use Rattle.rules.specs.declared.Layout.{Layout}
-use Rattle.trips.specs.Limits.{isClean, badTail, goodTail}
+use Rattle.rules.specs.Limits.{isClean, badTail, goodTail}
 use Rattle.trips.proofs.Laws.{false-true, need-inv}
 use Rattle.trips.proofs.Texts.{clean-valid}
 use Rattle.demands.specs.Grammar.{Each, laid, widthOf, Columns, none, column}

@@ -22,7 +22,7 @@ use Rattle.rules.specs.declared.Family.the-variants as family
 use Rattle.rules.specs.declared.Fix.{Fix}
 use Rattle.rules.proofs.Computed.{everything, fileOf}
 use Rattle.rules.proofs.Damaged.{fiveLines, fiveLayout}
-use Rattle.trips.specs.Limits.{isAltitude, goodFixFields}
+use Rattle.rules.specs.Limits.{isAltitude, goodFixFields}
 use Rattle.trips.proofs.Laws.{and-inv}
 use Rattle.trips.proofs.Texts.{areValid}
 use Rattle.demands.specs.Grammar.{Each, IsText, july, AtMostOne, absent, given, Timed, fix, event, satellites, extra, Untimed, differential, remark, other, Items, done, timed, untimed, Body, undeclared, declared, none, column, linesIn, Meets, written}

@@ -9,12 +9,13 @@ use mathlib.Core.Option.{Option}
 use mathlib.Core.Path.{_≡_}
 use lib.Dec.{eqb, leb}
 use lib.ListN.{length, getD, drop}
+use Rattle.rules.specs.Families.{firstStart}
 use Rattle.rules.specs.Choice.{given, byte}
 use Rattle.rules.specs.Chars.{isValid, isCode, codesAt}
 use Rattle.rules.specs.Numbers.{numberAt}
 use Rattle.rules.specs.Fields.{timeAt, dateAt, latitudeAt, longitudeAt, altitudeAt, isEither}
 use Rattle.rules.specs.Listed.{codeAt, widthFits, keepsRule}
-use Rattle.rules.specs.Layouts.{firstStart, spanOf, columnText}
+use Rattle.rules.specs.Layouts.{spanOf, columnText}
 use Rattle.rules.specs.Lines.{kindOf, isDateMark, plannedAt}
 use Rattle.rules.specs.declared.Entry.{Entry}
 use Rattle.rules.specs.declared.Family.{Family}

@@ -19,7 +19,7 @@ use Rattle.rules.specs.Lines.{kindOf, isDateMark, plannedAt}
 use Rattle.rules.specs.Writes.{plannedText}
 use Rattle.rules.specs.declared.Kind.{Kind}
 use Rattle.rules.specs.declared.Kind.the-variants as kind
-use Rattle.trips.specs.Limits.{isTime, isDate, isPlanned, isAltitude}
+use Rattle.rules.specs.Limits.{isTime, isDate, isPlanned, isAltitude}
 use Rattle.demands.specs.Grammar.{Each}
 use Rattle.demands.specs.Checks.{isThere}
 

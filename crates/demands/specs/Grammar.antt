@@ -8,13 +8,13 @@ use mathlib.Core.Logic.{_⊎_}
 use mathlib.Core.Path.{_≡_}
 use lib.Dec.{eqb}
 use lib.ListN.{length, getD, replicate}
+use Rattle.rules.specs.Families.{firstStart, layoutLetter}
 use Rattle.rules.specs.Choice.{byte}
 use Rattle.rules.specs.Chars.{isValid, isCode, codesAt}
 use Rattle.rules.specs.Fields.{timeText, dateText, isEither}
 use Rattle.rules.specs.Numbers.{digitsOf}
 use Rattle.rules.specs.Listed.{isCodeWord, listed}
-use Rattle.rules.specs.Layouts.{unused, emptyLayout, firstStart, entriesOf}
-use Rattle.rules.specs.Reads.{layoutLetter}
+use Rattle.rules.specs.Layouts.{unused, emptyLayout, entriesOf}
 use Rattle.rules.specs.Writes.{fixText, extraText, entryTexts, headText, pointText}
 use Rattle.rules.specs.declared.Date.{Date}
 use Rattle.rules.specs.declared.Entry.{Entry}
@@ -28,7 +28,7 @@ use Rattle.rules.specs.declared.Planned.the-variants as planned
 use Rattle.rules.specs.declared.Head.{Head}
 use Rattle.rules.specs.declared.Point.{Point}
 use Rattle.rules.specs.declared.Flight.{Flight}
-use Rattle.trips.specs.Limits.{isTime, goodFixFields, goodPoint}
+use Rattle.rules.specs.Limits.{isTime, goodFixFields, goodPoint}
 
 -- every element keeps to P
 abbrev pub Each : {A : Type 0} → (A → Type 0) → List A → Type 0

@@ -6,11 +6,12 @@ use mathlib.Core.Option.{none, some}
 use mathlib.Core.Path.{_≡_}
 use lib.IntN.{pos, negℤ}
 use lib.ListN.{length, getD, take, drop}
+use Rattle.rules.specs.Families.{firstStart}
 use Rattle.rules.specs.Choice.{part}
 use Rattle.rules.specs.Refusals.{Said, says, refuses, no}
 use Rattle.rules.specs.Numbers.{digitsOf}
 use Rattle.rules.specs.Listed.{codeText}
-use Rattle.rules.specs.Layouts.{spanOf, entriesOf, firstStart, columnText}
+use Rattle.rules.specs.Layouts.{spanOf, entriesOf, columnText}
 use Rattle.rules.specs.Split.{boundsOf, lineText, stepAt}
 use Rattle.rules.specs.Files.{tableAfter}
 use Rattle.rules.specs.Reads.{fixSaid, extraSaid, headSaid, pointSaid, columnSaid, columnRest, numberSaid}

@@ -7,10 +7,11 @@ use native.Mathlib.Omega.{arith}
 use borrow.Author.Tests.{ne-eqb}
 use lib.Dec.{eqb, leb}
 use lib.ListN.{length, drop}
+use Rattle.rules.specs.Roles.{afterG}
 use Rattle.rules.specs.Choice.{need}
 use Rattle.rules.specs.Refusals.{Said, says, refuses, no, inLine, andThen, number}
 use Rattle.rules.specs.Split.{Lines, end, broken, line, linesOf}
-use Rattle.rules.specs.Order.{judge, start, afterG}
+use Rattle.rules.specs.Order.{judge, start}
 use Rattle.rules.specs.Files.{finish, run, verdict}
 use Rattle.rules.specs.declared.Reason.the-variants as reason
 use Rattle.rules.specs.declared.Flight.{Flight}

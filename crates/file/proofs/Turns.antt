@@ -8,9 +8,10 @@ use borrow.Author.Tests.{le-leb, lt-leb}
 use lib.Dec.{eqb, leb}
 use lib.ListN.{length, take, drop, length-drop, length-take, drop-of-length-le}
 use lib.Seq.{take-at}
+use Rattle.rules.specs.Roles.{afterG}
 use Rattle.rules.specs.Choice.{need}
 use Rattle.rules.specs.Files.{finish, run, verdict, goodLines, tableAfter, CheckedTold}
-use Rattle.rules.specs.Order.{afterG, judge}
+use Rattle.rules.specs.Order.{judge}
 use Rattle.rules.specs.Promises.{FileChecked}
 use Rattle.rules.specs.Refusals.{number, Said, says, refuses, no, refusal, outcomeTold}
 use Rattle.rules.specs.Split.{linesOf, offsets}

@@ -7,7 +7,8 @@ use mathlib.Core.Path.{_≡_, refl, sym, _∙_}
 use lib.Dec.{eqb}
 use lib.ListN.{length}
 use borrow.Author.Tests.{eq-eqb, ne-eqb}
-use Rattle.rules.specs.Layouts.{LayoutTold, emptyLayout, firstStart, allowed}
+use Rattle.rules.specs.Families.{firstStart}
+use Rattle.rules.specs.Layouts.{LayoutTold, emptyLayout, allowed}
 use Rattle.rules.specs.Promises.{LayoutGiven}
 use Rattle.rules.specs.Reads.{layoutSaid}
 use Rattle.rules.specs.Refusals.{Said, says, refuses, no, refusal, andThen, outcomeTold}

@@ -3,7 +3,8 @@ use Prim.Native.Nat.{ℕ}
 use Prim.Native.Char.{code}
 use mathlib.Core.List.{List}
 use mathlib.Core.Path.{_≡_}
-use Rattle.rules.specs.Layouts.{emptyLayout, firstStart, allowed}
+use Rattle.rules.specs.Families.{firstStart}
+use Rattle.rules.specs.Layouts.{emptyLayout, allowed}
 use Rattle.rules.specs.Reads.{layoutSaid}
 use Rattle.rules.specs.Refusals.{Said, andThen, valueOr}
 use Rattle.rules.specs.Writes.{wroteTold, written, outAfter, layoutText, fixText, isFix, extraText, isExtra}

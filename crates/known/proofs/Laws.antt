@@ -6,8 +6,9 @@ use mathlib.Core.Path.{_≡_, refl, sym, ap, _∙_}
 use borrow.Author.Tests.{eq-eqb, ne-eqb}
 use Rattle.rules.proofs.Links.{outcome-accepted, outcome-refused, fix-is, fix-refused, timed-secs, timed-refused, column-between, column-refused}
 use lib.Dec.{eqb}
+use Rattle.rules.specs.Families.{firstStart}
 use Rattle.rules.specs.Choice.{need, given}
-use Rattle.rules.specs.Layouts.{Span, look, firstStart, allowed}
+use Rattle.rules.specs.Layouts.{Span, look, allowed}
 use Rattle.rules.specs.Numbers.{wholeOf, wholeTold}
 use Rattle.rules.specs.Refusals.{Said, says, no, andThen}
 use Rattle.rules.specs.declared.Reason.the-variants.{Absent, BadValue}

@@ -9,11 +9,12 @@ use borrow.Author.Tests.{leb-true}
 use lib.Dec.{leb, eqb}
 use lib.ListN.{length, getD, take, drop, length-append, length-drop, List·getD-append}
 use lib.Seq.{length-take-le, getD-take, getD-drop, getD-append-add}
+use Rattle.rules.specs.Roles.{afterG}
 use Rattle.rules.specs.Choice.{on}
 use Rattle.rules.specs.Refusals.{Said, says, refuses, no, andThen, number}
 use Rattle.rules.specs.Lines.{kindOf, aLine, dateLine, hLine, layoutLine, headLine, pointLine, dLine, eLine, fLine, bLine, kLine, lLine, gLine, otherLine}
 use Rattle.rules.specs.Split.{Lines, end, broken, line, linesOf, offsets, boundsOf, lineText}
-use Rattle.rules.specs.Order.{moved, counted, clocked, timed, ruled, judge, start, noFlight, orderOf, isBack, passing, isKind, afterG}
+use Rattle.rules.specs.Order.{moved, counted, clocked, timed, ruled, judge, start, noFlight, orderOf, isBack, passing, isKind}
 use Rattle.rules.specs.Files.{finish, run, verdict, goodLines, tableAfter, over}
 use Rattle.rules.specs.declared.Reason.the-variants as reason
 use Rattle.rules.specs.declared.Kind.{Kind}

@@ -3,8 +3,9 @@ use Prim.Native.Nat.{ℕ}
 use mathlib.Core.Bool.{Bool}
 use mathlib.Core.List.{List}
 use mathlib.Core.Path.{_≡_, sym, _∙_}
+use Rattle.rules.specs.Families.{firstStart}
 use Rattle.rules.specs.Refusals.{Said}
-use Rattle.rules.specs.Layouts.{LayoutTold, firstStart, allowed}
+use Rattle.rules.specs.Layouts.{LayoutTold, allowed}
 use Rattle.rules.specs.Files.{CheckedTold}
 use Rattle.rules.specs.Writes.{fixText, isFix, extraText, isExtra, layoutText, headText, isHead, pointText, isPoint}
 use Rattle.rules.specs.Promises.{DigitsRead, WholeRead, DigitsPut, DigitTest, CodeTest, ValidTest, InvalidFound, CodesTest, ByteAt, EitherTest, TimeAt, DateAt, LatitudeAt, LongitudeAt, AltitudeAt, TimePut, DatePut, LatitudePut, LongitudePut, AltitudePut, DegreesGiven, ListedAt, AllowedTest, LengthGiven, LookGiven, PresenceGiven, ColumnTest, KindGiven, ColumnsChecked, ShapeChecked, RecorderChecked, DateLineChecked, HeaderChecked, LayoutChecked, HeadChecked, PointChecked, DifferentialChecked, EventChecked, SatellitesChecked, FixChecked, ExtraChecked, FixGiven, ExtraGiven, EventGiven, SatellitesGiven, DateGiven, LayoutGiven, HeadGiven, HeadRest, PointGiven, PointRest, ColumnGiven, ColumnRest, NumberGiven, FileChecked, LineGiven, LineRest, Written, FixWritten, ExtraWritten, LayoutWritten, HeadWritten, PointWritten}

@@ -6,7 +6,8 @@ use mathlib.Core.Path.{_≡_, refl}
 use denote.Enum.Declared.{tagOf}
 use types.Run.{OneOf, miss}
 use Rattle.rules.proofs.Kind.{the-type}
-use Rattle.rules.specs.Order.{leading, afterH, inBody, stageAfter, isC, isKind}
+use Rattle.rules.specs.Roles.{leading, afterH, inBody, stageAfter}
+use Rattle.rules.specs.Order.{isC, isKind}
 use Rattle.rules.specs.declared.Kind.{Kind}
 use Rattle.rules.specs.declared.Kind.the-variants as kind
 

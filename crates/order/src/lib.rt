@@ -1,7 +1,8 @@
 // Which kind of line may follow which, the time order, and the state that the lines so far have left.
 ghost use mathlib.Core.Path.{_≡_};
+ghost use Rattle.rules.specs.Roles.{leading, stageAfter};
 ghost use Rattle.rules.specs.Layouts.{emptyLayout};
-ghost use Rattle.rules.specs.Order.{leading, stageAfter, isC, fitsDeclaration};
+ghost use Rattle.rules.specs.Order.{isC, fitsDeclaration};
 ghost use Rattle.rules.specs.declared.Kind.the-variants as kind;
 ghost use Rattle.order.specs.States.{leadingTold, OrderTold, KindTest, BackTest, FewTest, NoFlight, BeforeAll, Moved, Dated, FixesSet, ExtrasSet, FixCounted, ExtraCounted, Begun, Pointed, Clocked};
 use rules::Date;

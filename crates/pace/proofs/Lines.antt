@@ -10,11 +10,13 @@ use native.Mathlib.Omega.{arith}
 use borrow.Author.Tests.{le-leb}
 use lib.ListN.{length, getD, take, drop, length-take, length-drop, take-append-drop}
 use lib.Seq.{drop-cons, drop-drop, getD-take, getD-drop}
+use Rattle.rules.specs.Families.{firstStart}
+use Rattle.rules.specs.Roles.{stageAfter}
 use Rattle.rules.specs.Choice.{given, need, on}
 use Rattle.rules.specs.Fields.{timeTold}
-use Rattle.rules.specs.Layouts.{entriesOf, lineLength, firstStart}
+use Rattle.rules.specs.Layouts.{entriesOf, lineLength}
 use Rattle.rules.specs.Lines.{kindOf, bLine, kLine, eLine, fLine, shaped}
-use Rattle.rules.specs.Order.{judge, orderOf, fitsDeclaration, stageAfter, ruled, timed, passing, isBack, moved, counted, clocked}
+use Rattle.rules.specs.Order.{judge, orderOf, fitsDeclaration, ruled, timed, passing, isBack, moved, counted, clocked}
 use Rattle.rules.specs.Reads.{timeReadTold}
 use Rattle.rules.specs.Refusals.{Said, says, outcomeTold}
 use Rattle.rules.specs.Split.{line, linesOf}

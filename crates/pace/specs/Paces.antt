@@ -5,10 +5,12 @@ use mathlib.Core.List.{List}
 use mathlib.Core.Option.{Option, none, some}
 use mathlib.Core.Path.{_≡_}
 use lib.ListN.{length, getD}
+use Rattle.rules.specs.Families.{firstStart}
+use Rattle.rules.specs.Roles.{afterH, inBody}
 use Rattle.rules.specs.Choice.{given, need}
 use Rattle.rules.specs.Fields.{timeTold}
-use Rattle.rules.specs.Layouts.{firstStart, allowed, lineLength, entriesOf}
-use Rattle.rules.specs.Order.{afterH, inBody, passing, isBack, judge}
+use Rattle.rules.specs.Layouts.{allowed, lineLength, entriesOf}
+use Rattle.rules.specs.Order.{passing, isBack, judge}
 use Rattle.rules.specs.Refusals.{says}
 use Rattle.rules.specs.declared.Family.{Family}
 use Rattle.rules.specs.declared.Family.the-variants as family

@@ -1,6 +1,6 @@
 // The readers of a line, total on every line and every layout: 17 first, then the checks of its kind, then 19 and 20; with 0 for the line number.
 ghost use mathlib.Core.Path.{_≡_};
-ghost use Rattle.rules.specs.Reads.{layoutLetter};
+ghost use Rattle.rules.specs.Families.{layoutLetter};
 ghost use Rattle.rules.specs.Promises.{EventGiven, SatellitesGiven, DateGiven, HeadGiven, HeadRest, PointGiven, PointRest, FixGiven, ExtraGiven, ColumnGiven, ColumnRest, NumberGiven, LayoutGiven};
 use rules::ColumnRead;
 use rules::DateRead;

@@ -9,6 +9,7 @@ use lib.Dec.{eqb, leb}
 use lib.ListN.{length, getD, take, drop, set, replicate}
 use Rattle.rules.specs.Choice.{given, need, firstOf, leads, part, byte}
 use Rattle.rules.specs.Refusals.{Said, says, refuses, no, refusal, outcomeTold, outcome, valueOr, andThen, breaks, other}
+use Rattle.rules.specs.Families.{firstStart}
 use Rattle.rules.specs.Numbers.{numberAt}
 use Rattle.rules.specs.Listed.{codeAt, isCodeWord, listed, widthFits, keepsRule, packedOf, listedNumber}
 use Rattle.rules.specs.declared.Reason.the-variants.{Tile, Twice, Width, Column, BadValue, Absent}
@@ -25,11 +26,6 @@ use Rattle.rules.specs.declared.PresenceRead.{PresenceRead}
 use Rattle.rules.specs.declared.PresenceRead.the-variants as presenceRead
 use Rattle.rules.specs.declared.ColumnRead.{ColumnRead}
 use Rattle.rules.specs.declared.ColumnRead.the-variants as columnRead
-
--- "The first entry starts at 36 (I) or 8 (J)"
-abbrev pub firstStart : Family → ℕ
-firstStart family.B = 36
-firstStart family.K = 8
 
 -- what stands behind the last entry
 abbrev pub unused : Entry
@@ -55,9 +51,12 @@ pub record Span : Type 0 where
 abbrev pub spanOf : Entry → Span
 spanOf e = record { first = e .first; last = e .last }
 
--- the first and last byte of the column of a code
+-- the first and last byte of the column of a code, among entries and in a layout
+abbrev pub lookIn : List Entry → ℕ → Option Span
+lookIn es x = firstOf (λ e. eqb (e .code) x) (λ k e. spanOf e) es 0
+
 unfoldable pub look : Layout → ℕ → Option Span
-look l x = firstOf (λ e. eqb (e .code) x) (λ k e. spanOf e) (entriesOf l) 0
+look l x = lookIn (entriesOf l) x
 
 -- whether a code has a column
 unfoldable pub carries : Layout → ℕ → Bool

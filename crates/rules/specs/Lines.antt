@@ -6,15 +6,17 @@ use mathlib.Core.List.{List, [], _∷_}
 use mathlib.Core.Option.{Option, none, some}
 use lib.Dec.{eqb, leb, ltb}
 use lib.ListN.{length, getD, drop}
+use Rattle.rules.specs.Families.{firstStart}
 use Rattle.rules.specs.Choice.{given, need, on, byte}
 use Rattle.rules.specs.Refusals.{Said, says, no, andThen, breaks, time, position, altitude, date, other}
 use Rattle.rules.specs.Chars.{characters, isCode, codesAt}
 use Rattle.rules.specs.Numbers.{numberAt}
 use Rattle.rules.specs.Fields.{timeAt, dateAt, latitudeAt, longitudeAt, altitudeAt, isEither}
-use Rattle.rules.specs.Layouts.{firstStart, layoutFields, lineLength, columns}
+use Rattle.rules.specs.Layouts.{layoutFields, lineLength, columns}
 use Rattle.rules.specs.declared.Reason.the-variants.{Length}
 use Rattle.rules.specs.declared.Date.{Date}
 use Rattle.rules.specs.declared.Layout.{Layout}
+use Rattle.rules.specs.declared.Family.{Family}
 use Rattle.rules.specs.declared.Family.the-variants as family
 use Rattle.rules.specs.declared.Fix.{Fix}
 use Rattle.rules.specs.declared.Planned.{Planned}
@@ -175,6 +177,11 @@ kLine layout l =
     given (timeAt l (byte 2)) (breaks time 2) λ t.
     andThen (columns l layout) λ _.
     says t
+
+-- the time of a line of a family, by its layout
+unfoldable pub columnedLine : Family → Layout → List ℕ → Said ℕ
+columnedLine family.B layout l = andThen (bLine layout l) λ f. says (f .time)
+columnedLine family.K layout l = kLine layout l
 
 -- "L 1 to 99; G 2 to 255; other 1 to 255"
 abbrev pub lLine : List ℕ → Said (Unit {0})

@@ -11,14 +11,15 @@ use borrow.Author.Tests.{le-leb, leb-true, eqb-true, eq-eqb, not-true}
 use lib.Dec.{leb, eqb}
 use lib.ListN.{length, getD, take, drop, replicate, length-set}
 use lib.Seq.{take-suc-set, append-snoc, drop-set-lt, getD-drop}
+use Rattle.rules.specs.Families.{firstStart, layoutLetter}
 use Rattle.rules.specs.Choice.{leads}
 use Rattle.rules.specs.Refusals.{Said, says, refuses}
 use Rattle.rules.specs.Chars.{isDigit, isCode, codesAt}
 use Rattle.rules.specs.Numbers.{numberAt}
 use Rattle.rules.specs.Listed.{packed, codeAt, isCodeWord, widthFits}
-use Rattle.rules.specs.Layouts.{firstStart, unused, emptyLayout, withEntry, entriesOf, carries, placed, entryAt, entriesFrom, layoutFields, isSaid, isSpelt, allPlaced, isUnused, allowed}
+use Rattle.rules.specs.Layouts.{unused, emptyLayout, withEntry, entriesOf, carries, placed, entryAt, entriesFrom, layoutFields, isSaid, isSpelt, allPlaced, isUnused, allowed}
 use Rattle.rules.specs.Lines.{shaped, layoutLine}
-use Rattle.rules.specs.Reads.{layoutLetter, layoutSaid}
+use Rattle.rules.specs.Reads.{layoutSaid}
 use Rattle.rules.specs.declared.Entry.{Entry}
 use Rattle.rules.specs.declared.Layout.{Layout}
 use Rattle.rules.specs.declared.Family.{Family}

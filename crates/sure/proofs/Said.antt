@@ -9,10 +9,11 @@ use borrow.Author.Tests.{leb-true, le-leb, eqb-true}
 use lib.Dec.{eqb, leb}
 use lib.ListN.{length, getD, take, drop}
 use lib.Seq.{drop-drop}
+use Rattle.rules.specs.Families.{firstStart}
 use Rattle.rules.specs.Choice.{leads, firstOf, given, need, part, byte}
 use Rattle.rules.specs.Chars.{isDigit, characters}
 use Rattle.rules.specs.Fields.{timeAt}
-use Rattle.rules.specs.Layouts.{firstStart, entriesOf, spanOf, columnText, badColumn, columns, lineLength, withEntry, isSaid, isSpelt, placed, allPlaced, allowed}
+use Rattle.rules.specs.Layouts.{entriesOf, spanOf, columnText, badColumn, columns, lineLength, withEntry, isSaid, isSpelt, placed, allPlaced, allowed}
 use Rattle.rules.specs.Lines.{isSized, shaped, shapedBy, bLine, kLine, fixFields}
 use Rattle.rules.specs.Listed.{listedNumber, listed, unlisted, isDigits, keepsSign, keepsRule}
 use Rattle.rules.specs.Refusals.{Said, says, refuses, no}

@@ -7,9 +7,10 @@ use mathlib.Core.Path.{_≡_}
 use lib.Dec.{eqb}
 use lib.ListN.{length, drop, replicate}
 use lib.Seq.{sets}
+use Rattle.rules.specs.Families.{firstStart}
 use Rattle.rules.specs.Choice.{given, need, part, byte, bytes}
 use Rattle.rules.specs.Fields.{timeAt, timeTold}
-use Rattle.rules.specs.Layouts.{firstStart, entriesOf}
+use Rattle.rules.specs.Layouts.{entriesOf}
 use Rattle.rules.specs.Lines.{fixFields}
 use Rattle.rules.specs.Listed.{isDigits, keepsSign, keepsRule}
 use Rattle.rules.specs.Refusals.{Said, says, refuses}

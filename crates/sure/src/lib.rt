@@ -2,9 +2,9 @@
 ghost use mathlib.Core.Bool.{_||_};
 ghost use mathlib.Core.Path.{_≡_};
 ghost use lib.ListN.{drop};
+ghost use Rattle.rules.specs.Families.{firstStart};
 ghost use Rattle.rules.specs.Choice.{byte};
 ghost use Rattle.rules.specs.Fields.{timeTold};
-ghost use Rattle.rules.specs.Layouts.{firstStart};
 ghost use Rattle.rules.specs.Lines.{fixFields};
 ghost use Rattle.rules.specs.Listed.{isDigits};
 ghost use Rattle.plain.specs.Plain.{isMild, every};

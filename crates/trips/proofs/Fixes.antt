@@ -23,7 +23,7 @@ use Rattle.rules.specs.Reads.{fixSaid}
 use Rattle.rules.specs.Writes.{fixText, sameFix, isFix}
 use Rattle.rules.specs.declared.Fix.{Fix}
 use Rattle.rules.specs.declared.Layout.{Layout}
-use Rattle.trips.specs.Limits.{isTime, isAltitude, goodTail, goodFixFields, goodFix}
+use Rattle.rules.specs.Limits.{isTime, isAltitude, goodTail, goodFixFields, goodFix}
 use Rattle.trips.proofs.Laws.{false-true, refuses-says, given-inv, need-inv, then-inv, past, byte-there, byte-here}
 use Rattle.trips.proofs.Texts.{areValid, both-valid, valid-low}
 use Rattle.trips.proofs.Times.{time-trip}

@@ -8,11 +8,13 @@ use native.Mathlib.Omega.{arith}
 use borrow.Author.Tests.{eq-eqb, eqb-true}
 use lib.Dec.{eqb}
 use lib.ListN.{getD}
+use Rattle.rules.specs.Families.{firstStart, layoutLetter}
+use Rattle.rules.specs.Roles.{leading, stageAfter}
 use Rattle.rules.specs.Refusals.{Said, says, andThen}
-use Rattle.rules.specs.Layouts.{firstStart, allowed}
+use Rattle.rules.specs.Layouts.{allowed}
 use Rattle.rules.specs.Lines.{kindOf, layoutLine}
-use Rattle.rules.specs.Order.{leading, stageAfter, isC, isKind, moved, withFixes, withExtras, counted, timed, ruled, judge}
-use Rattle.rules.specs.Reads.{layoutLetter, fixSaid, extraSaid, layoutSaid}
+use Rattle.rules.specs.Order.{isC, isKind, moved, withFixes, withExtras, counted, timed, ruled, judge}
+use Rattle.rules.specs.Reads.{fixSaid, extraSaid, layoutSaid}
 use Rattle.rules.specs.declared.Layout.{Layout}
 use Rattle.rules.specs.declared.Family.{Family}
 use Rattle.rules.specs.declared.Family.the-variants as family

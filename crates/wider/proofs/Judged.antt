@@ -8,11 +8,12 @@ use native.Mathlib.Omega.{arith}
 use borrow.Author.Tests.{le-leb, leb-true, lt-leb}
 use lib.Dec.{leb, eqb}
 use lib.ListN.{length, getD}
+use Rattle.rules.specs.Roles.{leading, afterG, stageAfter}
 use Rattle.rules.specs.Choice.{need, on}
 use Rattle.rules.specs.Refusals.{Said, says, refuses, inLine, andThen}
 use Rattle.rules.specs.Lines.{kindOf, headLine, pointLine, dLine, eLine, fLine, lLine, gLine, otherLine}
 use Rattle.rules.specs.Split.{Lines, line}
-use Rattle.rules.specs.Order.{leading, afterG, stageAfter, isC, isKind, fitsDeclaration, orderOf, moved, begun, pointed, clocked, passing, isBack, timed, ruled, judge}
+use Rattle.rules.specs.Order.{isC, isKind, fitsDeclaration, orderOf, moved, begun, pointed, clocked, passing, isBack, timed, ruled, judge}
 use Rattle.rules.specs.Files.{run}
 use Rattle.rules.specs.declared.Layout.{Layout}
 use Rattle.rules.specs.declared.Kind.{Kind}

@@ -7,11 +7,12 @@ use native.Mathlib.Omega.{arith}
 use borrow.Author.Tests.{leb-true}
 use lib.Dec.{leb, eqb}
 use lib.ListN.{length, getD}
+use Rattle.rules.specs.Roles.{afterG, stageAfter}
 use Rattle.rules.specs.Refusals.{says, andThen}
 use Rattle.rules.specs.Layouts.{emptyLayout}
 use Rattle.rules.specs.Lines.{kindOf, aLine, dateLine, hLine}
 use Rattle.rules.specs.Split.{Lines, end, broken, line}
-use Rattle.rules.specs.Order.{afterG, stageAfter, moved, dated, withFixes, withExtras, ruled, judge, start}
+use Rattle.rules.specs.Order.{moved, dated, withFixes, withExtras, ruled, judge, start}
 use Rattle.rules.specs.Files.{finish, run}
 use Rattle.rules.specs.Reads.{fixSaid, extraSaid}
 use Rattle.rules.specs.declared.Layout.{Layout}

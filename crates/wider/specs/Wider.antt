@@ -6,11 +6,12 @@ use mathlib.Core.List.{List, [], _∷_}
 use mathlib.Core.Option.{Option, none, some}
 use mathlib.Core.Path.{_≡_}
 use lib.ListN.{length, getD, take}
+use Rattle.rules.specs.Families.{firstStart}
 use Rattle.rules.specs.Choice.{given, byte}
 use Rattle.rules.specs.Refusals.{says}
 use Rattle.rules.specs.Chars.{characters}
 use Rattle.rules.specs.Listed.{keepsRule}
-use Rattle.rules.specs.Layouts.{emptyLayout, firstStart, entriesOf, spanOf, look, carries, columnText, lineLength}
+use Rattle.rules.specs.Layouts.{emptyLayout, entriesOf, spanOf, look, carries, columnText, lineLength}
 use Rattle.rules.specs.Lines.{kindOf}
 use Rattle.rules.specs.Split.{Lines, end, line, linesOf}
 use Rattle.rules.specs.Reads.{layoutSaid}

@@ -1,10 +1,10 @@
 -- `order::stage_after` meets its contract. Assumes nothing.
 use mathlib.Core.Path.{_∙_}
 use borrow.Author.Needs.{needs}
-use Rattle.rules.specs.Order.{stageAfter}
 use Rattle.order.specs.States.{leadingTold}
 use Rattle.order.proofs.Others.{body-kind}
 use Rattle.order.proofs.stage_after.Statement.{statement}
+use Rattle.rules.specs.Roles.{stageAfter}
 use Rattle.order.proofs.stage_after.Tie as tie
 
 pub stage-after-spec : {M : Type 1} → statement M
