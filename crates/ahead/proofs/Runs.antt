@@ -13,7 +13,7 @@ use Rattle.rules.specs.Layouts.{allowed, entriesOf}
 use Rattle.rules.specs.declared.Entry.{Entry}
 use Rattle.rules.specs.declared.Layout.{Layout}
 use Rattle.rules.specs.declared.State.{State}
-use Rattle.plain.proofs.Laws.{and-inv}
+use Rattle.rules.proofs.Inverse.{and-inv}
 use Rattle.order.specs.States.{Few}
 use Rattle.order.specs.Turns.{Passed, Here}
 use Rattle.order.proofs.Counts.{lines-counted, bs-counted, ks-counted}

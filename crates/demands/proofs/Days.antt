@@ -12,7 +12,7 @@ use Rattle.rules.specs.declared.Date.{Date}
 use Rattle.rules.specs.declared.Planned.{Planned}
 use Rattle.rules.specs.declared.Planned.the-variants as planned
 use Rattle.rules.specs.Limits.{isDate, isPlanned}
-use Rattle.trips.proofs.Laws.{false-true, need-inv}
+use Rattle.rules.proofs.Inverse.{false-true, need-inv}
 use Rattle.trips.proofs.Dates.{days-month}
 use Rattle.demands.specs.Grammar.{Days, january, february, february-leap, march, april, may, june, july, august, september, october, november, december, IsDay, IsPlanned}
 

@@ -18,7 +18,8 @@ use Rattle.rules.specs.Layouts.{unused, emptyLayout, withEntry, entriesOf, Span
 use Rattle.rules.specs.Writes.{entryText, entryTexts}
 use Rattle.rules.specs.declared.Entry.{Entry}
 use Rattle.rules.specs.declared.Layout.{Layout}
-use Rattle.trips.proofs.Laws.{none-some, refuses-says, false-true, given-inv, need-inv, then-inv, and-inv, past, byte-here}
+use Rattle.rules.proofs.Inverse.{none-some, refuses-says, false-true, given-inv, need-inv, then-inv, and-inv}
+use Rattle.trips.proofs.Laws.{past, byte-here}
 use Rattle.trips.proofs.Texts.{digit-range}
 use Rattle.trips.proofs.Digits.{digits-length, number-there, number-here}
 use Rattle.demands.specs.Grammar.{Each, widthOf, IsEntry, Tiles, laid}

@@ -27,7 +27,7 @@ use Rattle.rules.specs.declared.Family.the-variants as family
 use Rattle.rules.specs.declared.Kind.{Kind}
 use Rattle.rules.specs.declared.Kind.the-variants as kind
 use Rattle.rules.specs.declared.State.{State}
-use Rattle.trips.proofs.Laws.{false-true}
+use Rattle.rules.proofs.Inverse.{false-true}
 use Rattle.demands.specs.Grammar.{laid}
 use Rattle.demands.specs.Coming.{orZero, isOpen, entryOf, entriesTold, endsAt, lastTime, isInTime}
 use Rattle.demands.specs.Checks.{Check, check, AllPass, FailsFirst, isThere, oneEach, shapeChecks, columnChecks, timeCheck, pairChecks, hasCode, entryChecks, layoutChecks, dateChecks, headerChecks, headChecks, pointChecks, sizeChecks, fixChecks, kindChecks, checksOf}

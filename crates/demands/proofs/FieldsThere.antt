@@ -16,7 +16,8 @@ use Rattle.rules.specs.Numbers.{numberAt, digitsOf}
 use Rattle.rules.specs.Listed.{codeAt, codeText, isCodeWord}
 use Rattle.rules.specs.Lines.{isDateMark}
 use Rattle.rules.specs.Fields.{isEither}
-use Rattle.trips.proofs.Laws.{false-true, and-inv, past, byte-there, byte-here}
+use Rattle.rules.proofs.Inverse.{false-true, and-inv}
+use Rattle.trips.proofs.Laws.{past, byte-there, byte-here}
 use Rattle.trips.proofs.Digits.{number-there, number-here}
 use Rattle.trips.proofs.Trip.{Trip}
 use Rattle.trips.proofs.Times.{time-trip}

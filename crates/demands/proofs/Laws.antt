@@ -12,7 +12,7 @@ use Rattle.rules.specs.Refusals.{Said, says, refuses}
 use Rattle.rules.specs.Chars.{isValid, firstInvalid, characters}
 use Rattle.rules.specs.Layouts.{isSaid}
 use Rattle.rules.specs.Lines.{isSized, shaped}
-use Rattle.trips.proofs.Laws.{none-some, false-true, refuses-says, need-inv, and-inv}
+use Rattle.rules.proofs.Inverse.{none-some, false-true, refuses-says, need-inv, and-inv}
 use Rattle.trips.proofs.Texts.{areValid}
 use Rattle.demands.specs.Grammar.{Each, Shaped}
 

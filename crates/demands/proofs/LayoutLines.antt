@@ -25,7 +25,8 @@ use Rattle.rules.specs.declared.Entry.{Entry}
 use Rattle.rules.specs.declared.Layout.{Layout}
 use Rattle.rules.specs.declared.Family.{Family}
 use Rattle.rules.specs.declared.Family.the-variants as family
-use Rattle.trips.proofs.Laws.{refuses-says, given-inv, need-inv, then-inv, and-inv, past, byte-there}
+use Rattle.rules.proofs.Inverse.{refuses-says, given-inv, need-inv, then-inv, and-inv}
+use Rattle.trips.proofs.Laws.{past, byte-there}
 use Rattle.trips.proofs.Texts.{areValid, both-valid, shaped-here}
 use Rattle.trips.proofs.Digits.{digits-length, digits-clean, number-there, number-here}
 use Rattle.demands.specs.Grammar.{laid, IsLayoutLine, AtMostOne, absent, given}

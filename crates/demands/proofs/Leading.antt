@@ -24,7 +24,7 @@ use Rattle.rules.specs.declared.Head.{Head}
 use Rattle.rules.specs.declared.Kind.{Kind}
 use Rattle.rules.specs.declared.Kind.the-variants as kind
 use Rattle.rules.specs.declared.State.{State}
-use Rattle.trips.proofs.Laws.{none-some, refuses-says, false-true, given-inv, need-inv, then-inv, and-inv}
+use Rattle.rules.proofs.Inverse.{none-some, refuses-says, false-true, given-inv, need-inv, then-inv, and-inv}
 use Rattle.demands.specs.Grammar.{Follows, IsALine, IsDateLine, IsHLine, IsLayoutLine, IsHeadLine, IsPointLine, IsELine, IsFLine, IsBLine, IsKLine, IsLLine, IsGLine, Untimed, differential, remark, other}
 use Rattle.demands.specs.FieldTexts.{Letter}
 use Rattle.demands.proofs.Carried.{a-there, a-said, date-there, date-said, h-there, h-said, d-there, d-said, e-there, e-said, f-there, f-said, l-there, l-said, g-there, g-said, other-there, other-said}

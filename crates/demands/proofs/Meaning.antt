@@ -19,7 +19,7 @@ use Rattle.rules.specs.Order.{start, moved, judge}
 use Rattle.rules.specs.declared.Family.the-variants as family
 use Rattle.rules.specs.declared.Head.{Head}
 use Rattle.rules.specs.declared.State.{State}
-use Rattle.trips.proofs.Laws.{false-true}
+use Rattle.rules.proofs.Inverse.{false-true}
 use Rattle.demands.specs.Grammar.{Each, IsHeadLine, IsPointLine, IsELine, IsFLine, Untimed, differential, remark, other, Follows, AtMostOne, absent, given, beginning}
 use Rattle.demands.specs.Coming.{isOf, pointsOf, isOpen, Open, those, lastTime, NoTime, Latest, isInTime, Meant}
 use Rattle.demands.specs.Faults.{PassAfter}

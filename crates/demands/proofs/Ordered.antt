@@ -15,7 +15,7 @@ use Rattle.rules.specs.Order.{isC, fitsDeclaration, orderOf}
 use Rattle.rules.specs.declared.Kind.{Kind}
 use Rattle.rules.specs.declared.Kind.the-variants as kind
 use Rattle.rules.specs.declared.State.{State}
-use Rattle.trips.proofs.Laws.{and-inv, bool-eq}
+use Rattle.rules.proofs.Inverse.{and-inv, bool-eq}
 use Rattle.demands.specs.Coming.{isOf, only, without, endsWith, isOpen, isBody, mayCome}
 use Rattle.demands.specs.Checks.{isThere}
 use Rattle.demands.proofs.Standing.{only-without, open-left, none-left, Stands}

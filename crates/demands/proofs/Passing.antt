@@ -20,7 +20,7 @@ use Rattle.rules.specs.declared.State.{State}
 use Rattle.laws.proofs.Chains.{surely}
 use Rattle.laws.proofs.Splitting.{Text, cut, none-left, lines-of-line}
 use Rattle.laws.proofs.Counted.{OneMore, judge-counts}
-use Rattle.trips.proofs.Laws.{refuses-says, need-inv}
+use Rattle.rules.proofs.Inverse.{refuses-says, need-inv}
 use Rattle.demands.specs.Grammar.{Each, IsText, written}
 
 -- ---- a run of good lines

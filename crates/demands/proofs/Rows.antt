@@ -16,7 +16,7 @@ use Rattle.rules.specs.Choice.{given, firstOf, leads, bytes}
 use Rattle.rules.specs.Chars.{isDigit}
 use Rattle.rules.specs.Listed.{listed, unlisted, listedNumber, widthFits, isDigits, keepsSign, keepsRule}
 use Rattle.rules.specs.declared.Listed.{Listed}
-use Rattle.trips.proofs.Laws.{false-true, and-inv}
+use Rattle.rules.proofs.Inverse.{false-true, and-inv}
 use Rattle.trips.proofs.Texts.{digit-range}
 use Rattle.demands.specs.Grammar.{Each, Listing, IsDigit, Holds, digits, minus}
 use Rattle.demands.proofs.Laws.{each-map}

@@ -16,7 +16,7 @@ use Rattle.rules.specs.declared.Family.the-variants as family
 use Rattle.rules.specs.declared.Fix.{Fix}
 use Rattle.rules.specs.declared.Head.{Head}
 use Rattle.rules.specs.declared.State.{State}
-use Rattle.trips.proofs.Laws.{false-true}
+use Rattle.rules.proofs.Inverse.{false-true}
 use Rattle.demands.specs.Grammar.{Each, Follows, OrderFrom, IsHLine, IsBLine, IsKLine, IsELine, IsFLine, IsHeadLine, IsPointLine, IsLLine, IsGLine, AtMostOne, absent, given, Timed, Untimed, differential, remark, other, Items, Body, undeclared, declared}
 use Rattle.demands.specs.Grammar as grammar
 use Rattle.demands.proofs.Carried.{e-said, f-said}

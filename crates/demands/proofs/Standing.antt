@@ -27,7 +27,7 @@ use Rattle.rules.specs.declared.Family.the-variants as family
 use Rattle.rules.specs.declared.Fix.{Fix}
 use Rattle.rules.specs.declared.Head.{Head}
 use Rattle.rules.specs.declared.State.{State}
-use Rattle.trips.proofs.Laws.{false-true, refuses-says, given-inv, need-inv, then-inv, and-inv, bool-eq}
+use Rattle.rules.proofs.Inverse.{false-true, refuses-says, given-inv, need-inv, then-inv, and-inv, bool-eq}
 use Rattle.trips.proofs.Fixes.{fields-there}
 use Rattle.trips.proofs.Heads.{head-there}
 use Rattle.demands.specs.Grammar.{IsLayoutLine, IsHeadLine, IsELine, IsFLine, Untimed, differential, remark, other, laid, beginning}

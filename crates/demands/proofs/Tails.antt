@@ -16,7 +16,7 @@ use Rattle.rules.specs.Layouts.{unused, emptyLayout, withEntry, entriesOf, allo
 use Rattle.rules.specs.declared.Entry.{Entry}
 use Rattle.rules.specs.declared.Layout.{Layout}
 use Rattle.rules.specs.Limits.{isClean, badTail, goodTail}
-use Rattle.trips.proofs.Laws.{false-true, need-inv}
+use Rattle.rules.proofs.Inverse.{false-true, need-inv}
 use Rattle.trips.proofs.Texts.{clean-valid}
 use Rattle.demands.specs.Grammar.{Each, laid, widthOf, Columns, none, column}
 use Rattle.demands.proofs.Laws.{each-map, each-cut, each-join, are-valid, valid-are, nothing-found, none-found, nothing-given}

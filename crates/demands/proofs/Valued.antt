@@ -20,7 +20,7 @@ use Rattle.rules.specs.declared.Fix.{Fix}
 use Rattle.rules.specs.declared.Head.{Head}
 use Rattle.rules.specs.declared.Point.{Point}
 use Rattle.rules.specs.Limits.{isTime, isClean, goodFixFields, goodFix, goodExtra, goodHeadFields, goodHead}
-use Rattle.trips.proofs.Laws.{false-true, refuses-says, need-inv}
+use Rattle.rules.proofs.Inverse.{false-true, refuses-says, need-inv}
 use Rattle.trips.proofs.Texts.{clean-valid}
 use Rattle.trips.proofs.LineTrip.{line-limits}
 use Rattle.trips.proofs.Fixes.{fix-trip}

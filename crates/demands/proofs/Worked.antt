@@ -23,7 +23,7 @@ use Rattle.rules.specs.declared.Fix.{Fix}
 use Rattle.rules.proofs.Computed.{everything, fileOf}
 use Rattle.rules.proofs.Damaged.{fiveLines, fiveLayout}
 use Rattle.rules.specs.Limits.{isAltitude, goodFixFields}
-use Rattle.trips.proofs.Laws.{and-inv}
+use Rattle.rules.proofs.Inverse.{and-inv}
 use Rattle.trips.proofs.Texts.{areValid}
 use Rattle.demands.specs.Grammar.{Each, IsText, july, AtMostOne, absent, given, Timed, fix, event, satellites, extra, Untimed, differential, remark, other, Items, done, timed, untimed, Body, undeclared, declared, none, column, linesIn, Meets, written}
 use Rattle.demands.proofs.Laws.{each-map, each-join, each-cut, are-valid}

@@ -19,7 +19,7 @@ use Rattle.rules.specs.Promises.{Written}
 use Rattle.rules.specs.declared.Reason.the-variants.{BadValue, NoRoom}
 use Rattle.rules.specs.declared.Wrote.{Wrote}
 use Rattle.rules.specs.Limits.{isClean, badTail, goodTail, goodExtra}
-use Rattle.trips.proofs.Laws.{false-true, refuses-says}
+use Rattle.rules.proofs.Inverse.{false-true, refuses-says}
 use Rattle.trips.proofs.LineTrip.{LineTrip, line-limits}
 use Rattle.demands.specs.BothWays.{InOutput, ReadsAs, Ways, BothWays}
 

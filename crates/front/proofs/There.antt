@@ -15,7 +15,7 @@ use Rattle.rules.specs.Chars.{isDigit}
 use Rattle.rules.specs.Numbers.{spell, numberAt}
 use Rattle.rules.specs.Fields.{isEither, positionAt, latitudeAt, longitudeAt, altitudeAt}
 use Rattle.number.proofs.Laws.{digit-low, digit-high, spell-other, number-long}
-use Rattle.plain.proofs.Laws.{and-inv}
+use Rattle.rules.proofs.Inverse.{and-inv}
 use Rattle.front.specs.Front.{isWithin, between, lows, highs, nears, isBounded, isFront}
 use Rattle.front.proofs.Laws.{between-drop}
 

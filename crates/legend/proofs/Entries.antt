@@ -18,7 +18,7 @@ use Rattle.rules.specs.Writes.{entryText, entryTexts, layoutText, putAt, crlf}
 use Rattle.rules.specs.declared.Entry.{Entry}
 use Rattle.rules.specs.declared.Layout.{Layout}
 use Rattle.rules.specs.declared.Family.{Family}
-use Rattle.trips.proofs.Laws.{and-inv}
+use Rattle.rules.proofs.Inverse.{and-inv}
 use Rattle.trips.proofs.Texts.{digit-range}
 use Rattle.put.specs.Puts.{Fills}
 use Rattle.put.proofs.Laws.{digits-length, put-last, fills-then, byte-then, digits-then}

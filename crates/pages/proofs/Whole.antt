@@ -22,7 +22,7 @@ use Rattle.rules.specs.declared.Reason.the-variants.{BadValue, InputOver}
 use Rattle.rules.specs.declared.Layout.{Layout}
 use Rattle.rules.specs.declared.Flight.{Flight}
 use Rattle.pieces.proofs.Callers.{shown-text}
-use Rattle.trips.proofs.Laws.{need-inv, then-inv, refuses-says}
+use Rattle.rules.proofs.Inverse.{need-inv, then-inv, refuses-says}
 use Rattle.laws.proofs.Splitting.{Whole, textsOf, line-at, none-left}
 use Rattle.laws.proofs.Counted.{lines-counted, entry-put, line-by-number}
 use Rattle.laws.proofs.Counted as counted

@@ -23,7 +23,7 @@ use Rattle.rules.specs.Reads.{layoutSaid}
 use Rattle.rules.specs.declared.Entry.{Entry}
 use Rattle.rules.specs.declared.Layout.{Layout}
 use Rattle.rules.specs.declared.Family.{Family}
-use Rattle.trips.proofs.Laws.{none-some, refuses-says, false-true, given-inv, need-inv, then-inv, and-inv}
+use Rattle.rules.proofs.Inverse.{none-some, refuses-says, false-true, given-inv, need-inv, then-inv, and-inv}
 use Rattle.trips.proofs.Texts.{digit-range, shaped-there}
 use Rattle.trips.proofs.Digits.{number-there}
 

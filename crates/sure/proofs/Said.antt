@@ -23,7 +23,8 @@ use Rattle.rules.specs.declared.Family.the-variants as family
 use Rattle.rules.specs.declared.Fix.{Fix}
 use Rattle.rules.specs.declared.Layout.{Layout}
 use Rattle.plain.specs.Plain.{isMild, every}
-use Rattle.plain.proofs.Laws.{and-inv, mild-valid}
+use Rattle.rules.proofs.Inverse.{and-inv}
+use Rattle.plain.proofs.Laws.{mild-valid}
 use Rattle.sure.specs.Sure.{ruleOf, keepsAs, patternOf, keepsPattern, timeOf, fieldsTime, sureTime}
 
 -- ---- the shape

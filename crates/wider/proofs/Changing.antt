@@ -21,7 +21,7 @@ use Rattle.rules.specs.declared.Family.the-variants as family
 use Rattle.rules.specs.declared.Kind.{Kind}
 use Rattle.rules.specs.declared.Kind.the-variants as kind
 use Rattle.rules.specs.declared.State.{State}
-use Rattle.trips.proofs.Laws.{refuses-says, need-inv, then-inv}
+use Rattle.rules.proofs.Inverse.{refuses-says, need-inv, then-inv}
 use Rattle.trips.proofs.Extras.{extra-there}
 use Rattle.trips.proofs.Fixes.{fix-there}
 use Rattle.wider.specs.Wider.{WiderLine, isFront}

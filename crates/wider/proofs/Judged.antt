@@ -20,7 +20,7 @@ use Rattle.rules.specs.declared.Kind.{Kind}
 use Rattle.rules.specs.declared.Kind.the-variants as kind
 use Rattle.rules.specs.declared.Flight.{Flight}
 use Rattle.rules.specs.declared.State.{State}
-use Rattle.trips.proofs.Laws.{none-some, refuses-says, false-true, given-inv, need-inv, then-inv, and-inv}
+use Rattle.rules.proofs.Inverse.{none-some, refuses-says, false-true, given-inv, need-inv, then-inv, and-inv}
 use Rattle.wider.specs.Wider.{isFront, isPlain}
 use Rattle.wider.specs.Before.{isB, isK}
 

@@ -21,7 +21,7 @@ use Rattle.rules.specs.declared.Layout.{Layout}
 use Rattle.rules.specs.declared.Listed.{Listed}
 use Rattle.rules.specs.declared.Kind.{Kind}
 use Rattle.rules.specs.declared.Kind.the-variants as kind
-use Rattle.trips.proofs.Laws.{none-some, false-true, given-inv}
+use Rattle.rules.proofs.Inverse.{none-some, false-true, given-inv}
 use Rattle.laws.proofs.Splitting.{textsOf}
 use Rattle.laws.proofs.Counted.{tally}
 use Rattle.laws.proofs.Counted as counted

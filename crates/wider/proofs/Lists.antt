@@ -7,7 +7,7 @@ use mathlib.Core.Path.{_≡_, refl}
 use native.Mathlib.Omega.{arith}
 use lib.ListN.{length, getD}
 use Rattle.rules.specs.Choice.{firstOf}
-use Rattle.trips.proofs.Laws.{none-some}
+use Rattle.rules.proofs.Inverse.{none-some}
 use Rattle.wider.specs.Wider.{Each}
 
 module _ {A : Type 0} where

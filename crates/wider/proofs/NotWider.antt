@@ -19,7 +19,7 @@ use Rattle.rules.specs.declared.Fix.{Fix}
 use Rattle.rules.specs.declared.Flight.{Flight}
 use Rattle.rules.proofs.Computed.{everything, fileOf}
 use Rattle.rules.proofs.Damaged.{fiveLines, fiveLayout, verdict-of-five}
-use Rattle.trips.proofs.Laws.{refuses-says}
+use Rattle.rules.proofs.Inverse.{refuses-says}
 use Rattle.laws.proofs.Splitting.{textsOf}
 use Rattle.wider.specs.Wider.{WiderFile}
 use Rattle.wider.specs.Before.{fixLine, textSaid}

@@ -23,7 +23,7 @@ use Rattle.rules.specs.declared.Entry.{Entry}
 use Rattle.rules.specs.declared.Layout.{Layout}
 use Rattle.rules.specs.declared.Fix.{Fix}
 use Rattle.rules.specs.Limits.{isClean, isTime, goodTail, goodExtra, goodFixFields, goodFix}
-use Rattle.trips.proofs.Laws.{none-some, refuses-says, false-true, given-inv, need-inv, and-inv}
+use Rattle.rules.proofs.Inverse.{none-some, refuses-says, false-true, given-inv, need-inv, and-inv}
 use Rattle.trips.proofs.Texts.{areValid, both-valid, valid-join, clean-valid, nothing-there, shaped-there, shaped-here}
 use Rattle.trips.proofs.Tails.{tail-there}
 use Rattle.trips.proofs.LineTrip.{LineTrip, line-limits}

@@ -14,7 +14,7 @@ use Rattle.rules.specs.Choice.{given, firstOf, byte}
 use Rattle.rules.specs.Layouts.{unused, emptyLayout, withEntry, entriesOf, spanOf, look, carries, placed, isSaid, isSpelt, allPlaced, allowed, lineLength, columnText}
 use Rattle.rules.specs.declared.Entry.{Entry}
 use Rattle.rules.specs.declared.Layout.{Layout}
-use Rattle.trips.proofs.Laws.{false-true, and-inv}
+use Rattle.rules.proofs.Inverse.{false-true, and-inv}
 use Rattle.trips.proofs.Texts.{areValid, both-valid}
 use Rattle.wider.specs.Wider.{Each}
 use Rattle.wider.proofs.Lists.{none-passes, found-behind}

@@ -21,7 +21,7 @@ use Rattle.rules.specs.declared.Kind.{Kind}
 use Rattle.rules.specs.declared.Kind.the-variants as kind
 use Rattle.rules.specs.declared.Flight.{Flight}
 use Rattle.rules.specs.declared.State.{State}
-use Rattle.trips.proofs.Laws.{refuses-says, false-true, need-inv, then-inv}
+use Rattle.rules.proofs.Inverse.{refuses-says, false-true, need-inv, then-inv}
 use Rattle.laws.proofs.Chains.{surely}
 use Rattle.laws.proofs.Splitting.{textsOf}
 use Rattle.laws.proofs.Counted.{OneMore, judge-counts}

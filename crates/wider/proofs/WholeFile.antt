@@ -12,7 +12,7 @@ use Rattle.rules.specs.Order.{isC, start}
 use Rattle.rules.specs.Files.{finish, run, verdict}
 use Rattle.rules.specs.Reads.{fixSaid, extraSaid}
 use Rattle.rules.specs.declared.Flight.{Flight}
-use Rattle.trips.proofs.Laws.{refuses-says, need-inv}
+use Rattle.rules.proofs.Inverse.{refuses-says, need-inv}
 use Rattle.laws.proofs.Splitting.{textsOf}
 use Rattle.laws.proofs.Counted.{lines-counted, bs-counted, ks-counted}
 use Rattle.wider.specs.Wider.{WiderFile}
