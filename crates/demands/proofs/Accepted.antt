@@ -9,6 +9,7 @@ use native.Mathlib.Omega.{arith}
 use borrow.Author.Tests.{ne-eqb}
 use lib.Dec.{eqb}
 use lib.ListN.{length, getD}
+use Rattle.rules.specs.Choice.{Each}
 use Rattle.rules.specs.Refusals.{says}
 use Rattle.rules.specs.Layouts.{emptyLayout, isSaid}
 use Rattle.rules.specs.Lines.{kindOf}
@@ -23,7 +24,7 @@ use Rattle.rules.specs.declared.Flight.{Flight}
 use Rattle.rules.specs.declared.State.{State}
 use Rattle.laws.proofs.Chains.{surely}
 use Rattle.laws.proofs.Counted.{isB, isK, OneMore, judge-counts}
-use Rattle.demands.specs.Grammar.{Each, IsText, OrderFrom, InOrder, IsALine, IsDateLine, AtMostOne, Parts, linesIn, Keeps, written, Meets, beginning, flightOf}
+use Rattle.demands.specs.Grammar.{IsText, OrderFrom, InOrder, IsALine, IsDateLine, AtMostOne, Parts, linesIn, Keeps, written, Meets, beginning, flightOf}
 use Rattle.demands.specs.FieldTexts.{Letter}
 use Rattle.demands.proofs.Laws.{said-some}
 use Rattle.demands.proofs.Leading.{letter, Part, Leads, first, second, further, fixing, noting, flying, sealing, remarking, sound-start, judge-leads, leads-judge}

@@ -10,7 +10,7 @@ use borrow.Author.Tests.{eqb-true, eq-eqb}
 use lib.Dec.{eqb, leb}
 use lib.ListN.{length, getD, drop, length-drop}
 use lib.Seq.{drop-length}
-use Rattle.rules.specs.Choice.{on}
+use Rattle.rules.specs.Choice.{on, Each}
 use Rattle.rules.specs.Refusals.{says}
 use Rattle.rules.specs.Chars.{isValid, isCode, codesAt}
 use Rattle.rules.specs.Fields.{timeAt, timeText, dateAt, dateText, isEither}
@@ -21,7 +21,7 @@ use Rattle.rules.proofs.Inverse.{none-some, refuses-says, given-inv, need-inv, 
 use Rattle.trips.proofs.Laws.{past, byte-there}
 use Rattle.trips.proofs.Times.{time-trip}
 use Rattle.trips.proofs.Dates.{date-trip}
-use Rattle.demands.specs.Grammar.{Each, Shaped, IsALine, IsDateLine, IsHLine, IsDLine, IsELine, IsFLine, IsLLine, IsGLine, IsOtherLine}
+use Rattle.demands.specs.Grammar.{Shaped, IsALine, IsDateLine, IsHLine, IsDLine, IsELine, IsFLine, IsLLine, IsGLine, IsOtherLine}
 use Rattle.demands.proofs.Days.{day-exactly}
 use Rattle.demands.proofs.Laws.{given-none, each-map, are-valid, shape-there, shape-said}
 

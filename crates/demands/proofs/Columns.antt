@@ -13,7 +13,7 @@ use lib.IntN.{pos, negℤ}
 use lib.ListN.{length, getD, drop, length-append, length-drop, take-append-drop}
 use lib.Seq.{drop-length, drop-drop, length-take-le}
 use Rattle.rules.specs.Families.{firstStart}
-use Rattle.rules.specs.Choice.{given, need, on, firstOf, part}
+use Rattle.rules.specs.Choice.{given, need, on, firstOf, part, Each}
 use Rattle.rules.specs.Refusals.{says, refuses, number}
 use Rattle.rules.specs.Numbers.{numberAt, digitsOf, wholeOf}
 use Rattle.rules.specs.Listed.{packedOf, codeText}
@@ -26,7 +26,7 @@ use Rattle.rules.specs.declared.Family.{Family}
 use Rattle.rules.proofs.Inverse.{none-some, given-inv, need-inv}
 use Rattle.trips.proofs.Laws.{byte-there}
 use Rattle.trips.proofs.Digits.{digits-length, digits-front, number-there, number-here}
-use Rattle.demands.specs.Grammar.{Each, widthOf, laid}
+use Rattle.demands.specs.Grammar.{widthOf, laid}
 use Rattle.demands.specs.Readings.{Spells, plain, minus, NumberOf, ReadsColumn, columnTexts, IsName, ReadsColumns}
 use Rattle.demands.proofs.Laws.{each-map, each-both, none-found}
 use Rattle.demands.proofs.Tails.{end-of, end-past, line-end}

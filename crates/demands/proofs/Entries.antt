@@ -9,7 +9,7 @@ use borrow.Author.Tests.{le-leb, leb-true, eqb-true, eqb-false, eq-eqb, ne-eqb, 
 use lib.Dec.{eqb, leb}
 use lib.ListN.{length, getD, drop, set, replicate, length-append, length-drop, take-append-drop}
 use lib.Seq.{take-append-seam, drop-append-seam, set-append-seam, append-snoc, length-take-le}
-use Rattle.rules.specs.Choice.{given, leads, firstOf}
+use Rattle.rules.specs.Choice.{given, leads, firstOf, Each}
 use Rattle.rules.specs.Refusals.{says}
 use Rattle.rules.specs.Chars.{isDigit, isCode, codesAt}
 use Rattle.rules.specs.Numbers.{numberAt, digitsOf}
@@ -22,7 +22,7 @@ use Rattle.rules.proofs.Inverse.{none-some, refuses-says, false-true, given-inv
 use Rattle.trips.proofs.Laws.{past, byte-here}
 use Rattle.trips.proofs.Texts.{digit-range}
 use Rattle.trips.proofs.Digits.{digits-length, number-there, number-here}
-use Rattle.demands.specs.Grammar.{Each, widthOf, IsEntry, Tiles, laid}
+use Rattle.demands.specs.Grammar.{widthOf, IsEntry, Tiles, laid}
 use Rattle.demands.proofs.Rows.{width-exactly}
 use Rattle.demands.proofs.Laws.{said-some, each-map, each-join, each-cut, each-both, nothing-found, none-found}
 

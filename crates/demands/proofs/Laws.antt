@@ -7,14 +7,14 @@ use mathlib.Core.Path.{_≡_, refl, sym}
 use borrow.Author.Tests.{le-leb, leb-true, not-false}
 use lib.Dec.{leb}
 use lib.ListN.{length}
-use Rattle.rules.specs.Choice.{given, firstOf}
+use Rattle.rules.specs.Choice.{given, firstOf, Each}
 use Rattle.rules.specs.Refusals.{Said, says, refuses}
 use Rattle.rules.specs.Chars.{isValid, firstInvalid, characters}
 use Rattle.rules.specs.Layouts.{isSaid}
 use Rattle.rules.specs.Lines.{isSized, shaped}
 use Rattle.rules.proofs.Inverse.{none-some, false-true, refuses-says, need-inv, and-inv}
 use Rattle.trips.proofs.Texts.{areValid}
-use Rattle.demands.specs.Grammar.{Each, Shaped}
+use Rattle.demands.specs.Grammar.{Shaped}
 
 -- ---- a chain that came to x took this way
 

@@ -11,7 +11,7 @@ use native.Mathlib.Omega.{arith}
 use borrow.Author.Tests.{le-leb, leb-true, leb-false, eqb-true, eqb-false, ne-eqb, eq-eqb, ltb-true, lt-ltb, not-false}
 use lib.Dec.{eqb, leb, ltb}
 use lib.ListN.{length, getD, length-append}
-use Rattle.rules.specs.Choice.{byte, bytes}
+use Rattle.rules.specs.Choice.{byte, bytes, Each}
 use Rattle.rules.specs.Choice as choice
 use Rattle.rules.specs.Fields.{timeAt}
 use Rattle.rules.specs.Refusals.{says}
@@ -20,7 +20,7 @@ use Rattle.rules.specs.declared.Family.the-variants as family
 use Rattle.rules.specs.declared.Head.{Head}
 use Rattle.rules.specs.declared.State.{State}
 use Rattle.rules.proofs.Inverse.{false-true}
-use Rattle.demands.specs.Grammar.{Each, IsHeadLine, IsPointLine, IsELine, IsFLine, Untimed, differential, remark, other, Follows, AtMostOne, absent, given, beginning}
+use Rattle.demands.specs.Grammar.{IsHeadLine, IsPointLine, IsELine, IsFLine, Untimed, differential, remark, other, Follows, AtMostOne, absent, given, beginning}
 use Rattle.demands.specs.Coming.{isOf, pointsOf, isOpen, Open, those, lastTime, NoTime, Latest, isInTime, Meant}
 use Rattle.demands.specs.Faults.{PassAfter}
 use Rattle.demands.proofs.Laws.{each-join}

@@ -9,7 +9,7 @@ use native.Mathlib.Omega.{arith}
 use borrow.Author.Tests.{le-leb, lt-leb, leb-true, leb-false, eqb-true}
 use lib.Dec.{eqb, leb}
 use lib.ListN.{length}
-use Rattle.rules.specs.Choice.{need}
+use Rattle.rules.specs.Choice.{need, Each}
 use Rattle.rules.specs.Refusals.{number, Said, says, refuses, inLine, andThen}
 use Rattle.rules.specs.Split.{Lines, end, broken, line, linesOf}
 use Rattle.rules.specs.Order.{start, judge}
@@ -21,7 +21,7 @@ use Rattle.laws.proofs.Chains.{surely}
 use Rattle.laws.proofs.Splitting.{Text, cut, none-left, lines-of-line}
 use Rattle.laws.proofs.Counted.{OneMore, judge-counts}
 use Rattle.rules.proofs.Inverse.{refuses-says, need-inv}
-use Rattle.demands.specs.Grammar.{Each, IsText, written}
+use Rattle.demands.specs.Grammar.{IsText, written}
 
 -- ---- a run of good lines
 

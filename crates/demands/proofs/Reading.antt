@@ -10,6 +10,7 @@ use native.Mathlib.Omega.{arith}
 use borrow.Author.Tests.{eq-eqb, ne-eqb}
 use lib.Dec.{eqb}
 use lib.ListN.{length, getD, take}
+use Rattle.rules.specs.Choice.{Each}
 use Rattle.rules.specs.Refusals.{says}
 use Rattle.rules.specs.Layouts.{lineLength}
 use Rattle.rules.specs.Lines.{shapedBy}
@@ -27,7 +28,7 @@ use Rattle.laws.proofs.Splitting as splitting
 use Rattle.laws.proofs.Counted.{accepted-whole, goodIn, table-length, entry-put, entry-kept, line-by-number}
 use Rattle.trips.proofs.Fixes.{fix-there}
 use Rattle.trips.proofs.Extras.{extra-there}
-use Rattle.demands.specs.Grammar.{Each, IsLayoutLine, IsBLine, IsKLine, AtMostOne, absent, given, Timed, Untimed, differential, remark, other, Items, done, timed, untimed, Body, undeclared, Parts, linesIn, Keeps, Meets, written}
+use Rattle.demands.specs.Grammar.{IsLayoutLine, IsBLine, IsKLine, AtMostOne, absent, given, Timed, Untimed, differential, remark, other, Items, done, timed, untimed, Body, undeclared, Parts, linesIn, Keeps, Meets, written}
 use Rattle.demands.specs.Grammar as grammar
 use Rattle.demands.specs.Readings.{ReadsFix, ReadsExtra, ReadsLine, NoC, ReadsDeclaration, nowhere, declared, total, Steps, Readable}
 use Rattle.demands.proofs.Laws.{each-map, each-join, shape-there}

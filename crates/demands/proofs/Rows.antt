@@ -12,13 +12,13 @@ use native.Mathlib.Omega.{arith}
 use borrow.Author.Tests.{le-leb, leb-true, eqb-true, eqb-false}
 use lib.Dec.{eqb, leb}
 use lib.ListN.{length, getD, drop}
-use Rattle.rules.specs.Choice.{given, firstOf, leads, bytes}
+use Rattle.rules.specs.Choice.{given, firstOf, leads, bytes, Each}
 use Rattle.rules.specs.Chars.{isDigit}
 use Rattle.rules.specs.Listed.{listed, unlisted, listedNumber, widthFits, isDigits, keepsSign, keepsRule}
 use Rattle.rules.specs.declared.Listed.{Listed}
 use Rattle.rules.proofs.Inverse.{false-true, and-inv}
 use Rattle.trips.proofs.Texts.{digit-range}
-use Rattle.demands.specs.Grammar.{Each, Listing, IsDigit, Holds, digits, minus}
+use Rattle.demands.specs.Grammar.{Listing, IsDigit, Holds, digits, minus}
 use Rattle.demands.proofs.Laws.{each-map}
 
 -- ---- no two rows have one code

@@ -9,6 +9,7 @@ use native.Mathlib.Omega.{arith}
 use borrow.Author.Tests.{leb-true, leb-false}
 use lib.Dec.{leb}
 use lib.ListN.{length, getD}
+use Rattle.rules.specs.Choice.{Each}
 use Rattle.rules.specs.Layouts.{emptyLayout}
 use Rattle.rules.specs.Order.{moved, withFixes, withExtras, counted, begun, pointed, clocked}
 use Rattle.rules.specs.declared.Layout.{Layout}
@@ -17,7 +18,7 @@ use Rattle.rules.specs.declared.Fix.{Fix}
 use Rattle.rules.specs.declared.Head.{Head}
 use Rattle.rules.specs.declared.State.{State}
 use Rattle.rules.proofs.Inverse.{false-true}
-use Rattle.demands.specs.Grammar.{Each, Follows, OrderFrom, IsHLine, IsBLine, IsKLine, IsELine, IsFLine, IsHeadLine, IsPointLine, IsLLine, IsGLine, AtMostOne, absent, given, Timed, Untimed, differential, remark, other, Items, Body, undeclared, declared}
+use Rattle.demands.specs.Grammar.{Follows, OrderFrom, IsHLine, IsBLine, IsKLine, IsELine, IsFLine, IsHeadLine, IsPointLine, IsLLine, IsGLine, AtMostOne, absent, given, Timed, Untimed, differential, remark, other, Items, Body, undeclared, declared}
 use Rattle.demands.specs.Grammar as grammar
 use Rattle.demands.proofs.Carried.{e-said, f-said}
 use Rattle.demands.proofs.Valued.{IsTold, b-letter, k-letter}

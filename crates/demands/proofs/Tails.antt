@@ -9,7 +9,7 @@ use borrow.Author.Tests.{eqb-true, eq-eqb, ne-eqb, not-false}
 use lib.Dec.{eqb}
 use lib.ListN.{length, getD, take, drop, replicate, length-append, length-drop, take-append-drop, List·getD-append}
 use lib.Seq.{drop-drop, drop-at, take-at, length-take-le}
-use Rattle.rules.specs.Choice.{part}
+use Rattle.rules.specs.Choice.{part, Each}
 use Rattle.rules.specs.Chars.{isValid}
 use Rattle.rules.specs.Listed.{keepsRule}
 use Rattle.rules.specs.Layouts.{unused, emptyLayout, withEntry, entriesOf, allowed, lineLength}
@@ -18,7 +18,7 @@ use Rattle.rules.specs.declared.Layout.{Layout}
 use Rattle.rules.specs.Limits.{isClean, badTail, goodTail}
 use Rattle.rules.proofs.Inverse.{false-true, need-inv}
 use Rattle.trips.proofs.Texts.{clean-valid}
-use Rattle.demands.specs.Grammar.{Each, laid, widthOf, Columns, none, column}
+use Rattle.demands.specs.Grammar.{laid, widthOf, Columns, none, column}
 use Rattle.demands.proofs.Laws.{each-map, each-cut, each-join, are-valid, valid-are, nothing-found, none-found, nothing-given}
 use Rattle.demands.proofs.Rows.{rule-exactly}
 use Rattle.demands.proofs.Entries.{Fits, Tiled, allowed-there}

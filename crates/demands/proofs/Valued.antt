@@ -9,6 +9,7 @@ use native.Mathlib.Omega.{arith}
 use borrow.Author.Tests.{le-leb, leb-true, eqb-true, eq-eqb}
 use lib.Dec.{eqb}
 use lib.ListN.{length, getD, take, drop, length-drop, take-append-drop}
+use Rattle.rules.specs.Choice.{Each}
 use Rattle.rules.specs.Refusals.{says}
 use Rattle.rules.specs.Chars.{isValid}
 use Rattle.rules.specs.Layouts.{entriesOf, allowed}
@@ -28,7 +29,7 @@ use Rattle.trips.proofs.Extras.{extra-trip}
 use Rattle.trips.proofs.Heads.{head-trip, head-within}
 use Rattle.trips.proofs.Heads as heads
 use Rattle.trips.proofs.Points.{point-trip}
-use Rattle.demands.specs.Grammar.{Each, Columns, IsBLine, IsKLine, IsHeadLine, IsPointLine}
+use Rattle.demands.specs.Grammar.{Columns, IsBLine, IsKLine, IsHeadLine, IsPointLine}
 use Rattle.demands.proofs.Laws.{each-cut, valid-are, shape-there}
 use Rattle.demands.proofs.Days.{day-exactly, planned-exactly}
 use Rattle.demands.proofs.Tails.{tail-exactly}

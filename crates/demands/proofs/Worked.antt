@@ -11,7 +11,7 @@ use borrow.Author.Tests.{eqb-false, not-true}
 use lib.Dec.{eqb, lit≤}
 use lib.IntN.{pos}
 use lib.ListN.{getD, drop}
-use Rattle.rules.specs.Choice.{bytes}
+use Rattle.rules.specs.Choice.{bytes, Each}
 use Rattle.rules.specs.Degrees.{isPosition}
 use Rattle.rules.specs.Layouts.{emptyLayout}
 use Rattle.rules.specs.Writes.{headText, pointText}
@@ -25,7 +25,7 @@ use Rattle.rules.proofs.Damaged.{fiveLines, fiveLayout}
 use Rattle.rules.specs.Limits.{isAltitude, goodFixFields}
 use Rattle.rules.proofs.Inverse.{and-inv}
 use Rattle.trips.proofs.Texts.{areValid}
-use Rattle.demands.specs.Grammar.{Each, IsText, july, AtMostOne, absent, given, Timed, fix, event, satellites, extra, Untimed, differential, remark, other, Items, done, timed, untimed, Body, undeclared, declared, none, column, linesIn, Meets, written}
+use Rattle.demands.specs.Grammar.{IsText, july, AtMostOne, absent, given, Timed, fix, event, satellites, extra, Untimed, differential, remark, other, Items, done, timed, untimed, Body, undeclared, declared, none, column, linesIn, Meets, written}
 use Rattle.demands.proofs.Laws.{each-map, each-join, each-cut, are-valid}
 use Rattle.demands.proofs.Rows.{width-exactly, rule-exactly}
 use Rattle.demands.proofs.Valued.{b-letter, k-letter}

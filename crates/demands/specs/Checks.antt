@@ -10,7 +10,7 @@ use mathlib.Core.Path.{_≡_}
 use lib.Dec.{eqb, leb}
 use lib.ListN.{length, getD, drop}
 use Rattle.rules.specs.Families.{firstStart}
-use Rattle.rules.specs.Choice.{given, byte}
+use Rattle.rules.specs.Choice.{given, byte, Each}
 use Rattle.rules.specs.Chars.{isValid, isCode, codesAt}
 use Rattle.rules.specs.Numbers.{numberAt}
 use Rattle.rules.specs.Fields.{timeAt, dateAt, latitudeAt, longitudeAt, altitudeAt, isEither}
@@ -22,7 +22,6 @@ use Rattle.rules.specs.declared.Family.{Family}
 use Rattle.rules.specs.declared.Family.the-variants as family
 use Rattle.rules.specs.declared.Kind.{Kind}
 use Rattle.rules.specs.declared.Kind.the-variants as kind
-use Rattle.demands.specs.Grammar.{Each}
 use Rattle.demands.specs.Coming.{orZero, isOpen, mayCome, entryOf, entriesTold, sizeOf, lastTime, isInTime}
 
 -- one row of the table "No. | Name | Given when | Line, byte", and whether the line passes it

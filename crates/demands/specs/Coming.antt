@@ -10,7 +10,7 @@ use mathlib.Core.Path.{_≡_}
 use lib.Dec.{eqb, leb, ltb}
 use lib.ListN.{length, getD}
 use Rattle.rules.specs.Families.{layoutLetter}
-use Rattle.rules.specs.Choice.{given, byte, bytes}
+use Rattle.rules.specs.Choice.{given, byte, bytes, Each}
 use Rattle.rules.specs.Numbers.{numberAt}
 use Rattle.rules.specs.Fields.{timeAt}
 use Rattle.rules.specs.Listed.{codeAt}
@@ -20,7 +20,7 @@ use Rattle.rules.specs.declared.Family.the-variants as family
 use Rattle.rules.specs.declared.Head.{Head}
 use Rattle.rules.specs.declared.Kind.{Kind}
 use Rattle.rules.specs.declared.Kind.the-variants as kind
-use Rattle.demands.specs.Grammar.{Each, IsHeadLine, IsPointLine, Follows, AtMostOne, laid, beginning}
+use Rattle.demands.specs.Grammar.{IsHeadLine, IsPointLine, Follows, AtMostOne, laid, beginning}
 
 -- a field's value, 0 where it could not be read
 abbrev pub orZero : Option ℕ → ℕ

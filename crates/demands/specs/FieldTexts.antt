@@ -9,7 +9,7 @@ use mathlib.Core.Option.{Option, some}
 use mathlib.Core.Path.{_≡_}
 use lib.Dec.{ltb}
 use lib.ListN.{length, drop}
-use Rattle.rules.specs.Choice.{byte}
+use Rattle.rules.specs.Choice.{byte, Each}
 use Rattle.rules.specs.Chars.{isCode, codesAt}
 use Rattle.rules.specs.Numbers.{numberAt, digitsOf}
 use Rattle.rules.specs.Fields.{timeAt, timeText, dateAt, dateText, latitudeAt, latitudeText, longitudeAt, longitudeText, altitudeAt, altitudeText, isEither}
@@ -20,7 +20,6 @@ use Rattle.rules.specs.Writes.{plannedText}
 use Rattle.rules.specs.declared.Kind.{Kind}
 use Rattle.rules.specs.declared.Kind.the-variants as kind
 use Rattle.rules.specs.Limits.{isTime, isDate, isPlanned, isAltitude}
-use Rattle.demands.specs.Grammar.{Each}
 use Rattle.demands.specs.Checks.{isThere}
 
 -- "The first byte, A to Z, is the kind. M to Z are 'other' and carried (h)."

@@ -9,7 +9,7 @@ use mathlib.Core.Path.{_≡_}
 use lib.Dec.{eqb}
 use lib.ListN.{length, getD, replicate}
 use Rattle.rules.specs.Families.{firstStart, layoutLetter}
-use Rattle.rules.specs.Choice.{byte}
+use Rattle.rules.specs.Choice.{byte, Each}
 use Rattle.rules.specs.Chars.{isValid, isCode, codesAt}
 use Rattle.rules.specs.Fields.{timeText, dateText, isEither}
 use Rattle.rules.specs.Numbers.{digitsOf}
@@ -29,11 +29,6 @@ use Rattle.rules.specs.declared.Head.{Head}
 use Rattle.rules.specs.declared.Point.{Point}
 use Rattle.rules.specs.declared.Flight.{Flight}
 use Rattle.rules.specs.Limits.{isTime, goodFixFields, goodPoint}
-
--- every element keeps to P
-abbrev pub Each : {A : Type 0} → (A → Type 0) → List A → Type 0
-Each P [] = Unit {0}
-Each P (a ∷ l) = P a × Each P l
 
 -- ---- 'Lines' and 'Fields': a line of each kind, without its CR LF
 

@@ -7,7 +7,7 @@ use mathlib.Core.Path.{_≡_}
 use lib.IntN.{pos, negℤ}
 use lib.ListN.{length, getD, take, drop}
 use Rattle.rules.specs.Families.{firstStart}
-use Rattle.rules.specs.Choice.{part}
+use Rattle.rules.specs.Choice.{part, Each}
 use Rattle.rules.specs.Refusals.{Said, says, refuses, no}
 use Rattle.rules.specs.Numbers.{digitsOf}
 use Rattle.rules.specs.Listed.{codeText}
@@ -24,7 +24,7 @@ use Rattle.rules.specs.declared.Family.the-variants as family
 use Rattle.rules.specs.declared.Fix.{Fix}
 use Rattle.rules.specs.declared.Head.{Head}
 use Rattle.rules.specs.declared.Flight.{Flight}
-use Rattle.demands.specs.Grammar.{Each, IsText, widthOf, IsBLine, IsKLine, IsHeadLine, IsPointLine, written, beginning}
+use Rattle.demands.specs.Grammar.{IsText, widthOf, IsBLine, IsKLine, IsHeadLine, IsPointLine, written, beginning}
 
 -- ---- a column
 

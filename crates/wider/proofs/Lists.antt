@@ -6,9 +6,8 @@ use mathlib.Core.Option.{none, some}
 use mathlib.Core.Path.{_≡_, refl}
 use native.Mathlib.Omega.{arith}
 use lib.ListN.{length, getD}
-use Rattle.rules.specs.Choice.{firstOf}
+use Rattle.rules.specs.Choice.{firstOf, Each}
 use Rattle.rules.proofs.Inverse.{none-some}
-use Rattle.wider.specs.Wider.{Each}
 
 module _ {A : Type 0} where
   pub each-map : (P Q : A → Type 0) → ((x : A) → P x → Q x) → (xs : List A) → Each P xs → Each Q xs

@@ -10,7 +10,7 @@ use borrow.Author.Tests.{eq-eqb, eqb-true, not-false}
 use lib.Dec.{eqb}
 use lib.ListN.{length, take, drop, length-append, take-append-drop}
 use lib.Seq.{take-at}
-use Rattle.rules.specs.Choice.{given, need, byte}
+use Rattle.rules.specs.Choice.{given, need, byte, Each}
 use Rattle.rules.specs.Refusals.{Said, says, no}
 use Rattle.rules.specs.Chars.{characters, firstInvalid}
 use Rattle.rules.specs.Listed.{packedOf, keepsRule}
@@ -32,7 +32,7 @@ use Rattle.trips.proofs.Positions.{latitude-trip, longitude-trip}
 use Rattle.trips.proofs.Altitudes.{altitude-trip}
 use Rattle.trips.proofs.Extras.{extra-there, extra-trip}
 use Rattle.trips.proofs.Fixes.{fix-there, fix-trip}
-use Rattle.wider.specs.Wider.{Each, textIn, KeepsRules, WiderLine}
+use Rattle.wider.specs.Wider.{textIn, KeepsRules, WiderLine}
 use Rattle.wider.specs.Before.{textSaid, AsBefore}
 use Rattle.wider.proofs.Lists.{each-map, each-both, nothing-found, none-passes, found-one}
 use Rattle.sound.proofs.Placed.{Sound}

@@ -10,13 +10,12 @@ use borrow.Author.Tests.{leb-true, eq-eqb}
 use lib.Dec.{leb, eqb, eqb·suc-zero}
 use lib.ListN.{length, getD, take, drop, length-set, take-append-drop, drop-of-length-le}
 use lib.Seq.{length-take-le, append-snoc, drop-drop, getD-take}
-use Rattle.rules.specs.Choice.{given, firstOf, byte}
+use Rattle.rules.specs.Choice.{given, firstOf, byte, Each}
 use Rattle.rules.specs.Layouts.{unused, emptyLayout, withEntry, entriesOf, spanOf, look, carries, placed, isSaid, isSpelt, allPlaced, allowed, lineLength, columnText}
 use Rattle.rules.specs.declared.Entry.{Entry}
 use Rattle.rules.specs.declared.Layout.{Layout}
 use Rattle.rules.proofs.Inverse.{false-true, and-inv}
 use Rattle.trips.proofs.Texts.{areValid, both-valid}
-use Rattle.wider.specs.Wider.{Each}
 use Rattle.wider.proofs.Lists.{none-passes, found-behind}
 use Rattle.sound.proofs.Placed.{Sound, said-placed, one-more}
 

@@ -7,7 +7,7 @@ use mathlib.Core.Option.{Option, none, some}
 use mathlib.Core.Path.{_≡_}
 use lib.ListN.{length, getD, take}
 use Rattle.rules.specs.Families.{firstStart}
-use Rattle.rules.specs.Choice.{given, byte}
+use Rattle.rules.specs.Choice.{given, byte, Each}
 use Rattle.rules.specs.Refusals.{says}
 use Rattle.rules.specs.Chars.{characters}
 use Rattle.rules.specs.Listed.{keepsRule}
