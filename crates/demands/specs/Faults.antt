@@ -5,7 +5,8 @@ use mathlib.Core.List.{List, [], _∷_, _++_}
 use mathlib.Core.Logic.{_⊎_}
 use mathlib.Core.Path.{_≡_}
 use lib.ListN.{length, getD}
-use Rattle.demands.specs.Grammar.{Each, IsText, written, beginning}
+use Rattle.rules.specs.Choice.{Each}
+use Rattle.demands.specs.Grammar.{IsText, written, beginning}
 use Rattle.demands.specs.Coming.{Open}
 use Rattle.demands.specs.Checks.{AllPass, FailsFirst, checksOf}
 

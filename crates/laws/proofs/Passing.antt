@@ -1,9 +1,10 @@
 -- A line that passes, taken apart once: by its role, what its check says of it and the state that it leaves. Everyone else cases on `Leaves`. Assumes nothing.
 use Prim.Native.Nat.{ℕ, _+_, _≤_}
-use mathlib.Core.Bool.{Bool, true, false, not, cond}
+use mathlib.Core.Bool.{Bool, true, false, not, _&&_, cond}
 use mathlib.Core.List.{List}
 use mathlib.Core.Option.{Option, none, some}
 use mathlib.Core.Path.{_≡_, refl}
+use native.Mathlib.Omega.{arith}
 use borrow.Author.Tests.{le-leb, leb-true, eqb-true, eqb-false, eq-eqb, ne-eqb}
 use lib.Dec.{leb, eqb}
 use lib.ListN.{length, getD}
@@ -11,10 +12,10 @@ use Rattle.rules.specs.Choice.{on}
 use Rattle.rules.specs.Families.{firstStart, layoutOf}
 use Rattle.rules.specs.Refusals.{Said, says, refuses, inLine, andThen}
 use Rattle.rules.specs.Lines.{kindOf, aLine, dateLine, hLine, layoutLine, headLine, pointLine, dLine, eLine, fLine, columnedLine, lLine, gLine, otherLine}
-use Rattle.rules.specs.Roles.{roleOf, isRole}
+use Rattle.rules.specs.Roles.{roleOf, isRole, afterH, leading}
 use Rattle.rules.specs.Order.{orderOf, moved, dated, laidOut, counted, begun, pointed, clocked, passing, isBack, timed, declarationLine, headerLine, ruled, judge}
 use Rattle.rules.specs.Split.{Lines, line}
-use Rattle.rules.specs.Files.{hasRoom, run}
+use Rattle.rules.specs.Files.{endsAfter, hasRoom, run}
 use Rattle.rules.specs.declared.Date.{Date}
 use Rattle.rules.specs.declared.Layout.{Layout}
 use Rattle.rules.specs.declared.Family.{Family}
@@ -24,8 +25,26 @@ use Rattle.rules.specs.declared.Role.{Role}
 use Rattle.rules.specs.declared.Role.the-variants as role
 use Rattle.rules.specs.declared.Flight.{Flight}
 use Rattle.rules.specs.declared.Seal.{Seal}
+use Rattle.rules.specs.declared.Seal.the-variants as seal
 use Rattle.rules.specs.declared.State.{State}
-use Rattle.rules.proofs.Inverse.{refuses-says, given-inv, need-inv, then-inv, not-inv, in-line-inv}
+use Rattle.rules.proofs.Inverse.{none-some, refuses-says, given-inv, need-inv, then-inv, and-inv, not-inv, in-line-inv}
+
+-- ---- the parts of a file
+
+pub leading-so : (low high next stage : ℕ) → low ≤ stage → stage ≤ high → leading low high next stage ≡ some next
+leading-so low high next stage p q = rw (le-leb low stage p, le-leb stage high q)
+
+pub leading-inv : (low high next stage s : ℕ) → leading low high next stage ≡ some s → (low ≤ stage) × (stage ≤ high) × (next ≡ s)
+leading-inv low high next stage s e =
+    let n = need-inv (leb low stage && leb stage high) none (some s) _ none-some e in
+    let r = and-inv (leb low stage) (leb stage high) (n .0) in
+    (leb-true _ _ (r .0), leb-true _ _ (r .1), cc)
+
+-- whatever a file must have at its end, its front is over there
+pub front-over : (seal : Seal) → afterH ≤ endsAfter seal
+front-over seal.Strict = omega arith
+
+-- ---- a line that passes
 
 -- the role of a line, by its first byte
 abbrev pub roleIn : List ℕ → Role

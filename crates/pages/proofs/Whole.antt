@@ -9,7 +9,7 @@ use borrow.Author.Tests.{le-leb, lt-ltb, le-ltb, leb-true, leb-false, eqb-true}
 use Prim.Native.Char.{code}
 use lib.Dec.{leb, ltb, eqb}
 use lib.ListN.{length, getD, take, drop, length-drop}
-use Rattle.rules.specs.Choice.{need, part}
+use Rattle.rules.specs.Choice.{need, part, Each}
 use Rattle.rules.specs.Refusals.{Said, says, refuses, no, valueOr}
 use Rattle.rules.specs.Layouts.{allowed, columns}
 use Rattle.rules.specs.Split.{Lines, end, broken, line, linesOf, offsets}
@@ -26,7 +26,6 @@ use Rattle.rules.proofs.Inverse.{need-inv, then-inv, refuses-says}
 use Rattle.laws.proofs.Splitting.{Whole, textsOf, line-at, none-left}
 use Rattle.laws.proofs.Counted.{lines-counted, entry-put, line-by-number}
 use Rattle.laws.proofs.Counted as counted
-use Rattle.demands.specs.Grammar.{Each}
 use Rattle.demands.specs.Readings.{ReadsFix, ReadsLine}
 use Rattle.demands.proofs.Demands.{readable}
 use Rattle.block.specs.Blocks.{endOf, textAt, printed, Leaf, leaf, before, printedAt, leafFrom, leafAt, joined}
