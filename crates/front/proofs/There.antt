@@ -27,7 +27,7 @@ pub record Spelt (o : Option ℕ) (most : ℕ) : Type 0 where
   pub read : o ≡ some value
   pub below : value ≤ most
 
-cond-some : (t : Bool) (x : Option ℕ) (w : ℕ) → cond t x none ≡ some w → (t ≡ true) × (x ≡ some w)
+pub cond-some : (t : Bool) (x : Option ℕ) (w : ℕ) → cond t x none ≡ some w → (t ≡ true) × (x ≡ some w)
 cond-some true x w e = (refl, e)
 cond-some false x w e = let z : _≡_ {A = ℕ} 0 1 = cc in absurd (omega arith)
 

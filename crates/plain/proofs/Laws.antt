@@ -63,7 +63,7 @@ pub ruleset signs = (joined, told, not-true, not-false, told-eq, told-ne)
 
 -- ---- plain bytes are mild, and mild bytes are valid
 
-plain-mild : (b : ℕ) → isPlain b ≡ true → isMild b ≡ true
+pub plain-mild : (b : ℕ) → isPlain b ≡ true → isMild b ≡ true
 unfolding isMild
 plain-mild b e = by (eqb b 32) (eqb b 93)
   where

@@ -99,7 +99,7 @@ timed : (o : Option ℕ) (f : ℕ → Said Fix) → ((t : ℕ) → timeOf (f t) 
 timed none f e = refl
 timed (some t) f e = e t
 
-front-time : (l : List ℕ) → isFront l ≡ true → timeOf (fixFields l) ≡ timeAt l 1
+pub front-time : (l : List ℕ) → isFront l ≡ true → timeOf (fixFields l) ≡ timeAt l 1
 unfolding fixFields on
 front-time l e =
     let p = front-there l e in
