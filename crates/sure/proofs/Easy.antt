@@ -9,10 +9,10 @@ use borrow.Author.Tests.{leb-true, le-leb, eq-eqb}
 use lib.Dec.{leb}
 use lib.ListN.{length, getD, drop, length-drop}
 use lib.Seq.{drop-drop}
+use Rattle.rules.specs.Families.{firstStart}
 use Rattle.rules.specs.Choice.{leads, given, need, byte, bytes}
 use Rattle.rules.specs.Chars.{isDigit}
 use Rattle.rules.specs.Fields.{timeAt, timeTold}
-use Rattle.rules.specs.Layouts.{firstStart}
 use Rattle.rules.specs.Listed.{isDigits}
 use Rattle.rules.specs.Numbers.{spell, numberAt}
 use Rattle.rules.specs.declared.Family.{Family}
@@ -20,7 +20,8 @@ use Rattle.rules.specs.declared.Family.the-variants as family
 use Rattle.rules.specs.declared.Time.{Time}
 use Rattle.number.proofs.Laws.{digit-low, digit-high}
 use Rattle.plain.specs.Plain.{isPlain, isMild, every}
-use Rattle.plain.proofs.Laws.{and-inv, plain-mild}
+use Rattle.rules.proofs.Inverse.{and-inv}
+use Rattle.plain.proofs.Laws.{plain-mild}
 use Rattle.front.proofs.There.{cond-some}
 use Rattle.front.specs.Front.{between, isWithin, lows, highs, nears, isBounded, isFront}
 use Rattle.sure.specs.Sure.{keepsPattern, isEasy, fieldsTime, cleanTime, patternTime, sureTime}
