@@ -8,7 +8,7 @@ use Rattle.rules.specs.Refusals.{Said}
 use Rattle.rules.specs.Layouts.{LayoutTold, allowed}
 use Rattle.rules.specs.Files.{CheckedTold}
 use Rattle.rules.specs.Writes.{fixText, isFix, extraText, isExtra, layoutText, headText, isHead, pointText, isPoint}
-use Rattle.rules.specs.Promises.{DigitsRead, WholeRead, DigitsPut, DigitTest, CodeTest, ValidTest, InvalidFound, CodesTest, ByteAt, EitherTest, TimeAt, DateAt, LatitudeAt, LongitudeAt, AltitudeAt, TimePut, DatePut, LatitudePut, LongitudePut, AltitudePut, DegreesGiven, ListedAt, AllowedTest, LengthGiven, LookGiven, PresenceGiven, ColumnTest, KindGiven, ColumnsChecked, ShapeChecked, RecorderChecked, DateLineChecked, HeaderChecked, LayoutChecked, HeadChecked, PointChecked, DifferentialChecked, EventChecked, SatellitesChecked, FixChecked, ExtraChecked, FixGiven, ExtraGiven, EventGiven, SatellitesGiven, DateGiven, LayoutGiven, HeadGiven, HeadRest, PointGiven, PointRest, ColumnGiven, ColumnRest, NumberGiven, FileChecked, FileJudged, LineGiven, LineRest, Written, FixWritten, ExtraWritten, LayoutWritten, HeadWritten, PointWritten}
+use Rattle.rules.specs.Promises.{DigitsRead, WholeRead, DigitsPut, DigitTest, CodeTest, ValidTest, InvalidFound, CodesTest, ByteAt, EitherTest, TimeAt, DateAt, LatitudeAt, LongitudeAt, AltitudeAt, TimePut, DatePut, LatitudePut, LongitudePut, AltitudePut, DegreesGiven, ListedAt, AllowedTest, LengthGiven, LookGiven, PresenceGiven, ColumnTest, KindGiven, ColumnsChecked, ShapeChecked, RecorderChecked, DateLineChecked, HeaderChecked, LayoutChecked, HeadChecked, PointChecked, DifferentialChecked, EventChecked, SatellitesChecked, FixChecked, ExtraChecked, ColumnedChecked, FixGiven, ExtraGiven, EventGiven, SatellitesGiven, DateGiven, LayoutGiven, HeadGiven, HeadRest, PointGiven, PointRest, ColumnGiven, ColumnRest, NumberGiven, FileChecked, FileJudged, LineGiven, LineRest, Written, FixWritten, ExtraWritten, LayoutWritten, HeadWritten, PointWritten}
 use Rattle.rules.specs.declared.Date.{Date}
 use Rattle.rules.specs.declared.Position.{Position}
 use Rattle.rules.specs.declared.Height.{Height}
@@ -186,6 +186,9 @@ only-fix-checked l layout = alike fix-one
 
 pub only-extra-checked : (l : List ℕ) (layout : Layout) → Only (ExtraChecked l layout)
 only-extra-checked l layout = alike timed-one
+
+pub only-columned-checked : (f : Family) (l : List ℕ) (layout : Layout) → Only (ColumnedChecked f l layout)
+only-columned-checked f l layout = alike timed-one
 
 -- ---- lines: the readers
 

@@ -8,7 +8,7 @@ ghost use Rattle.rules.specs.Lines.{isDateMark, plannedAt, headFields, badPair,
 ghost use Rattle.rules.specs.Layouts.{columns};
 ghost use Rattle.rules.specs.Refusals.{outcomeTold, andThen, says};
 ghost use Rattle.rules.specs.Reads.{headTold, fixTold};
-ghost use Rattle.rules.specs.Promises.{RecorderChecked, DateLineChecked, HeaderChecked, HeadChecked, PointChecked, DifferentialChecked, EventChecked, SatellitesChecked, FixChecked, ExtraChecked, foundTold};
+ghost use Rattle.rules.specs.Promises.{RecorderChecked, DateLineChecked, HeaderChecked, HeadChecked, PointChecked, DifferentialChecked, EventChecked, SatellitesChecked, FixChecked, ExtraChecked, ColumnedChecked, KindGiven, foundTold};
 ghost use Rattle.line.specs.Parts.{plannedTold};
 use fix::fix_fields;
 use fix::form;
@@ -20,6 +20,7 @@ use rules::FixRead;
 use rules::Found;
 use rules::Head;
 use rules::HeadRead;
+use rules::Kind;
 use rules::Layout;
 use rules::Number;
 use rules::Outcome;
@@ -299,4 +300,39 @@ pub fn extra_line(line: &[u8], layout: Layout) -> TimeRead
         return TimeRead::Refused(r);
     }
     TimeRead::Secs(t)
+}
+
+// A line of a family by its layout: its time. Refusals: those of its kind. Defined for every layout value.
+pub fn columned_line(family: Family, line: &[u8], layout: Layout) -> TimeRead
+    ensures { λ r. ⌜ ColumnedChecked family (now (line .entry)) layout r ⌝ }
+{
+    match family {
+        Family::B => match fix_line(line, layout) {
+            FixRead::Is(f) => TimeRead::Secs(f.time),
+            FixRead::Refused(r) => TimeRead::Refused(r),
+        },
+        Family::K => extra_line(line, layout),
+    }
+}
+
+// The kind of a line, told by its first byte; NoKind for a byte that is not A to Z.
+pub fn kind_of(b: u8) -> Kind
+    ensures { λ r. ⌜ KindGiven b r ⌝ }
+{
+    match b {
+        b'A' => Kind::A,
+        b'B' => Kind::B,
+        b'C' => Kind::C,
+        b'D' => Kind::D,
+        b'E' => Kind::E,
+        b'F' => Kind::F,
+        b'G' => Kind::G,
+        b'H' => Kind::H,
+        b'I' => Kind::I,
+        b'J' => Kind::J,
+        b'K' => Kind::K,
+        b'L' => Kind::L,
+        b'M'..=b'Z' => Kind::Other,
+        _ => Kind::NoKind,
+    }
 }

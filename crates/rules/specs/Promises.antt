@@ -15,7 +15,7 @@ use Rattle.rules.specs.Fields.{isEither, timeTold, timeAt, timeText, day
 use Rattle.rules.specs.Degrees.{degreesTold, degreesOf}
 use Rattle.rules.specs.Listed.{listed, unlisted, keepsRule}
 use Rattle.rules.specs.Layouts.{LayoutTold, allowed, lengthTold, lengthSaid, presenceTold, presenceSaid, columnTold, lookSaid, columns}
-use Rattle.rules.specs.Lines.{kindOf, aLine, dateLine, hLine, layoutLine, headLine, pointLine, dLine, eLine, fLine, bLine, kLine, shaped}
+use Rattle.rules.specs.Lines.{kindOf, aLine, dateLine, hLine, layoutLine, headLine, pointLine, dLine, eLine, fLine, bLine, kLine, columnedLine, shaped}
 use Rattle.rules.specs.Split.{lineTold, boundsOf, lineText}
 use Rattle.rules.specs.Files.{CheckedTold, verdict, tableAfter}
 use Rattle.rules.specs.Reads.{fixTold, fixSaid, timeReadTold, extraSaid, eventSaid, satellitesSaid, dateReadTold, dateSaid, layoutSaid, headTold, headSaid, headRest, pointTold, pointSaid, pointRest, columnSaid, columnRest, numberReadTold, numberSaid}
@@ -192,6 +192,9 @@ FixChecked l layout r = fixTold r ≡ bLine layout l
 
 abbrev pub ExtraChecked : List ℕ → Layout → TimeRead → Type 0
 ExtraChecked l layout r = timeReadTold r ≡ kLine layout l
+
+abbrev pub ColumnedChecked : Family → List ℕ → Layout → TimeRead → Type 0
+ColumnedChecked f l layout r = timeReadTold r ≡ columnedLine f layout l
 
 -- ---- lines: the readers
 
