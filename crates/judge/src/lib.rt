@@ -14,7 +14,7 @@ use rules::State;
 
 // A line by its role: 7 to 14. The state counts it already.
 fn ruled_line(r: Role, line: &[u8], st: State) -> Judged
-    requires { ⌜ (f : Family) → countOf f (st .flight .counts) ≤ 16777216 ⌝ }
+    requires { ⌜ ((f : Family) → countOf f (st .flight .counts) ≤ 16777216) ⌝ }
     ensures { λ x. ⌜ JudgedTold (ruled r (now (line .entry)) st) x ⌝ }
 {
     match r {
