@@ -1,7 +1,9 @@
 -- One answer at most meets each promise of this crate. Assumes nothing.
 use Prim.Native.Nat.{ℕ}
 use mathlib.Core.Option.{Option, none, some}
-use mathlib.Core.Path.{refl}
+use mathlib.Core.Bool.{Bool, cond}
+use mathlib.Core.List.{List}
+use mathlib.Core.Path.{_≡_, refl, sym, ap, _∙_}
 use Rattle.rules.specs.declared.Counts.{Counts}
 use Rattle.rules.specs.declared.Date.{Date}
 use Rattle.rules.specs.declared.Family.{Family}
@@ -12,9 +14,10 @@ use Rattle.rules.specs.declared.Layouts.{Layouts}
 use Rattle.rules.specs.declared.Role.{Role}
 use Rattle.rules.specs.declared.Seal.{Seal}
 use Rattle.rules.specs.declared.State.{State}
-use Rattle.laws.proofs.Only.{Only, same, alike}
+use Rattle.laws.proofs.Only.{Only, OnlyBoth, same, alike}
+use Rattle.order.specs.Turns.{entry, EntryPut}
 use Rattle.laws.proofs.Told.{OneToOne, by-back}
-use Rattle.order.specs.States.{leadingTold, EndGiven, RoleGiven, RoleTest, OrderTold, BackTest, FewTest, NoFlight, BeforeAll, Moved, Dated, LayoutKept, LaidOut, OneCounted, CountedIn, Begun, Pointed, Clocked}
+use Rattle.order.specs.States.{leadingTold, EndGiven, RoleGiven, RoleTest, OrderTold, BackTest, FewCounts, FewTest, NoFlight, BeforeAll, Moved, Dated, LayoutKept, LaidOut, OneCounted, CountedIn, Begun, Pointed, Clocked}
 use Rattle.order.specs.declared.Leading.{Leading}
 use Rattle.order.specs.declared.Leading.the-variants as leading
 
@@ -40,6 +43,14 @@ only-role-test r = same
 
 pub only-back-test : (before now : ℕ) → Only (BackTest before now)
 only-back-test before now = same
+
+pub only-few-counts : (ns : Counts) → Only (FewCounts ns)
+only-few-counts ns = same
+
+pub only-entry-put : (lent : Bool) (table : List ℕ) (n at : ℕ) → OnlyBoth (EntryPut lent table n at)
+only-entry-put lent table n at r r′ after after′ e e′ =
+    let q : r ≡ r′ = same r r′ (e .fits) (e′ .fits) in
+    (q, e .entries ∙ ap (λ (b : Bool). cond b (entry lent table n at) table) q ∙ sym (e′ .entries))
 
 pub only-few-test : (st : State) → Only (FewTest st)
 only-few-test st = same

@@ -70,6 +70,15 @@ entry-more true passed table₀ table n at c e h after q =
     rw (q, k, e, c, drop-cons table₀ n 0 l, set-at passed (getD table₀ n 0) (drop (suc n) table₀) at n c, append-snoc)
 entry-more false passed table₀ table n at c e h after q = q ∙ e
 
+pub put-long : (lent : Bool) (table : List ℕ) (n at : ℕ) (after : List ℕ) → after ≡ entry lent table n at → length after ≡ length table
+put-long true table n at after q = rw q (length-set table n at)
+put-long false table n at after q = rw q
+
+-- a table keeps its room
+pub same-room : (lent : Bool) (table table₀ : List ℕ) (n : ℕ) → length table ≡ length table₀ → hasRoom (roomOf lent table) n ≡ true → hasRoom (roomOf lent table₀) n ≡ true
+same-room true table table₀ n e h = rw e at h
+same-room false table table₀ n e h = h
+
 module _ {seal : Seal} {lent : Bool} {file table₀ table : List ℕ} {at : ℕ} {st : State} (h : Here seal lent file table₀ table at st) where
   pub here-few : length file ≤ 16777216 → Few st
   here-few l = record { lines = omega (arith, h .lines, h .within); count = λ f. omega (arith, h .lines, h .within, h .count f) }
@@ -84,13 +93,9 @@ module _ {seal : Seal} {lent : Bool} {file table₀ table : List ℕ} {at : ℕ}
         offsets = rw (append-snoc, ← passed-offsets p) (h .offsets);
         entries = entry-more lent (h .passed) table₀ table (st .flight .lines) at (h .many) (h .entries) l after q;
         room = rw n l;
-        size = long lent q ∙ h .size;
+        size = put-long lent table (st .flight .lines) at after q ∙ h .size;
         within = p .within;
         lines = omega (arith, p .place, h .lines);
         count = λ f. omega (arith, family-counted (p .text) st s (p .judged) f, h .count f);
         run = passed-run p seal (roomOf lent table₀) l ∙ h .run;
       }
-    where
-      long : (b : Bool) → after ≡ entry b table (st .flight .lines) at → length after ≡ length table
-      long true q = rw q (length-set table (st .flight .lines) at)
-      long false q = rw q

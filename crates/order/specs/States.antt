@@ -57,6 +57,9 @@ pub record Few (st : State) : Type 0 where
 unfoldable pub areFew : Counts → Bool
 areFew ns = isFew (ns .b) && isFew (ns .k)
 
+abbrev pub FewCounts : Counts → Bool → Type 0
+FewCounts ns r = r ≡ areFew ns
+
 unfoldable pub hasFew : State → Bool
 hasFew st = isFew (st .flight .lines) && areFew (st .flight .counts)
 

@@ -5,7 +5,8 @@ ghost use Rattle.rules.specs.Layouts.{emptyLayout};
 ghost use Rattle.rules.specs.Order.{fitsDeclaration};
 ghost use Rattle.rules.specs.Roles.{isDeclaring, afterLayout, leading, stageAfter};
 ghost use Rattle.rules.specs.declared.Role.the-variants as role;
-ghost use Rattle.order.specs.States.{leadingTold, EndGiven, RoleGiven, RoleTest, OrderTold, BackTest, areFew, FewTest, NoFlight, BeforeAll, Moved, Dated, LayoutKept, LaidOut, OneCounted, CountedIn, Begun, Pointed, Clocked};
+ghost use Rattle.order.specs.Turns.{EntryPut};
+ghost use Rattle.order.specs.States.{leadingTold, EndGiven, RoleGiven, RoleTest, OrderTold, BackTest, FewCounts, FewTest, NoFlight, BeforeAll, Moved, Dated, LayoutKept, LaidOut, OneCounted, CountedIn, Begun, Pointed, Clocked};
 use rules::Counts;
 use rules::Date;
 use rules::Entry;
@@ -196,8 +197,8 @@ fn empty_layout() -> Layout
 }
 
 // Whether the counts of each family are few.
-fn are_few(counts: Counts) -> bool
-    ensures { λ r. ⌜ r ≡ areFew counts ⌝ }
+pub fn are_few(counts: Counts) -> bool
+    ensures { λ r. ⌜ FewCounts counts r ⌝ }
 {
     if 16777216 < counts.b {
         return false;
@@ -372,4 +373,18 @@ pub fn clocked_to(t: u32, st: State) -> State
     let mut next = st;
     next.clock = t;
     next
+}
+
+// Puts a line's offset into the lent table, if one is lent, at its place: whether the table has room for it. Where it has none, the table stays.
+pub fn put_entry(lent: bool, table: &mut [u32], n: usize, at: u32) -> bool
+    ensures { λ r. ⌜ EntryPut lent (now (table .entry)) n at r (now (table .exit)) ⌝ }
+{
+    if !lent {
+        return true;
+    }
+    if table.len() <= n {
+        return false;
+    }
+    table[n] = at;
+    true
 }
