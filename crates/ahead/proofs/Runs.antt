@@ -1,6 +1,6 @@
 -- What holds at each turn of a run: the lines so far are passed, and the pace has the numbers after them. Assumes nothing.
 use Prim.Native.Nat.{ℕ, _+_, _*_, _≤_, _<_}
-use mathlib.Core.Bool.{Bool, true}
+use mathlib.Core.Bool.{Bool, true, false}
 use mathlib.Core.List.{List, [], _∷_}
 use mathlib.Core.Path.{_≡_, refl, sym, ap, _∙_}
 use native.Mathlib.Omega.{arith}
@@ -33,6 +33,10 @@ paceOf at st = record { at = at; stage = st .stage; clock = st .clock; lines = s
 
 pub taken-is : {file : List ℕ} {st : State} {p q : Pace} (r : Taken) → TakenAs file st p r → r ≡ taken.Next q → Takes file st p q
 taken-is r t e = rw e at t
+
+-- a table that has no room stays
+pub put-none : {lent : Bool} {table : List ℕ} {n at : ℕ} {r : Bool} {after : List ℕ} → EntryPut lent table n at r after → r ≡ false → after ≡ table
+put-none u e = rw e at (u .entries)
 
 -- ---- the loop's invariant
 

@@ -26,11 +26,14 @@ pub struct Ahead {
 fn ahead_at(p: Pace, st: State) -> Ahead
     ensures { λ r. ⌜ r ≡ record { at = p .at; state = paced st p } ⌝ }
 {
+    let counts = p.counts;
+    let mut flight = st.flight;
+    flight.lines = p.lines;
+    flight.counts = counts;
     let mut state = st;
     state.stage = p.stage;
     state.clock = p.clock;
-    state.flight.lines = p.lines;
-    state.flight.counts = p.counts;
+    state.flight = flight;
     Ahead { at: p.at, state }
 }
 
@@ -38,12 +41,14 @@ fn ahead_at(p: Pace, st: State) -> Ahead
 fn pace_of(at: usize, st: State) -> Pace
     ensures { λ r. ⌜ r ≡ record { at = at; stage = st .stage; clock = st .clock; lines = st .flight .lines; counts = st .flight .counts } ⌝ }
 {
+    let flight = st.flight;
+    let counts = flight.counts;
     Pace {
         at,
         stage: st.stage,
         clock: st.clock,
-        lines: st.flight.lines,
-        counts: st.flight.counts,
+        lines: flight.lines,
+        counts,
     }
 }
 
