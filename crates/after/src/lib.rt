@@ -135,5 +135,8 @@ pub fn judge_columned(family: Family, line: &[u8], st: State) -> Judged
 {
     let flight = st.flight;
     let layout = order::layout_of(family, flight.layouts);
-    after_time(line::columned_line(family, line, layout), order::counted_in(family, st))
+    after_time(
+        line::columned_line(family, line, layout),
+        order::counted_in(family, st),
+    )
 }

@@ -1,6 +1,6 @@
 -- What holds at each turn of a run: the lines so far are passed, and the pace has the numbers after them. Assumes nothing.
 use Prim.Native.Nat.{ℕ, _+_, _*_, _≤_, _<_}
-use mathlib.Core.Bool.{Bool, true, false}
+use mathlib.Core.Bool.{Bool, true}
 use mathlib.Core.List.{List, [], _∷_}
 use mathlib.Core.Path.{_≡_, refl, sym, ap, _∙_}
 use native.Mathlib.Omega.{arith}
@@ -18,7 +18,7 @@ use Rattle.rules.specs.declared.State.{State}
 use Rattle.rules.proofs.Inverse.{and-inv}
 use Rattle.order.specs.Turns.{Passed, entry, EntryPut, Here}
 use Rattle.order.proofs.Counts.{lines-counted}
-use Rattle.order.proofs.Turns.{put-long, same-room, here-next}
+use Rattle.order.proofs.Turns.{put-so, put-fits, put-long, here-next}
 use Rattle.sure.specs.Sure.{patternOf}
 use Rattle.pace.specs.Paces.{paced, Going, Takes, TakenAs}
 use Rattle.pace.specs.declared.Pace.{Pace}
@@ -33,10 +33,6 @@ paceOf at st = record { at = at; stage = st .stage; clock = st .clock; lines = s
 
 pub taken-is : {file : List ℕ} {st : State} {p q : Pace} (r : Taken) → TakenAs file st p r → r ≡ taken.Next q → Takes file st p q
 taken-is r t e = rw e at t
-
--- a table that has no room stays
-pub put-none : {lent : Bool} {table : List ℕ} {n at : ℕ} {r : Bool} {after : List ℕ} → EntryPut lent table n at r after → r ≡ false → after ≡ table
-put-none u e = rw e at (u .entries)
 
 -- ---- the loop's invariant
 
@@ -58,14 +54,14 @@ module _ {lent : Bool} {file table₀ table : List ℕ} {from : ℕ} {st : State
   running-next {q} t r after u e =
       let d = t .passed in
       let n : q .lines ≡ p .lines + 1 = lines-counted (d .text) (paced st p) (paced st q) (d .judged) in
-      let put : after ≡ entry lent table (p .lines) (p .at) = rw e at (u .entries) in
+      let put : after ≡ entry lent table (p .lines) (p .at) = put-so u e in
       record {
         going = record { points = g .going .points; low = omega (arith, t .stage); high = omega (arith, t .stage) };
         long = put-long lent table (p .lines) (p .at) after put ∙ g .long;
         begun = omega (arith, g .begun, d .place);
         within = d .within;
         lines = omega (arith, g .lines, d .place, n);
-        reach = λ seal t₀ h. let i = g .reach seal t₀ h in here-next i d (same-room lent table t₀ (p .lines + 1) (i .size) (sym (u .fits) ∙ e)) put;
+        reach = λ seal t₀ h. let i = g .reach seal t₀ h in here-next i d (put-fits u t₀ (i .size) e) put;
       }
 
   pub running-less : {q : Pace} → Takes file st p q → p .at < q .at

@@ -153,7 +153,17 @@ fn run_known(
     let k = extras.size;
     let n = extras.end;
     let others = extras.pattern;
-    run_lines(file, lent, table, from, b, &columns[..m], k, &others[..n], st)
+    run_lines(
+        file,
+        lent,
+        table,
+        from,
+        b,
+        &columns[..m],
+        k,
+        &others[..n],
+        st,
+    )
 }
 
 // The lines from a place on where they may come, with what the layouts say of them.

@@ -3,7 +3,7 @@ use Prim.Native.Nat.{ℕ, suc, _+_, _≤_, _<_}
 use mathlib.Core.Bool.{Bool, true, false}
 use mathlib.Core.List.{List, [], _∷_, _++_}
 use mathlib.Core.Option.{Option}
-use mathlib.Core.Path.{_≡_, refl, _∙_}
+use mathlib.Core.Path.{_≡_, refl, sym, _∙_}
 use native.Mathlib.Numerals.{add-one}
 use native.Mathlib.Omega.{arith}
 use borrow.Author.Tests.{le-leb, leb-true}
@@ -18,7 +18,7 @@ use Rattle.rules.specs.declared.Family.the-variants as family
 use Rattle.rules.specs.declared.Seal.{Seal}
 use Rattle.rules.specs.declared.State.{State}
 use Rattle.order.specs.States.{Few}
-use Rattle.order.specs.Turns.{Passed, roomOf, entered, entry, Here}
+use Rattle.order.specs.Turns.{Passed, roomOf, entered, entry, EntryPut, Here}
 use Rattle.order.proofs.Counts.{lines-counted, family-counted}
 
 -- ---- a line passed
@@ -75,9 +75,27 @@ put-long true table n at after q = rw q (length-set table n at)
 put-long false table n at after q = rw q
 
 -- a table keeps its room
-pub same-room : (lent : Bool) (table table₀ : List ℕ) (n : ℕ) → length table ≡ length table₀ → hasRoom (roomOf lent table) n ≡ true → hasRoom (roomOf lent table₀) n ≡ true
+same-room : (lent : Bool) (table table₀ : List ℕ) (n : ℕ) → length table ≡ length table₀ → hasRoom (roomOf lent table) n ≡ true → hasRoom (roomOf lent table₀) n ≡ true
 same-room true table table₀ n e h = rw e at h
 same-room false table table₀ n e h = h
+
+no-room : (lent : Bool) (table table₀ : List ℕ) (n : ℕ) → length table ≡ length table₀ → hasRoom (roomOf lent table) n ≡ false → hasRoom (roomOf lent table₀) n ≡ false
+no-room true table table₀ n e h = rw e at h
+no-room false table table₀ n e h = h
+
+-- an entry that was put, and a table with no room for it
+module _ {lent : Bool} {table : List ℕ} {n at : ℕ} {r : Bool} {after : List ℕ} (u : EntryPut lent table n at r after) where
+  pub put-so : r ≡ true → after ≡ entry lent table n at
+  put-so e = rw e at (u .entries)
+
+  pub put-none : r ≡ false → after ≡ table
+  put-none e = rw e at (u .entries)
+
+  pub put-fits : (table₀ : List ℕ) → length table ≡ length table₀ → r ≡ true → hasRoom (roomOf lent table₀) (n + 1) ≡ true
+  put-fits table₀ e q = same-room lent table table₀ (n + 1) e (sym (u .fits) ∙ q)
+
+  pub put-full : (table₀ : List ℕ) → length table ≡ length table₀ → r ≡ false → hasRoom (roomOf lent table₀) (n + 1) ≡ false
+  put-full table₀ e q = no-room lent table table₀ (n + 1) e (sym (u .fits) ∙ q)
 
 module _ {seal : Seal} {lent : Bool} {file table₀ table : List ℕ} {at : ℕ} {st : State} (h : Here seal lent file table₀ table at st) where
   pub here-few : length file ≤ 16777216 → Few st
