@@ -146,7 +146,7 @@ layout-allowed f layout l w =
     )
 
 -- so is the empty one, where there is no such line
-pub told : (f : Family) {layout : Layout} {ls : List (List ℕ)} → AtMostOne f layout ls → IsTold (firstStart f) layout
+pub told : (f : Family) {layout : Layout} {ls : List (List ℕ)} → AtMostOne f layout ls → IsTold f layout
 unfolding allowed allPlaced leads isUnused
 told family.B absent = (refl, refl)
 told family.K absent = (refl, refl)
