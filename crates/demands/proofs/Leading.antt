@@ -83,7 +83,7 @@ sound-start family.K = (refl, refl)
 -- ---- the order of roles
 
 -- while points are to come only a C line may
-plain-fits : (st : State) → fitsDeclaration false st ≡ true → st .points ≡ 0
+pub plain-fits : (st : State) → fitsDeclaration false st ≡ true → st .points ≡ 0
 unfolding fitsDeclaration
 plain-fits st e = go (leb 1 (st .points)) refl e
   where
@@ -96,7 +96,7 @@ unfolding fitsDeclaration
 fits-plain st e = rw e
 
 -- a C line where no point is to come begins a declaration
-head-fits : (st : State) → st .points ≡ 0 → fitsDeclaration true st ≡ true → (st .declared ≡ false) × (countOf family.B (st .flight .counts) ≡ 0)
+pub head-fits : (st : State) → st .points ≡ 0 → fitsDeclaration true st ≡ true → (st .declared ≡ false) × (countOf family.B (st .flight .counts) ≡ 0)
 unfolding fitsDeclaration
 head-fits st z e = let r = and-inv (not (st .declared)) (eqb (countOf family.B (st .flight .counts)) 0) (rw z at e) in (not-inv (st .declared) (r .0), eqb-true _ _ (r .1))
 
@@ -108,7 +108,7 @@ fits-head : (st : State) → st .points ≡ 0 → st .declared ≡ false → cou
 unfolding fitsDeclaration
 fits-head st p d b = rw (p, d, b)
 
-order-inv : (r : Role) (st : State) (stage : ℕ) → orderOf r st ≡ some stage → (fitsDeclaration (isDeclaring r) st ≡ true) × (stageAfter r (st .stage) ≡ some stage)
+pub order-inv : (r : Role) (st : State) (stage : ℕ) → orderOf r st ≡ some stage → (fitsDeclaration (isDeclaring r) st ≡ true) × (stageAfter r (st .stage) ≡ some stage)
 unfolding orderOf
 order-inv r st stage e = need-inv (fitsDeclaration (isDeclaring r) st) none (some stage) _ none-some e
 

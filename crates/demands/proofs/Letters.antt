@@ -54,6 +54,10 @@ pub same-family : (f : Family) → sameFamily f f ≡ true
 same-family family.B = refl
 same-family family.K = refl
 
+pub is-same : (f g : Family) → sameFamily g f ≡ true → g ≡ f
+is-same family.B = every (λ g. sameFamily g family.B ≡ true → g ≡ family.B) (λ e. refl) (λ e. absurd (false-true e))
+is-same family.K = every (λ g. sameFamily g family.K ≡ true → g ≡ family.K) (λ e. absurd (false-true e)) (λ e. refl)
+
 pub put-others : (f : Family) (i : Layout) (ls : Layouts) (g : Family) → sameFamily g f ≡ false → layoutOf g (withLayout f i ls) ≡ layoutOf g ls
 put-others f i ls = put-by (λ g x. sameFamily g f ≡ false → x ≡ layoutOf g ls) f i ls (λ n. absurd (false-true (sym n ∙ same-family f))) (λ g n m. refl)
 
