@@ -37,10 +37,10 @@ use Rattle.demands.specs.Checks.{Check, check, AllPass, FailsFirst, isTh
 use Rattle.demands.proofs.Laws.{each-join, shape-there}
 use Rattle.demands.proofs.Carried.{e-inv, f-inv}
 use Rattle.demands.proofs.Valued.{columned-time}
-use Rattle.demands.proofs.Entries.{entries-laid, with-laid}
+use Rattle.demands.proofs.Entries.{there, entry-there, entries-laid, with-laid}
 use Rattle.demands.proofs.Letters.{begins}
 use Rattle.demands.proofs.Tails.{end-of, line-end}
-use Rattle.demands.proofs.Standing.{there, entry-is, open-left, Stands}
+use Rattle.demands.proofs.Standing.{open-left, Stands}
 use Rattle.demands.proofs.Ordered.{order-told}
 
 -- ---- the first that fails
@@ -338,7 +338,7 @@ entries-agree (suc left) l at start before n =
     agree-then (entryAt l at start (laid before)) _ (entry-checks l at start before) (entryChecks left l (at + 7) (entryOf l at .last + 1) (before ++ (entryOf l at ∷ [])))
     (entry-agrees l at start before) λ e h.
     subst (λ x. Agrees (entriesFrom left l (at + 7) (e .last + 1) (withEntry (laid before) e)) (entryChecks left l (at + 7) (x .last + 1) (before ++ (x ∷ []))))
-    (sym (entry-is l at start (laid before) e h))
+    (sym (entry-there l at (at + 7) start (laid before) e refl h .3))
     (subst (λ x. Agrees (entriesFrom left l (at + 7) (e .last + 1) x) (entryChecks left l (at + 7) (e .last + 1) (before ++ (e ∷ []))))
     (sym (with-laid before e (omega arith)))
     (entries-agree left l (at + 7) (e .last + 1) (before ++ (e ∷ [])) (omega (arith, length-append before (e ∷ [])))))

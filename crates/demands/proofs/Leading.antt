@@ -154,7 +154,7 @@ module _ (l : List ℕ) (st : State) where
       rw (← s .2) (header, h-line (s .0) (s .1) (plain-fits st f) n (h-there l tt k e))
   by-role stage g k f o (passes.layout x i e) =
       let s = leading-inv afterH (afterLayout x - 1) (afterLayout x) (st .stage) stage o in
-      rw (← s .2) (telling x, layout-line x i (s .0) (s .1) (plain-fits st f) (layout-there x i l (tells-letter x k) e))
+      rw (← s .2) (telling x, layout-line x i (s .0) (s .1) (plain-fits st f) (layout-there x i l e (tells-letter x k)))
   by-role stage g k f o (passes.columned x t e w) =
       let s = leading-inv afterH inBody inBody (st .stage) stage o in
       let c = columned-there x (layoutOf x (st .flight .layouts)) t l (g x) (line-letter x k) e in

@@ -161,7 +161,7 @@ module _ (ls : List (List ℕ)) (l : List ℕ) (st : State) (w : Stands ls st) (
   tells-left stage k n f o (passes.layout x i e) = record {
     declaration = inl (plain-fits st f);
     told = put-by (λ g y. AtMostOne g y (those (layoutLetter g) (ls ++ (l ∷ [])))) x i (st .flight .layouts)
-        (told-here x i (layout-there x i l (tells-letter x k) e) (leading-inv afterH (afterLayout x - 1) (afterLayout x) (st .stage) stage o .1))
+        (told-here x i (layout-there x i l e (tells-letter x k)) (leading-inv afterH (afterLayout x - 1) (afterLayout x) (st .stage) stage o .1))
         (λ g m. told-same g (n g ∙ m));
   }
   tells-left stage k n f o (passes.columned x i e q) = record { declaration = inl (plain-fits st f); told = λ g. told-same g (n g) }

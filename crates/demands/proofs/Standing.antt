@@ -1,6 +1,6 @@
 -- What the check carries from line to line is what the lines before tell: how far the file has come, what is still to come of a declaration, the columns of each
 -- family's lines, and the last time. Assumes nothing.
-use Prim.Native.Nat.{ℕ, zero, suc, _+_, _-_, _*_, _≤_, _<_}
+use Prim.Native.Nat.{ℕ, _+_, _-_, _≤_}
 use Prim.Native.Char.{code}
 use mathlib.Core.Bool.{Bool, true, false, not, _&&_, _||_, cond}
 use mathlib.Core.List.{List, [], _∷_, _++_}
@@ -8,91 +8,43 @@ use mathlib.Core.Option.{Option, none, some}
 use mathlib.Core.Path.{_≡_, refl, sym, _∙_, ap}
 use native.Mathlib.Nat.{zero-add}
 use native.Mathlib.Omega.{arith}
-use borrow.Author.Tests.{le-leb, lt-leb, leb-true, leb-false, eqb-true, eqb-false, eq-eqb, ne-eqb, ltb-true, lt-ltb, not-false}
+use borrow.Author.Tests.{le-leb, leb-true, eqb-true, eqb-false, eq-eqb, ne-eqb, ltb-true, lt-ltb, not-false}
 use lib.Dec.{eqb, leb, ltb}
 use lib.ListN.{length, getD, length-append}
-use Rattle.rules.specs.Choice.{given}
-use Rattle.rules.specs.Families.{firstStart, lineLetter, layoutLetter, layoutOf, countOf}
-use Rattle.rules.specs.Choice.{bytes}
+use Rattle.rules.specs.Choice.{given, bytes}
+use Rattle.rules.specs.Families.{lineLetter, layoutLetter, layoutOf, countOf}
 use Rattle.rules.specs.Refusals.{says}
 use Rattle.rules.specs.Numbers.{numberAt}
 use Rattle.rules.specs.Fields.{timeAt}
-use Rattle.rules.specs.Listed.{codeAt}
-use Rattle.rules.specs.Layouts.{emptyLayout, withEntry, entryAt, entriesFrom, layoutFields}
-use Rattle.rules.specs.Lines.{shaped, layoutLine}
 use Rattle.rules.specs.Roles.{isDeclaring, sameFamily, atStart, afterA, afterH, afterLayout, inBody, afterG, afterLastG, leading, stageAfter}
 use Rattle.rules.specs.Order.{start, fitsDeclaration, moved, judge}
 use Rattle.rules.specs.declared.Entry.{Entry}
-use Rattle.rules.specs.declared.Layout.{Layout}
 use Rattle.rules.specs.declared.Family.{Family}
-use Rattle.rules.specs.declared.Family.the-variants as family
 use Rattle.rules.specs.declared.Head.{Head}
 use Rattle.rules.specs.declared.Role.{Role}
 use Rattle.rules.specs.declared.Role.the-variants as role
 use Rattle.rules.specs.declared.State.{State}
-use Rattle.rules.proofs.Inverse.{none-some, false-true, refuses-says, given-inv, need-inv, then-inv, and-inv, bool-eq}
+use Rattle.rules.proofs.Inverse.{none-some, false-true, and-inv, bool-eq}
 use Rattle.laws.proofs.Passing.{roleIn, leading-inv, Leaves, Judged, judged}
 use Rattle.laws.proofs.Passing as passes
 use Rattle.laws.proofs.Counted.{judged-more}
 use Rattle.trips.proofs.Heads.{head-there}
 use Rattle.demands.specs.Grammar.{IsHeadLine, laid, beginning}
-use Rattle.demands.specs.Coming.{orZero, isAmong, only, without, endsWith, pointsOf, isOpen, lettersBefore, entryOf, entriesIn, entriesTold, lastTime}
+use Rattle.demands.specs.Coming.{orZero, isAmong, only, without, endsWith, pointsOf, isOpen, lettersBefore, entriesIn, entriesTold, lastTime}
 use Rattle.demands.specs.FieldTexts.{Letter}
-use Rattle.demands.proofs.Laws.{shape-there}
 use Rattle.demands.proofs.Carried.{e-inv, f-inv}
 use Rattle.demands.proofs.Valued.{columned-time, head-reads}
 use Rattle.demands.proofs.Valued as valued
-use Rattle.demands.proofs.Entries.{placed-there, withAll, all-laid}
-use Rattle.demands.proofs.Letters.{every, put-by, same-family, is-same, letter, isTelling, isTiming, isSealing, leadsTo, Begins, begins, counts-more}
+use Rattle.demands.proofs.Entries.{there}
+use Rattle.demands.proofs.LayoutLines.{layout-laid}
+use Rattle.demands.proofs.Letters.{every, put-by, same-family, is-same, letter, isTelling, isTiming, isSealing, leadsTo, begins, counts-more}
 use Rattle.demands.proofs.Sections.{layout-stage}
 use Rattle.demands.proofs.Leading.{Sound, sound-start, plain-fits, head-fits, order-inv, judge-leads, stays-sound}
 
 -- ---- what a line tells of itself
 
--- what was read of a field is its value
-pub there : {v : ℕ} (o : Option ℕ) → o ≡ some v → orZero o ≡ v
-there o e = rw e
-
 pub head-points : (h : Head) (l : List ℕ) → IsHeadLine h l → pointsOf l ≡ h .turns + 4
 head-points h l w = ap (λ x. x + 4) (there (numberAt l 23 2) (head-there l h (head-reads h l w) .at-turns))
-
-pub entry-is : (l : List ℕ) (at start : ℕ) (before : Layout) (e : Entry) → entryAt l at start before ≡ says e → entryOf l at ≡ e
-unfolding entryAt
-entry-is l at start before e h =
-    let a = given-inv (numberAt l at 2) _ (says e) _ refuses-says h in
-    let b = given-inv (numberAt l (at + 2) 2) _ (says e) _ refuses-says (a .2) in
-    let c = given-inv (codeAt l (at + 4)) _ (says e) _ refuses-says (b .2) in
-    rw (there (numberAt l at 2) (a .1), there (numberAt l (at + 2) 2) (b .1), there (codeAt l (at + 4)) (c .1))
-    (placed-there start before (record { first = a .0; last = b .0; code = c .0 }) e (at + 1) (c .2) .1)
-
-entries-read : (left : ℕ) (l : List ℕ) (at start : ℕ) (before layout : Layout) → entriesFrom left l at start before ≡ says layout
-    → withAll before (entriesIn left l at) ≡ layout
-unfolding entriesFrom entriesIn
-entries-read zero l at start before layout h = cc
-entries-read (suc left) l at start before layout h =
-    let a = then-inv (entryAt l at start before) layout _ h in
-    ap (λ x. withAll (withEntry before x) (entriesIn left l (at + 7))) (entry-is l at start before (a .0) (a .1))
-    ∙ entries-read left l (at + 7) _ (withEntry before (a .0)) layout (a .2)
-
-count-in : (left : ℕ) (l : List ℕ) (at : ℕ) → length (entriesIn left l at) ≡ left
-unfolding entriesIn
-count-in zero l at = refl
-count-in (suc left) l at = ap suc (count-in left l (at + 7))
-
--- the layout of an I or a J line is that of its entries
-layout-laid : (f : Family) (layout : Layout) (l : List ℕ) → layoutLine (firstStart f) l ≡ says layout → layout ≡ laid (entriesIn (orZero (numberAt l 1 2)) l 3)
-unfolding layoutLine layoutFields
-layout-laid f layout l e =
-    let s = then-inv (shaped 3 99 false l) layout _ e in
-    let h = shape-there 3 99 false l tt (s .1) in
-    let n = given-inv (numberAt l 1 2) _ (says layout) _ refuses-says (s .2) in
-    let m = need-inv (eqb (length l) (3 + 7 * n .0)) _ (says layout) _ refuses-says (n .2) in
-    let long : length l ≡ 3 + 7 * n .0 = eqb-true _ _ (m .0) in
-    let few : n .0 ≤ 13 = omega (arith, h .short) in
-    let es = entriesIn (n .0) l 3 in
-    sym (entries-read (n .0) l 3 (firstStart f) emptyLayout layout (m .1))
-    ∙ all-laid [] es (omega (arith, count-in (n .0) l 3))
-    ∙ ap (λ x. laid (entriesIn x l 3)) (sym (there (numberAt l 1 2) (n .1)))
 
 -- ---- one line more
 
@@ -107,10 +59,6 @@ and-true false = refl
 pub or-true : (t : Bool) → (t || true) ≡ true
 or-true true = refl
 or-true false = refl
-
-or-false : (t : Bool) → (t || false) ≡ t
-or-false true = refl
-or-false false = refl
 
 pub some-points : (n : ℕ) → (n ≡ 0 → ⊥) → 1 ≤ n
 some-points n h = omega arith
@@ -256,106 +204,87 @@ record Moves (r : Role) (s c : ℕ) : Type 0 where
   up : s ≤ c
   least : afterA ≤ c
   most : c ≤ afterLastG
-  second : (afterH ≤ c → afterA ≤ s) × (afterA ≤ s → afterH ≤ c)
+  second : leb afterH c ≡ leb afterA s
   -- among the layout lines it leads where its role does
   early : (f : Family) → leb (leadsTo r) (afterLayout f - 1) ≡ leb c (afterLayout f - 1)
   first : (f : Family) → isTelling f r ≡ true → s ≤ afterLayout f - 1
-  seals : isSealing r ≡ true → c ≡ afterG
-  sealed : isSealing r ≡ false → (s ≤ inBody → c ≤ inBody) × (inBody < s → afterG < c)
+  unsealed : leb c inBody ≡ (leb s inBody && not (isSealing r))
+  sealing : leb c afterG ≡ ((leb s inBody && not (isSealing r)) || isSealing r)
 
 module _ (s c : ℕ) where
-  to-body : (r : Role) → leadsTo r ≡ inBody → ((f : Family) → isTelling f r ≡ false) → isSealing r ≡ false → leading afterH inBody inBody s ≡ some c → Moves r s c
-  to-body r e t n o =
-      let i = leading-inv afterH inBody inBody s c o in
+  -- from the front to the body
+  along : (r : Role) (low high : ℕ) → leading low high (leadsTo r) s ≡ some c → afterA ≤ low → high ≤ leadsTo r → afterH ≤ leadsTo r → leadsTo r ≤ inBody → isSealing r ≡ false
+      → ((f : Family) → isTelling f r ≡ true → high ≤ afterLayout f - 1) → Moves r s c
+  along r low high o p q h g n t =
+      let i = leading-inv low high (leadsTo r) s c o in
       record {
         up = omega arith;
         least = omega arith;
         most = omega arith;
-        second = (λ h. omega arith, λ h. omega arith);
-        early = λ f. rw (e, ← i .2);
-        first = λ f y. absurd (false-true (sym (t f) ∙ y));
-        seals = λ y. absurd (false-true (sym n ∙ y));
-        sealed = λ y. (λ h. omega arith, λ h. absurd (omega arith));
+        second = le-leb afterH c (omega arith) ∙ sym (le-leb afterA s (omega arith));
+        early = λ f. rw (← i .2);
+        first = λ f y. omega (arith, t f y);
+        unsealed = rw (n, le-leb c inBody (omega arith), le-leb s inBody (omega arith));
+        sealing = rw (n, le-leb c afterG (omega arith), le-leb s inBody (omega arith));
       }
 
+  to-body : (r : Role) → leadsTo r ≡ inBody → isSealing r ≡ false → ((f : Family) → isTelling f r ≡ false) → leading afterH inBody inBody s ≡ some c → Moves r s c
+  to-body r e n t o = along r afterH inBody (rw e o) (omega arith) (omega arith) (omega arith) (omega arith) n (λ f y. absurd (false-true (sym (t f) ∙ y)))
+
   remark-moves : (b : Bool) → leb s inBody ≡ b → cond b (leading afterH inBody inBody s) (leading afterG afterLastG afterLastG s) ≡ some c → Moves role.Remark s c
-  remark-moves true q o = to-body role.Remark refl (λ f. refl) refl o
+  remark-moves true q o = to-body role.Remark refl refl (λ f. refl) o
   remark-moves false q o =
       let i = leading-inv afterG afterLastG afterLastG s c o in
       record {
         up = omega arith;
         least = omega arith;
         most = omega arith;
-        second = (λ h. omega arith, λ h. omega arith);
+        second = le-leb afterH c (omega arith) ∙ sym (le-leb afterA s (omega arith));
         early = λ f. rw (← i .2) (every (λ f. leb inBody (afterLayout f - 1) ≡ leb afterLastG (afterLayout f - 1)) refl refl f);
         first = λ f y. absurd (false-true y);
-        seals = λ y. absurd (false-true y);
-        sealed = λ y. (λ h. absurd (omega arith), λ h. omega arith);
+        unsealed = rw (← i .2, q);
+        sealing = rw (← i .2, q);
       }
 
   moves : (r : Role) → stageAfter r s ≡ some c → Moves r s c
   unfolding stageAfter
   moves role.Opens o =
       let i = leading-inv atStart atStart afterA s c o in
+      let z : s ≡ atStart = omega arith in
       record {
         up = omega arith;
         least = omega arith;
         most = omega arith;
-        second = (λ h. absurd (omega arith), λ h. absurd (omega arith));
+        second = rw (← i .2, z);
         early = λ f. rw (← i .2);
         first = λ f y. absurd (false-true y);
-        seals = λ y. absurd (false-true y);
-        sealed = λ y. (λ h. omega arith, λ h. absurd (omega arith));
+        unsealed = rw (← i .2, z);
+        sealing = rw (← i .2, z);
       }
-  moves role.Heads o =
-      let i = leading-inv afterA afterH afterH s c o in
-      record {
-        up = omega arith;
-        least = omega arith;
-        most = omega arith;
-        second = (λ h. omega arith, λ h. omega arith);
-        early = λ f. rw (← i .2);
-        first = λ f y. absurd (false-true y);
-        seals = λ y. absurd (false-true y);
-        sealed = λ y. (λ h. omega arith, λ h. absurd (omega arith));
-      }
+  moves role.Heads o = along role.Heads afterA afterH o (omega arith) (omega arith) (omega arith) (omega arith) refl (λ f y. absurd (false-true y))
   moves (role.Tells f) o =
-      let i = leading-inv afterH (afterLayout f - 1) (afterLayout f) s c o in
       let k = layout-stage f in
-      record {
-        up = omega arith;
-        least = omega arith;
-        most = omega arith;
-        second = (λ h. omega arith, λ h. omega arith);
-        early = λ g. rw (← i .2);
-        first = λ g y. rw (is-same f g y) (i .1);
-        seals = λ y. absurd (false-true y);
-        sealed = λ y. (λ h. omega arith, λ h. absurd (omega arith));
-      }
-  moves (role.Columned f) o = to-body (role.Columned f) refl (λ g. refl) refl o
-  moves role.Declares o = to-body role.Declares refl (λ g. refl) refl o
-  moves role.Event o = to-body role.Event refl (λ g. refl) refl o
-  moves role.Satellites o = to-body role.Satellites refl (λ g. refl) refl o
-  moves role.Differential o = to-body role.Differential refl (λ g. refl) refl o
+      along (role.Tells f) afterH (afterLayout f - 1) o (omega arith) (omega arith) (omega arith) (omega arith) refl (λ g y. rw (is-same f g y) (omega arith))
+  moves (role.Columned f) o = to-body (role.Columned f) refl refl (λ g. refl) o
+  moves role.Declares o = to-body role.Declares refl refl (λ g. refl) o
+  moves role.Event o = to-body role.Event refl refl (λ g. refl) o
+  moves role.Satellites o = to-body role.Satellites refl refl (λ g. refl) o
+  moves role.Differential o = to-body role.Differential refl refl (λ g. refl) o
   moves role.Seals o =
       let i = leading-inv afterH afterG afterG s c o in
       record {
         up = omega arith;
         least = omega arith;
         most = omega arith;
-        second = (λ h. omega arith, λ h. omega arith);
+        second = le-leb afterH c (omega arith) ∙ sym (le-leb afterA s (omega arith));
         early = λ f. rw (← i .2);
         first = λ f y. absurd (false-true y);
-        seals = λ y. omega arith;
-        sealed = λ y. absurd (false-true (sym y));
+        unsealed = rw (← i .2) (sym (and-false (leb s inBody)));
+        sealing = rw (← i .2) (sym (or-true (leb s inBody && false)));
       }
   moves role.Remark o = remark-moves (leb s inBody) refl o
-  moves role.Other o = to-body role.Other refl (λ g. refl) refl o
+  moves role.Other o = to-body role.Other refl refl (λ g. refl) o
   moves role.NoRole o = absurd (none-some o)
-
--- tests of numbers that are one
-leb-same : (a b c d : ℕ) → (a ≤ b → c ≤ d) → (c ≤ d → a ≤ b) → leb a b ≡ leb c d
-leb-same a b c d f g = bool-eq _ _ (λ e. le-leb c d (f (leb-true a b e))) (λ e. le-leb a b (g (leb-true c d e)))
 
 module _ (s c : ℕ) (ls : List (List ℕ)) (l : List ℕ) (w : Staged s ls) (v : Moves (roleIn l) s c) where
   -- below n after it exactly where below before it, and the line leads below
@@ -366,34 +295,21 @@ module _ (s c : ℕ) (ls : List (List ℕ)) (l : List ℕ) (w : Staged s ls) (v 
       go true e = let i = leb-true c n e in let j = v .up in rw (le-leb s n (omega arith))
       go false e = sym (and-false (leb s n))
 
-  sealed-next : (b : Bool) → isSealing (roleIn l) ≡ b → (leb c inBody ≡ (leb s inBody && not b)) × (leb c afterG ≡ ((leb s inBody && not b) || b))
-  sealed-next true e = let i = v .seals e in (rw i (sym (and-false (leb s inBody))), rw i (sym (or-true (leb s inBody && false))))
-  sealed-next false e =
-      let i = v .sealed e in
-      let j = v .up in
-      let same : (n : ℕ) → inBody ≤ n → n ≤ afterG → leb c n ≡ leb s inBody = λ n p q. leb-same c n s inBody (below n q) (λ h. omega (arith, i .0 h)) in
-      (same inBody (omega arith) (omega arith) ∙ sym (and-true (leb s inBody)), same afterG (omega arith) (omega arith) ∙ sym (ap (λ t. t || false) (and-true (leb s inBody)) ∙ or-false (leb s inBody)))
-    where
-      below : (n : ℕ) → n ≤ afterG → c ≤ n → s ≤ inBody
-      below n q h = go (leb s inBody) refl
-        where
-          go : (b : Bool) → leb s inBody ≡ b → s ≤ inBody
-          go true t = leb-true s inBody t
-          go false t = let k = v .sealed e .1 (leb-false s inBody t) in absurd (omega arith)
-
   staged-next : Staged c (ls ++ (l ∷ []))
   staged-next =
       let b = begins l in
-      let g = sealed-next (isSealing (roleIn l)) refl in
       let n = length-next l ls in
       record {
-        some-line = rw n (leb-same afterA c 1 (length ls + 1) (λ h. omega arith) (λ h. v .least));
-        two-lines = rw n (leb-same afterH c afterA s (v .second .0) (v .second .1) ∙ w .some-line ∙ leb-same 1 (length ls) 2 (length ls + 1) (λ h. omega arith) (λ h. omega arith));
+        some-line = rw n (le-leb afterA c (v .least) ∙ sym (le-leb 1 (length ls + 1) (omega arith)));
+        two-lines = rw n (v .second ∙ w .some-line ∙ second-line (length ls));
         untold = λ f. still (afterLayout f - 1) ∙ rw (only-next l, ← w .untold f, b .2 f .2, v .early f);
-        unsealed = rw (without-next l, ← w .unsealed, b .1 .1) (g .0);
-        sealing = rw (without-next l, ends-next l, ← w .unsealed, b .1 .1) (g .1);
+        unsealed = rw (without-next l, ← w .unsealed, b .1 .1) (v .unsealed);
+        sealing = rw (without-next l, ends-next l, ← w .unsealed, b .1 .1) (v .sealing);
         most = v .most;
       }
+    where
+      second-line : (n : ℕ) → leb 1 n ≡ leb 2 (n + 1)
+      second-line n = bool-eq _ _ (λ e. let i = leb-true 1 n e in le-leb 2 (n + 1) (omega arith)) (λ e. let i = leb-true 2 (n + 1) e in le-leb 1 n (omega arith))
 
 -- ---- what the lines before tell of the state
 
