@@ -5,7 +5,7 @@ use mathlib.Core.Bool.{Bool, true, false, cond}
 use mathlib.Core.List.{List, [], _∷_, _++_, append-nil}
 use mathlib.Core.Path.{_≡_, refl, sym, _∙_, ap, subst}
 use native.Mathlib.Omega.{arith}
-use borrow.Author.Tests.{leb-true, leb-false, eqb-false, eq-eqb, ne-eqb, eqb-true}
+use borrow.Author.Tests.{leb-true, leb-false, eqb-false, ne-eqb}
 use lib.Dec.{eqb, leb}
 use lib.ListN.{length, getD}
 use Rattle.rules.specs.Choice.{Each}
@@ -19,12 +19,11 @@ use Rattle.rules.specs.declared.Layouts.{Layouts}
 use Rattle.rules.specs.declared.Counts.{Counts}
 use Rattle.rules.specs.declared.Family.{Family}
 use Rattle.rules.specs.declared.Family.the-variants as family
-use Rattle.rules.specs.declared.Head.{Head}
 use Rattle.rules.specs.declared.Seal.{Seal}
 use Rattle.rules.specs.declared.Seal.the-variants as needs
 use Rattle.rules.specs.declared.State.{State}
 use Rattle.rules.proofs.Inverse.{false-true}
-use Rattle.demands.specs.Grammar.{Follows, OrderFrom, IsHLine, IsHeadLine, IsPointLine, IsLLine, IsGLine, AtMostOne, absent, given, Timed, columned, event, satellites, Untimed, differential, remark, other, Items, Body, undeclared, declared, SealedBy}
+use Rattle.demands.specs.Grammar.{Follows, OrderFrom, IsHLine, IsPointLine, IsLLine, IsGLine, AtMostOne, absent, given, Timed, columned, event, satellites, Untimed, differential, remark, other, Items, Body, undeclared, declared, SealedBy}
 use Rattle.demands.specs.Grammar as grammar
 use Rattle.demands.proofs.Carried.{e-said, f-said}
 use Rattle.demands.proofs.Valued.{columned-letter}
@@ -254,53 +253,17 @@ module _ (layouts : Layouts) where
   items-there (also {st = st} {l = l} {ls = ls} (body-line a b (quiet z w)) r) e p c =
       untimed-told (st .clock) l ls (λ ts. grammar.untimed w) (items-there r e p c)
 
-  -- as many points as are to come, and then the rest
-  record PointsThere (p : ℕ) (st : State) (ls : List (List ℕ)) (m : State) : Type 0 where
-    points : List (List ℕ)
-    rest : List (List ℕ)
-    state : State
-    lines : ls ≡ points ++ rest
-    each : Each IsPointLine points
-    count : length points ≡ p
-    section : Section body state rest m
-    laid : Laid st → Laid state
-    none-left : state .points ≡ 0
-    begun : state .declared ≡ st .declared
-    clock : state .clock ≡ st .clock
-
-  points-there : (p : ℕ) {st m : State} {ls : List (List ℕ)} → Section body st ls m → st .points ≡ p → m .points ≡ 0 → PointsThere p st ls m
-  points-there zero {st} {m} {ls} s e n = record {
-    points = [];
-    rest = ls;
-    state = st;
-    lines = refl;
-    each = tt;
-    count = refl;
-    section = s;
-    laid = λ x. x;
-    none-left = e;
-    begun = refl;
-    clock = refl;
-  }
-  points-there (suc p) empty e n = absurd (omega arith)
-  points-there (suc p) (also (body-line a b (head h z d i w)) r) e n = absurd (omega arith)
-  points-there (suc p) (also {l = l} (body-line a b (point h w)) r) e n =
-      let x = points-there p r (omega arith) n in
-      record {
-        points = l ∷ x .points;
-        rest = x .rest;
-        state = x .state;
-        lines = ap (λ y. l ∷ y) (x .lines);
-        each = (w, x .each);
-        count = ap suc (x .count);
-        section = x .section;
-        laid = x .laid;
-        none-left = x .none-left;
-        begun = x .begun;
-        clock = x .clock;
-      }
-  points-there (suc p) (also (body-line a b (timed t w z o)) r) e n = absurd (omega arith)
-  points-there (suc p) (also (body-line a b (quiet z w)) r) e n = absurd (omega arith)
+  -- as many points as are to come, and then items
+  points-there : (p : ℕ) {st m : State} {ls : List (List ℕ)} → Section body st ls m → Laid st → st .declared ≡ true → st .points ≡ p → m .points ≡ 0
+      → (points rest : List (List ℕ)) × (ls ≡ points ++ rest) × Each IsPointLine points × (length points ≡ p) × Told (Items layouts) (st .clock) rest
+  points-there zero {st} {m} {ls} s e d z n = ([], ls, refl, tt, refl, items-there s e z (λ q i. false-true (sym q ∙ d)))
+  points-there (suc p) empty e d z n = absurd (omega arith)
+  points-there (suc p) (also (body-line a b (head h i j k w)) r) e d z n = absurd (omega arith)
+  points-there (suc p) (also {l = l} (body-line a b (point h w)) r) e d z n =
+      let x = points-there p r e d (omega arith) n in
+      (l ∷ x .0, x .1, ap (λ y. l ∷ y) (x .2), (w, x .3), ap suc (x .4), x .5)
+  points-there (suc p) (also (body-line a b (timed t w i o)) r) e d z n = absurd (omega arith)
+  points-there (suc p) (also (body-line a b (quiet i w)) r) e d z n = absurd (omega arith)
 
   -- a line that is no B line, before a body
   body-timed : {t : ℕ} {l : List ℕ} {ls : List (List ℕ)} → Timed layouts t l → (getD l 0 0 ≡ code "B" → ⊥) → (ts : List ℕ) → Body layouts ls ts
@@ -316,22 +279,16 @@ module _ (layouts : Layouts) where
   items-body : {c : ℕ} {ls : List (List ℕ)} → Told (Items layouts) c ls → Told (Body layouts) c ls
   items-body r = record { times = r .times; lines = undeclared (r .lines); order = r .order }
 
-  -- the declaration, from its head on
-  declaration : (h : Head) (l : List ℕ) (s : State) {m : State} {ls : List (List ℕ)} → IsHeadLine h l → PointsThere (h .turns + 4) s ls m → Laid s
-      → s .declared ≡ true → Told (Body layouts) (s .clock) (l ∷ ls)
-  declaration h l s w x e d =
-      let i = items-there (x .section) (x .laid e) (x .none-left) (λ q n. false-true (sym q ∙ x .begun ∙ d)) in
-      record {
-        times = i .times;
-        lines = rw (x .lines) (declared {ts = []} [] l (x .points) (x .rest) h grammar.done tt w (x .each) (x .count) (i .lines));
-        order = subst (λ c. OrderFrom c (i .times)) (x .clock) (i .order);
-      }
-
   pub body-there : {st m : State} {ls : List (List ℕ)} → Section body st ls m → Laid st → st .points ≡ 0 → st .declared ≡ false → countOf family.B (st .flight .counts) ≡ 0
       → m .points ≡ 0 → Told (Body layouts) (st .clock) ls
   body-there empty e p d n z = record { times = []; lines = undeclared grammar.done; order = tt }
-  body-there (also {st = st} {l = l} (body-line a b (head h x y i w)) r) e p d n z =
-      declaration h l (begun h (moved inBody st)) w (points-there (h .turns + 4) r refl z) e refl
+  body-there (also {l = l} (body-line a b (head h x y i w)) r) e p d n z =
+      let k = points-there (h .turns + 4) r e refl refl z in
+      record {
+        times = k .5 .times;
+        lines = subst (λ x. Body layouts (l ∷ x) (k .5 .times)) (sym (k .2)) (declared {ts = []} [] l (k .0) (k .1) h grammar.done tt w (k .3) (k .4) (k .5 .lines));
+        order = k .5 .order;
+      }
   body-there (also (body-line a b (point h w)) r) e p d n z = absurd (omega arith)
   body-there (also {st = st} {l = l} {ls = ls} (body-line a b (timed t w x o)) r) e p d n z = go (eqb (getD l 0 0) (code "B")) refl (λ i. body-there r e p d i z)
     where
@@ -350,46 +307,20 @@ module _ (layouts : Layouts) where
 
   -- ---- and back
 
-  -- items, in time, pass; what comes behind them, in time too, follows their last time
-  record ItemsHere (us : List ℕ) (ls : List (List ℕ)) (st : State) : Type 0 where
-    state : State
-    section : Section body st ls state
-    order : OrderFrom (state .clock) us
-    points : state .points ≡ 0
-    begun : state .declared ≡ st .declared
-    bs : Each (λ l. getD l 0 0 ≡ code "B" → ⊥) ls → countOf family.B (state .flight .counts) ≡ countOf family.B (st .flight .counts)
-
+  -- items, in time, pass; what comes behind them, in time too, follows their last time, and with no B line among them there are no more
   items-here : {ls : List (List ℕ)} {ts : List ℕ} (us : List ℕ) (st : State) (c : ℕ) → Items layouts ls ts → st .clock ≡ c → Laid st → afterH ≤ st .stage → st .stage ≤ inBody
-      → st .points ≡ 0 → OrderFrom c (ts ++ us) → ItemsHere us ls st
-  items-here us st c grammar.done i e a b p o = record {
-    state = st;
-    section = empty;
-    order = subst (λ x. OrderFrom x us) (sym i) o;
-    points = p;
-    begun = refl;
-    bs = λ n. refl;
-  }
-  items-here us st c (grammar.timed {l = l} {ls = ls} {t = t} w r) i e a b p o =
+      → st .points ≡ 0 → OrderFrom c (ts ++ us)
+      → (m : State) × Section body st ls m × OrderFrom (m .clock) us × (m .points ≡ 0) × (m .declared ≡ st .declared)
+      × (Each (λ l. getD l 0 0 ≡ code "B" → ⊥) ls → countOf family.B (m .flight .counts) ≡ countOf family.B (st .flight .counts))
+  items-here us st c grammar.done i e a b p o = (st, empty, subst (λ x. OrderFrom x us) (sym i) o, p, refl, λ n. refl)
+  items-here us st c (grammar.timed {l = l} {t = t} w r) i e a b p o =
       let v : Timed (st .flight .layouts) t l = rw e w in
       let x = items-here us (noted v (moved inBody st)) t r refl e (omega arith) (omega arith) p (o .1) in
-      record {
-        state = x .state;
-        section = also {st = st} (body-line a b (timed t v p (rw i (o .0)))) (x .section);
-        order = x .order;
-        points = x .points;
-        begun = x .begun;
-        bs = λ n. let q = counted-by l v (st .flight .counts) in x .bs (n .1) ∙ omega (arith, rw (ne-eqb _ _ (n .0)) at q);
-      }
-  items-here us st c (grammar.untimed {l = l} w r) i e a b p o =
+      let q = counted-by l v (st .flight .counts) in
+      (x .0, also {st = st} (body-line a b (timed t v p (rw i (o .0)))) (x .1), x .2, x .3, x .4, λ n. x .5 (n .1) ∙ omega (arith, rw (ne-eqb _ _ (n .0)) at q))
+  items-here us st c (grammar.untimed w r) i e a b p o =
       let x = items-here us (moved inBody st) c r i e (omega arith) (omega arith) p o in
-      record {
-        state = x .state;
-        section = also (body-line a b (quiet p w)) (x .section);
-        order = x .order;
-        points = x .points;
-        begun = x .begun;
-        bs = λ n. x .bs (n .1);
-      }
+      (x .0, also (body-line a b (quiet p w)) (x .1), x .2, x .3, x .4, λ n. x .5 (n .1))
 
   -- the points of a declaration pass
   points-here : (ps : List (List ℕ)) (st : State) → Each IsPointLine ps → st .points ≡ length ps → afterH ≤ st .stage → st .stage ≤ inBody
@@ -407,19 +338,14 @@ module _ (layouts : Layouts) where
       → OrderFrom (st .clock) ts → (m : State) × Section body st ls m × (m .points ≡ 0)
   body-here st (undeclared i) e f a b o =
       let r = items-here [] st (st .clock) i refl e a b (f .0) (rw append-nil o) in
-      (r .state, r .section, r .points)
-  body-here st (declared {ts = ts} {us = us} before hd points after h i no-b w ps c j) e f a b o =
+      (r .0, r .1, r .3)
+  body-here st (declared {us = us} before hd points after h i no-b w ps c j) e f a b o =
       let r = items-here us st (st .clock) i refl e a b (f .0) o in
-      let x = body-stage (r .section) a b in
-      let y = body-same (r .section) in
-      let k = points-here points (begun h (moved inBody (r .state))) ps (sym c) (omega arith) (omega arith) in
+      let x = body-stage (r .1) a b in
+      let k = points-here points (begun h (moved inBody (r .0))) ps (sym c) (omega arith) (omega arith) in
       let z = body-stage (k .1) (omega arith) (omega arith) in
-      let s = body-same (k .1) in
-      let q = items-here [] (k .0) (r .state .clock) j (k .3) (s .1 ∙ y .1 ∙ e) (z .0) (z .1) (k .2) (rw append-nil (r .order)) in (
-        q .state,
-        section-join (r .section) (also (body-line (x .0) (x .1) (head h (r .points) (r .begun ∙ f .1) (r .bs no-b ∙ f .2) w)) (section-join (k .1) (q .section))),
-        q .points,
-      )
+      let q = items-here [] (k .0) (r .0 .clock) j (k .3) (body-same (k .1) .1 ∙ body-same (r .1) .1 ∙ e) (z .0) (z .1) (k .2) (rw append-nil (r .2)) in
+      (q .0, section-join (r .1) (also (body-line (x .0) (x .1) (head h (r .3) (r .4 ∙ f .1) (r .5 no-b ∙ f .2) w)) (section-join (k .1) (q .1))), q .3)
 
 -- ---- G lines, and L lines behind them
 
