@@ -17,8 +17,8 @@ use Rattle.rules.specs.Choice.{given, need, on, firstOf, part, Each}
 use Rattle.rules.specs.Refusals.{says, refuses, number}
 use Rattle.rules.specs.Numbers.{numberAt, digitsOf, wholeOf}
 use Rattle.rules.specs.Listed.{packedOf, codeText}
-use Rattle.rules.specs.Layouts.{emptyLayout, withEntry, entriesOf, Span, spanOf, look, allowed, lineLength, columnText}
-use Rattle.rules.specs.Reads.{lineSaid, columnSaid, columnRest, numberSaid}
+use Rattle.rules.specs.Layouts.{emptyLayout, withEntry, entriesOf, Span, spanOf, lookIn, look, allowed, lineLength, columnText}
+use Rattle.rules.specs.Reads.{entriesSaid, columnSaid, columnRest, numberSaid}
 use Rattle.rules.specs.declared.Signed.{Signed}
 use Rattle.rules.specs.declared.Entry.{Entry}
 use Rattle.rules.specs.declared.Layout.{Layout}
@@ -148,13 +148,13 @@ name-back (a ∷ b ∷ []) w = absurd (omega (arith, w .three))
 name-back (a ∷ b ∷ c ∷ []) w = unpacked a b c (w .bytes .1 .0) (w .bytes .1 .1 .0)
 name-back (a ∷ b ∷ c ∷ d ∷ l) w = absurd (omega (arith, w .three))
 
-module _ (layout : Layout) (l : List ℕ) (said : lineSaid l layout ≡ says tt) where
+module _ (layout : Layout) (l : List ℕ) (said : entriesSaid l layout ≡ says (entriesOf layout)) where
   column-said : (name : List ℕ) (s : Span) → look layout (packedOf name) ≡ some s → columnSaid l layout name ≡ says s
-  unfolding columnSaid
+  unfolding columnSaid look
   column-said name s e = rw (said, e)
 
   column-absent : (name : List ℕ) → look layout (packedOf name) ≡ none → columnSaid l layout name ≡ refuses 19 0 0
-  unfolding columnSaid number
+  unfolding columnSaid look number
   column-absent name e = rw (said, e)
 
   column-read : (e : Entry) → look layout (e .code) ≡ some (spanOf e) → length (columnText l (spanOf e)) ≡ widthOf e → ReadsColumn layout l e
@@ -175,7 +175,7 @@ module _ (layout : Layout) (l : List ℕ) (said : lineSaid l layout ≡ says tt)
       (each-map (entriesOf layout) (λ e n. ne-eqb (e .code) (packedOf name) (λ i. n (ap codeText i ∙ name-back name w))) h))
 
 pub columns-read : (f : Family) (layout : Layout) (l : List ℕ) → 1 ≤ firstStart f → allowed (firstStart f) layout ≡ true → length (layout .entries) ≡ 13
-    → length l ≡ lineLength (firstStart f) layout → lineSaid l layout ≡ says tt → ReadsColumns f layout l
+    → length l ≡ lineLength (firstStart f) layout → entriesSaid l layout ≡ says (entriesOf layout) → ReadsColumns f layout l
 unfolding look number
 columns-read f layout l low good slots long said =
     let a = allowed-there (firstStart f) layout good slots in

@@ -23,6 +23,7 @@ use Rattle.trips.proofs.Laws.{past, byte-here}
 use Rattle.trips.proofs.Texts.{digit-range}
 use Rattle.trips.proofs.Digits.{digits-length, number-there, number-here}
 use Rattle.demands.specs.Grammar.{widthOf, IsEntry, Tiles, laid}
+use Rattle.demands.specs.Coming.{orZero, entryOf, entriesIn}
 use Rattle.demands.proofs.Rows.{width-exactly}
 use Rattle.demands.proofs.Laws.{said-some, each-map, each-join, each-cut, each-both, nothing-found, none-found}
 
@@ -105,7 +106,7 @@ pub record Fits (start : ℕ) (before : Layout) (e : Entry) : Type 0 where
   pub once : carries before (e .code) ≡ false
   pub wide : widthFits (e .code) (e .last - e .first + 1) ≡ true
 
-pub placed-there : (start : ℕ) (before : Layout) (e x : Entry) (n : ℕ) → placed start before e n ≡ says x → Fits start before e × (e ≡ x)
+placed-there : (start : ℕ) (before : Layout) (e x : Entry) (n : ℕ) → placed start before e n ≡ says x → Fits start before e × (e ≡ x)
 unfolding placed
 placed-there start before e x n h =
     let a = need-inv (eqb (e .first) start) _ (says x) _ refuses-says h in
@@ -118,15 +119,19 @@ placed-said : (start : ℕ) (before : Layout) (e : Entry) (n : ℕ) → Fits sta
 unfolding placed
 placed-said start before e n w = simp (eq-eqb _ _ (w .starts), le-leb _ _ (w .ends), w .once, w .wide)
 
-pub fits-there : (start : ℕ) (before : Layout) (e : Entry) → isSaid (placed start before e 0) ≡ true → Fits start before e
+fits-there : (start : ℕ) (before : Layout) (e : Entry) → isSaid (placed start before e 0) ≡ true → Fits start before e
 fits-there start before e h = let s = said-some (placed start before e 0) h in placed-there start before e (s .0) 0 (s .1) .0
 
 pub entry-length : (e : Entry) → length (entryText e) ≡ 7
 unfolding entryText
 entry-length e = simp (length-append, digits-length)
 
-entry-there : (l : List ℕ) (at to start : ℕ) (before : Layout) (e : Entry) → at + 7 ≡ to → entryAt l at start before ≡ says e
-    → (drop at l ≡ entryText e ++ drop to l) × (isSpelt e ≡ true) × Fits start before e
+-- what was read of a field is its value
+pub there : {v : ℕ} (o : Option ℕ) → o ≡ some v → orZero o ≡ v
+there o e = rw e
+
+pub entry-there : (l : List ℕ) (at to start : ℕ) (before : Layout) (e : Entry) → at + 7 ≡ to → entryAt l at start before ≡ says e
+    → (drop at l ≡ entryText e ++ drop to l) × (isSpelt e ≡ true) × Fits start before e × (entryOf l at ≡ e)
 unfolding entryAt entryText isSpelt
 entry-there l at to start before e t h =
     let a = given-inv (numberAt l at 2) _ (says e) _ refuses-says h in
@@ -140,7 +145,8 @@ entry-there l at to start before e t h =
     let g : drop at l ≡ entryText x ++ drop to l =
     u .0 ∙ ap (λ y. digitsOf 2 (a .0) ++ y) (v .0 ∙ ap (λ y. digitsOf 2 (b .0) ++ y) (w .0)) ∙ simp append-assoc in
     let s : isSpelt x ≡ true = simp (le-leb (b .0) 99 (omega (arith, v .1)), w .1) in
-    rw (← p .1) (g, s, p .0)
+    let i : entryOf l at ≡ x = rw (there (numberAt l at 2) (a .1), there (numberAt l (at + 2) 2) (b .1), there (codeAt l (at + 4)) (c .1)) in
+    rw (← p .1) (g, s, p .0, i)
 
 entry-here : (l : List ℕ) (at start : ℕ) (before : Layout) (e : Entry) (r : List ℕ) → isSpelt e ≡ true → Fits start before e → drop at l ≡ entryText e ++ r
     → entryAt l at start before ≡ says e
@@ -163,7 +169,7 @@ abbrev pub Tiled : List Entry → ℕ → Layout → Type 0
 Tiled [] start before = Unit {0}
 Tiled (e ∷ es) start before = (isSpelt e ≡ true) × Fits start before e × Tiled es (e .last + 1) (withEntry before e)
 
-pub tiled-there : (es : List Entry) (start : ℕ) (before : Layout) → allPlaced es start before ≡ true → Tiled es start before
+tiled-there : (es : List Entry) (start : ℕ) (before : Layout) → allPlaced es start before ≡ true → Tiled es start before
 unfolding allPlaced
 tiled-there [] start before h = tt
 tiled-there (e ∷ es) start before h =
@@ -171,7 +177,7 @@ tiled-there (e ∷ es) start before h =
     let b = and-inv (isSpelt e) (isSaid (placed start before e 0)) (a .0) in
     (b .0, fits-there start before e (b .1), tiled-there es (e .last + 1) (withEntry before e) (a .1))
 
-pub tiled-said : (es : List Entry) (start : ℕ) (before : Layout) → Tiled es start before → allPlaced es start before ≡ true
+tiled-said : (es : List Entry) (start : ℕ) (before : Layout) → Tiled es start before → allPlaced es start before ≡ true
 unfolding allPlaced
 tiled-said [] start before h = refl
 tiled-said (e ∷ es) start before h = rw (h .0, placed-said start before e 0 (h .1), tiled-said es (e .last + 1) (withEntry before e) (h .2))
@@ -181,31 +187,23 @@ abbrev pub withAll : Layout → List Entry → Layout
 withAll before [] = before
 withAll before (e ∷ es) = withAll (withEntry before e) es
 
-pub record EntriesThere (left : ℕ) (l : List ℕ) (at to start : ℕ) (before layout : Layout) : Type 0 where
-  pub entries : List Entry
-  pub count : length entries ≡ left
-  pub is : withAll before entries ≡ layout
-  pub tiled : Tiled entries start before
-  pub text : drop at l ≡ entryTexts entries ++ drop to l
+pub count-in : (left : ℕ) (l : List ℕ) (at : ℕ) → length (entriesIn left l at) ≡ left
+unfolding entriesIn
+count-in zero l at = refl
+count-in (suc left) l at = ap suc (count-in left l (at + 7))
 
+-- the entries that the line has there
 pub entries-there : (left : ℕ) (l : List ℕ) (at to start : ℕ) (before layout : Layout) → at + 7 * left ≡ to → entriesFrom left l at start before ≡ says layout
-    → EntriesThere left l at to start before layout
-unfolding entriesFrom entryTexts
-entries-there zero l at to start before layout t h =
-    let i : at ≡ to = omega arith in
-    record { entries = []; count = refl; is = cc; tiled = tt; text = ap (λ n. drop n l) i }
+    → (withAll before (entriesIn left l at) ≡ layout) × Tiled (entriesIn left l at) start before × (drop at l ≡ entryTexts (entriesIn left l at) ++ drop to l)
+unfolding entriesFrom entryTexts entriesIn
+entries-there zero l at to start before layout t h = let i : at ≡ to = omega arith in (cc, tt, ap (λ n. drop n l) i)
 entries-there (suc left) l at to start before layout t h =
     let a = then-inv (entryAt l at start before) layout _ h in
-    let e = a .0 in
-    let w = entry-there l at (at + 7) start before e refl (a .1) in
-    let r = entries-there left l (at + 7) to (e .last + 1) (withEntry before e) layout (omega arith) (a .2) in
-    record {
-      entries = e ∷ r .entries;
-      count = ap suc (r .count);
-      is = r .is;
-      tiled = (w .1, w .2, r .tiled);
-      text = w .0 ∙ ap (λ x. entryText e ++ x) (r .text) ∙ sym (append-assoc (entryText e) (entryTexts (r .entries)) (drop to l));
-    }
+    let w = entry-there l at (at + 7) start before (a .0) refl (a .1) in
+    let r = entries-there left l (at + 7) to (a .0 .last + 1) (withEntry before (a .0)) layout (omega arith) (a .2) in
+    let es = entriesIn left l (at + 7) in
+    subst (λ x. (withAll before (x ∷ es) ≡ layout) × Tiled (x ∷ es) start before × (drop at l ≡ entryTexts (x ∷ es) ++ drop to l)) (sym (w .3))
+    (r .0, (w .1, w .2, r .1), w .0 ∙ ap (λ x. entryText (a .0) ++ x) (r .2) ∙ sym (append-assoc (entryText (a .0)) (entryTexts es) (drop to l)))
 
 pub entries-here : (es : List Entry) (l : List ℕ) (at start : ℕ) (before : Layout) (r : List ℕ) → Tiled es start before → drop at l ≡ entryTexts es ++ r
     → entriesFrom (length es) l at start before ≡ says (withAll before es)

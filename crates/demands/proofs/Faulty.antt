@@ -8,35 +8,39 @@ use mathlib.Core.Logic.{_⊎_, inl, inr}
 use mathlib.Core.Option.{Option, none, some}
 use mathlib.Core.Path.{_≡_, refl, sym, _∙_, ap, subst}
 use native.Mathlib.Omega.{arith}
-use borrow.Author.Tests.{le-leb, lt-leb, eqb-true, eqb-false, eq-eqb, ne-eqb}
+use borrow.Author.Tests.{le-leb, eqb-true, eqb-false, eq-eqb, ne-eqb}
 use lib.Dec.{eqb, leb, ltb}
-use lib.ListN.{length, getD, drop, replicate, length-append}
-use Rattle.rules.specs.Families.{firstStart}
+use lib.ListN.{length, getD, drop, length-append}
+use Rattle.rules.specs.Families.{firstStart, layoutOf}
 use Rattle.rules.specs.Choice.{given, need, on, firstOf}
 use Rattle.rules.specs.Refusals.{number, Said, says, refuses, andThen}
 use Rattle.rules.specs.Chars.{isValid, isCode, codesAt, firstInvalid, characters}
 use Rattle.rules.specs.Numbers.{numberAt}
 use Rattle.rules.specs.Fields.{timeAt, dateAt, latitudeAt, longitudeAt, altitudeAt, isEither}
 use Rattle.rules.specs.Listed.{codeAt, widthFits, keepsRule}
-use Rattle.rules.specs.Layouts.{unused, withEntry, lineLength, spanOf, look, carries, placed, entryAt, entriesFrom, layoutFields, columnText, badColumn, columns}
-use Rattle.rules.specs.Lines.{kindOf, isSized, shaped, aLine, isDateMark, dateLine, hLine, layoutLine, plannedAt, headFields, headLine, pointLine, dLine, eLine, badPair, fLine, fixFields, shapedBy, bLine, kLine, lLine, gLine, otherLine}
-use Rattle.rules.specs.Order.{isKind, orderOf, moved, dated, withFixes, withExtras, counted, begun, pointed, onward, nextDay, back, isBack, passing, timed, ruled, judge}
+use Rattle.rules.specs.Layouts.{withEntry, lineLength, spanOf, look, carries, placed, entryAt, entriesFrom, layoutFields, columnText, badColumn, columns}
+use Rattle.rules.specs.Lines.{isSized, shaped, aLine, isDateMark, dateLine, hLine, layoutLine, plannedAt, headFields, headLine, pointLine, dLine, eLine, badPair, fLine, fixFields, shapedBy, bLine, kLine, columnedLine, lLine, gLine, otherLine}
+use Rattle.rules.specs.Roles.{isRole}
+use Rattle.rules.specs.Order.{orderOf, moved, dated, laidOut, counted, begun, pointed, onward, nextDay, back, isBack, passing, timed, declarationLine, headerLine, ruled, judge}
 use Rattle.rules.specs.declared.Entry.{Entry}
 use Rattle.rules.specs.declared.Family.{Family}
 use Rattle.rules.specs.declared.Family.the-variants as family
-use Rattle.rules.specs.declared.Kind.{Kind}
-use Rattle.rules.specs.declared.Kind.the-variants as kind
+use Rattle.rules.specs.declared.Fix.{Fix}
+use Rattle.rules.specs.declared.Role.{Role}
+use Rattle.rules.specs.declared.Role.the-variants as role
 use Rattle.rules.specs.declared.State.{State}
 use Rattle.rules.proofs.Inverse.{false-true}
+use Rattle.laws.proofs.Passing.{roleIn}
 use Rattle.demands.specs.Grammar.{laid}
-use Rattle.demands.specs.Coming.{orZero, isOpen, entryOf, entriesTold, endsAt, lastTime, isInTime}
-use Rattle.demands.specs.Checks.{Check, check, AllPass, FailsFirst, isThere, oneEach, shapeChecks, columnChecks, timeCheck, pairChecks, hasCode, entryChecks, layoutChecks, dateChecks, headerChecks, headChecks, pointChecks, sizeChecks, fixChecks, kindChecks, checksOf}
-use Rattle.demands.specs.FieldTexts.{Letter}
+use Rattle.demands.specs.Coming.{orZero, isOpen, entryOf, entriesTold, endsAt, sizeOf, lastTime, isInTime}
+use Rattle.demands.specs.Checks.{Check, check, AllPass, FailsFirst, isThere, oneEach, shapeChecks, columnChecks, timeCheck, pairChecks, hasCode, entryChecks, layoutChecks, dateChecks, headerChecks, headChecks, pointChecks, sizeChecks, fixChecks, fieldChecks, roleChecks, checksOf}
 use Rattle.demands.proofs.Laws.{each-join, shape-there}
 use Rattle.demands.proofs.Carried.{e-inv, f-inv}
-use Rattle.demands.proofs.Entries.{entries-laid, with-laid}
-use Rattle.demands.proofs.Leading.{letter}
-use Rattle.demands.proofs.Standing.{there, b-time, k-time, entry-is, open-left, Stands}
+use Rattle.demands.proofs.Valued.{columned-time}
+use Rattle.demands.proofs.Entries.{there, entry-there, entries-laid, with-laid}
+use Rattle.demands.proofs.Letters.{begins}
+use Rattle.demands.proofs.Tails.{end-of, line-end}
+use Rattle.demands.proofs.Standing.{open-left, Stands}
 use Rattle.demands.proofs.Ordered.{order-told}
 
 -- ---- the first that fails
@@ -137,20 +141,20 @@ on-time ls l t st c e =
     ap (λ x. not (isBack (passing x t))) c ∙ in-time (lastTime ls) t ∙ ap (isInTime (lastTime ls)) (sym (there (timeAt l 1) e)) in
     subst (λ x. Agrees (timed t st) (check 14 2 x ∷ [])) i (timed-agrees t st)
 
--- ---- kind by kind
+-- ---- role by role
 
-a-agrees : (ls : List (List ℕ)) (l : List ℕ) (st : State) → Agrees (ruled kind.A l st) (kindChecks kind.A ls l)
+a-agrees : (ls : List (List ℕ)) (l : List ℕ) (st : State) → Agrees (ruled role.Opens l st) (roleChecks role.Opens ls l)
 unfolding ruled aLine number
 a-agrees ls l st =
-    agree-last (aLine l) (λ u. st) (kindChecks kind.A ls l)
+    agree-last (aLine l) (λ u. st) (roleChecks role.Opens ls l)
     (agree-then (shaped 7 255 false l) _ (shapeChecks 7 255 false l) _ (shape-agrees 7 255 false l) λ u e.
     agree-need 9 2 (codesAt l 1 3) _ _ λ e.
     agree-need 9 5 (codesAt l 4 3) _ [] λ e. tt)
 
-d-agrees : (ls : List (List ℕ)) (l : List ℕ) (st : State) → Agrees (ruled kind.D l st) (kindChecks kind.D ls l)
+d-agrees : (ls : List (List ℕ)) (l : List ℕ) (st : State) → Agrees (ruled role.Differential l st) (roleChecks role.Differential ls l)
 unfolding ruled dLine on number
 d-agrees ls l st =
-    agree-last (dLine l) (λ u. st) (kindChecks kind.D ls l)
+    agree-last (dLine l) (λ u. st) (roleChecks role.Differential ls l)
     (agree-then (shaped 6 6 false l) _ (shapeChecks 6 6 false l) _ (shape-agrees 6 6 false l) λ u e.
     agree-need 9 2 (isEither (getD l 1 0) (code "1") (code "2")) _ _ λ e.
     agree-need 9 3 (codesAt l 2 4) _ [] λ e. tt)
@@ -192,7 +196,7 @@ point-agrees l =
 time-last : (s : Said State) (a b : List Check) (c : Check) → Agrees s ((a ++ b) ++ (c ∷ [])) → Agrees s (a ++ (b ++ (c ∷ [])))
 time-last s a b c h = rw append-assoc at h
 
-e-agrees : (ls : List (List ℕ)) (l : List ℕ) (st : State) → st .clock ≡ orZero (lastTime ls) → Agrees (ruled kind.E l st) (kindChecks kind.E ls l)
+e-agrees : (ls : List (List ℕ)) (l : List ℕ) (st : State) → st .clock ≡ orZero (lastTime ls) → Agrees (ruled role.Event l st) (roleChecks role.Event ls l)
 unfolding ruled eLine number
 e-agrees ls l st c =
     let cs = check 9 2 (isThere (timeAt l 1)) ∷ check 9 8 (codesAt l 7 3) ∷ [] in
@@ -200,7 +204,7 @@ e-agrees ls l st c =
     agree-then (shaped 10 255 false l) _ (shapeChecks 10 255 false l) _ (shape-agrees 10 255 false l) λ u e.
     agree-given 9 2 (timeAt l 1) _ _ λ t e.
     agree-need 9 8 (codesAt l 7 3) _ [] λ e. tt in
-    time-last (ruled kind.E l st) (shapeChecks 10 255 false l) cs (timeCheck ls l)
+    time-last (ruled role.Event l st) (shapeChecks 10 255 false l) cs (timeCheck ls l)
     (agree-then (eLine l) (λ t. timed t st) _ (timeCheck ls l ∷ []) h λ t e. on-time ls l t st c (e-inv l t e .1))
 
 pairs-agree : {A : Type 0} (v : A) (l : List ℕ) (at : ℕ) → Agrees (given (badPair at l) (says v) λ i. refuses 9 0 (i + 1)) (pairChecks at l)
@@ -214,7 +218,7 @@ pairs-agree v (a ∷ b ∷ l) at = go (isCode a && isCode b) (pairs-agree v l (a
     go true h = one-more (given (badPair (at + 2) l) (says v) λ i. refuses 9 0 (i + 1)) (check 9 (at + 1) true) (pairChecks (at + 2) l) refl h
     go false h = (refl, inl (refl, refl, refl))
 
-f-agrees : (ls : List (List ℕ)) (l : List ℕ) (st : State) → st .clock ≡ orZero (lastTime ls) → Agrees (ruled kind.F l st) (kindChecks kind.F ls l)
+f-agrees : (ls : List (List ℕ)) (l : List ℕ) (st : State) → st .clock ≡ orZero (lastTime ls) → Agrees (ruled role.Satellites l st) (roleChecks role.Satellites ls l)
 unfolding ruled fLine number
 f-agrees ls l st c =
     let cs = check 9 2 (isThere (timeAt l 1)) ∷ check 9 8 (eqb ((length l - 7) % 2) 0) ∷ pairChecks 7 (drop 7 l) in
@@ -223,23 +227,20 @@ f-agrees ls l st c =
     agree-given 9 2 (timeAt l 1) _ _ λ t e.
     agree-need 9 8 (eqb ((length l - 7) % 2) 0) _ _ λ e.
     pairs-agree t (drop 7 l) 7 in
-    time-last (ruled kind.F l st) (shapeChecks 7 255 false l) cs (timeCheck ls l)
+    time-last (ruled role.Satellites l st) (shapeChecks 7 255 false l) cs (timeCheck ls l)
     (agree-then (fLine l) (λ t. timed t st) _ (timeCheck ls l ∷ []) h λ t e. on-time ls l t st c (f-inv l t e .1))
 
 -- ---- B and K lines
 
-last-ends : (e : Entry) (es r : List Entry) → getD ((e ∷ es) ++ r) (length es) unused .last ≡ endsAt (e .last) es
+ends-same : (es : List Entry) (start : ℕ) → end-of es start ≡ endsAt (start - 1) es
 unfolding endsAt
-last-ends e [] r = refl
-last-ends e (x ∷ es) r = last-ends x es r
+ends-same [] start = refl
+ends-same (e ∷ es) start = let n : e .last + 1 - 1 ≡ e .last = omega arith in ends-same es (e .last + 1) ∙ ap (λ x. endsAt x es) n
 
 -- the length that a layout gives is where its last column ends
-length-laid : (first : ℕ) (es : List Entry) → lineLength first (laid es) ≡ endsAt (first - 1) es
-unfolding lineLength endsAt
-length-laid first [] = refl
-length-laid first (e ∷ es) =
-    let n : suc (length es) - 1 ≡ length es = omega arith in
-    rw (ne-eqb (suc (length es)) 0 (λ z. omega arith), n) (last-ends e es (replicate (13 - suc (length es)) unused))
+length-laid : (f : Family) (es : List Entry) → lineLength (firstStart f) (laid es) ≡ sizeOf f es
+length-laid family.B es = line-end 36 es ∙ ends-same es 36
+length-laid family.K es = line-end 8 es ∙ ends-same es 8
 
 fields-agree : (l : List ℕ) → Agrees (fixFields l) (fixChecks l)
 unfolding fixFields on number
@@ -251,41 +252,34 @@ fields-agree l =
     agree-given 9 26 (altitudeAt l 25) _ _ λ p e.
     agree-given 9 31 (altitudeAt l 30) _ [] λ g e. tt
 
-b-line-agrees : (es : List Entry) (l : List ℕ) → Agrees (bLine (laid es) l) (sizeChecks family.B es l ++ (fixChecks l ++ columnChecks l es))
+b-agrees : (es : List Entry) (l : List ℕ) → Agrees (bLine (laid es) l) (sizeChecks family.B es l ++ (fixChecks l ++ columnChecks l es))
 unfolding bLine shapedBy
-b-line-agrees es l =
-    rw (length-laid 36 es)
+b-agrees es l =
+    rw (length-laid family.B es)
     (agree-then (shaped (endsAt 35 es) (endsAt 35 es) false l) _ (sizeChecks family.B es l) _ (shape-agrees (endsAt 35 es) (endsAt 35 es) false l) λ u e.
     agree-then (fixFields l) _ (fixChecks l) (columnChecks l es) (fields-agree l) λ f e.
     agree-last (columns l (laid es)) (λ v. f) (columnChecks l es) (columns-agree l es))
 
-b-agrees : (ls : List (List ℕ)) (l : List ℕ) (st : State) → st .clock ≡ orZero (lastTime ls) → st .flight .fixes ≡ laid (entriesTold family.B ls)
-    → Agrees (ruled kind.B l st) (kindChecks kind.B ls l)
-unfolding ruled
-b-agrees ls l st c i =
-    let es = entriesTold family.B ls in
-    time-last (ruled kind.B l st) (sizeChecks family.B es l) (fixChecks l ++ columnChecks l es) (timeCheck ls l)
-    (agree-then (bLine (st .flight .fixes) l) (λ f. timed (f .time) (counted 1 0 st)) _ (timeCheck ls l ∷ [])
-    (subst (λ x. Agrees (bLine x l) (sizeChecks family.B es l ++ (fixChecks l ++ columnChecks l es))) (sym i) (b-line-agrees es l)) λ f e.
-    on-time ls l (f .time) (counted 1 0 st) c (b-time (st .flight .fixes) l f e))
-
-k-line-agrees : (es : List Entry) (l : List ℕ) → Agrees (kLine (laid es) l) (sizeChecks family.K es l ++ (check 9 2 (isThere (timeAt l 1)) ∷ columnChecks l es))
-unfolding kLine shapedBy number
-k-line-agrees es l =
-    rw (length-laid 8 es)
+line-agrees : (f : Family) (es : List Entry) (l : List ℕ) → Agrees (columnedLine f (laid es) l) (sizeChecks f es l ++ (fieldChecks f l ++ columnChecks l es))
+unfolding columnedLine kLine shapedBy number
+line-agrees family.B es l = agree-last (bLine (laid es) l) (λ (f : Fix). f .time) (sizeChecks family.B es l ++ (fixChecks l ++ columnChecks l es)) (b-agrees es l)
+line-agrees family.K es l =
+    rw (length-laid family.K es)
     (agree-then (shaped (endsAt 7 es) (endsAt 7 es) false l) _ (sizeChecks family.K es l) _ (shape-agrees (endsAt 7 es) (endsAt 7 es) false l) λ u e.
     agree-given 9 2 (timeAt l 1) _ _ λ t e.
     agree-last (columns l (laid es)) (λ v. t) (columnChecks l es) (columns-agree l es))
 
-k-agrees : (ls : List (List ℕ)) (l : List ℕ) (st : State) → st .clock ≡ orZero (lastTime ls) → st .flight .extras ≡ laid (entriesTold family.K ls)
-    → Agrees (ruled kind.K l st) (kindChecks kind.K ls l)
+columned-agrees : (f : Family) (ls : List (List ℕ)) (l : List ℕ) (st : State) → st .clock ≡ orZero (lastTime ls) → layoutOf f (st .flight .layouts) ≡ laid (entriesTold f ls)
+    → Agrees (ruled (role.Columned f) l st) (roleChecks (role.Columned f) ls l)
 unfolding ruled
-k-agrees ls l st c i =
-    let es = entriesTold family.K ls in
-    time-last (ruled kind.K l st) (sizeChecks family.K es l) (check 9 2 (isThere (timeAt l 1)) ∷ columnChecks l es) (timeCheck ls l)
-    (agree-then (kLine (st .flight .extras) l) (λ t. timed t (counted 0 1 st)) _ (timeCheck ls l ∷ [])
-    (subst (λ x. Agrees (kLine x l) (sizeChecks family.K es l ++ (check 9 2 (isThere (timeAt l 1)) ∷ columnChecks l es))) (sym i) (k-line-agrees es l)) λ t e.
-    on-time ls l t (counted 0 1 st) c (k-time (st .flight .extras) l t e))
+columned-agrees f ls l st c i =
+    let es = entriesTold f ls in
+    let cs = sizeChecks f es l ++ (fieldChecks f l ++ columnChecks l es) in
+    subst (Agrees (ruled (role.Columned f) l st)) (append-assoc (sizeChecks f es l) (fieldChecks f l ++ columnChecks l es) (timeCheck ls l ∷ [])
+    ∙ ap (λ x. sizeChecks f es l ++ x) (append-assoc (fieldChecks f l) (columnChecks l es) (timeCheck ls l ∷ [])))
+    (agree-then (columnedLine f (layoutOf f (st .flight .layouts)) l) (λ t. timed t (counted f st)) cs (timeCheck ls l ∷ [])
+    (subst (λ x. Agrees (columnedLine f x l) cs) (sym i) (line-agrees f es l)) λ t e.
+    on-time ls l t (counted f st) c (columned-time f (layoutOf f (st .flight .layouts)) t l e))
 
 -- ---- I and J lines
 
@@ -344,7 +338,7 @@ entries-agree (suc left) l at start before n =
     agree-then (entryAt l at start (laid before)) _ (entry-checks l at start before) (entryChecks left l (at + 7) (entryOf l at .last + 1) (before ++ (entryOf l at ∷ [])))
     (entry-agrees l at start before) λ e h.
     subst (λ x. Agrees (entriesFrom left l (at + 7) (e .last + 1) (withEntry (laid before) e)) (entryChecks left l (at + 7) (x .last + 1) (before ++ (x ∷ []))))
-    (sym (entry-is l at start (laid before) e h))
+    (sym (entry-there l at (at + 7) start (laid before) e refl h .3))
     (subst (λ x. Agrees (entriesFrom left l (at + 7) (e .last + 1) x) (entryChecks left l (at + 7) (e .last + 1) (before ++ (e ∷ []))))
     (sym (with-laid before e (omega arith)))
     (entries-agree left l (at + 7) (e .last + 1) (before ++ (e ∷ [])) (omega (arith, length-append before (e ∷ [])))))
@@ -385,57 +379,37 @@ either-way : (t u : Bool) {A : Type 0} (a b : Said A) (cs ds : List Check) → n
 either-way true u a b cs ds e h g = rw (← e) h
 either-way false u a b cs ds e h g = rw (← e) g
 
--- the kinds are A to Z
-kind-letters : (k : Kind) (b : ℕ) → Letter k b → isKind k ≡ (leb (code "A") b && leb b (code "Z"))
-kind-letters kind.A b h = rw h
-kind-letters kind.B b h = rw h
-kind-letters kind.C b h = rw h
-kind-letters kind.D b h = rw h
-kind-letters kind.E b h = rw h
-kind-letters kind.F b h = rw h
-kind-letters kind.G b h = rw h
-kind-letters kind.H b h = rw h
-kind-letters kind.I b h = rw h
-kind-letters kind.J b h = rw h
-kind-letters kind.K b h = rw h
-kind-letters kind.L b h = rw h
-kind-letters kind.Other b h = rw (le-leb 65 b (omega arith), le-leb b 90 (h .1))
-kind-letters kind.NoKind b (inl h) = rw (lt-leb 65 b h)
-kind-letters kind.NoKind b (inr h) = rw (le-leb 65 b (omega arith), lt-leb b 90 h)
-
 module _ (ls : List (List ℕ)) (l : List ℕ) (st : State) (w : Stands ls st) where
-  ruled-agrees : (k : Kind) (stage : ℕ) → isKind k ≡ true → Agrees (ruled k l (moved stage st)) (kindChecks k ls l)
-  unfolding ruled
-  ruled-agrees kind.A stage i = a-agrees ls l (moved stage st)
-  ruled-agrees kind.B stage i = b-agrees ls l (moved stage st) (w .clock) (w .fixes)
-  ruled-agrees kind.C stage i =
-      either-way (eqb (st .points) 0) (isOpen ls) _ _ (headChecks l) (pointChecks l) (open-points ls st w)
-      (agree-last (headLine l) (λ h. begun h (moved stage st)) (headChecks l) (head-agrees l))
-      (agree-last (pointLine l) (λ p. pointed (moved stage st)) (pointChecks l) (point-agrees l))
-  ruled-agrees kind.D stage i = d-agrees ls l (moved stage st)
-  ruled-agrees kind.E stage i = e-agrees ls l (moved stage st) (w .clock)
-  ruled-agrees kind.F stage i = f-agrees ls l (moved stage st) (w .clock)
-  ruled-agrees kind.G stage i = agree-last (gLine l) (λ u. moved stage st) (shapeChecks 2 255 false l) (shape-agrees 2 255 false l)
-  ruled-agrees kind.H stage i =
+  ruled-agrees : (r : Role) (stage : ℕ) → isRole r ≡ true → Agrees (ruled r l (moved stage st)) (roleChecks r ls l)
+  unfolding ruled headerLine declarationLine
+  ruled-agrees role.Opens stage i = a-agrees ls l (moved stage st)
+  ruled-agrees role.Heads stage i =
       agree-cond (eqb (st .flight .lines + 1) 2) (eqb (length ls) 1) _ _ (dateChecks l) (headerChecks l) (second-line (st .flight .lines) ∙ ap (λ n. eqb n 1) (w .lines))
       (agree-last (dateLine l) (λ d. dated d (moved stage st)) (dateChecks l) (date-agrees l))
       (agree-last (hLine l) (λ u. moved stage st) (headerChecks l) (header-agrees l))
-  ruled-agrees kind.I stage i = agree-last (layoutLine 36 l) (λ x. withFixes x (moved stage st)) (layoutChecks family.B l) (layout-agrees family.B l)
-  ruled-agrees kind.J stage i = agree-last (layoutLine 8 l) (λ x. withExtras x (moved stage st)) (layoutChecks family.K l) (layout-agrees family.K l)
-  ruled-agrees kind.K stage i = k-agrees ls l (moved stage st) (w .clock) (w .extras)
-  ruled-agrees kind.L stage i = agree-last (lLine l) (λ u. moved stage st) (shapeChecks 1 99 false l) (shape-agrees 1 99 false l)
-  ruled-agrees kind.Other stage i = agree-last (otherLine l) (λ u. moved stage st) (shapeChecks 1 255 false l) (shape-agrees 1 255 false l)
-  ruled-agrees kind.NoKind stage i = absurd (false-true i)
+  ruled-agrees (role.Tells f) stage i = agree-last (layoutLine (firstStart f) l) (λ x. laidOut f x (moved stage st)) (layoutChecks f l) (layout-agrees f l)
+  ruled-agrees (role.Columned f) stage i = columned-agrees f ls l (moved stage st) (w .clock) (w .layouts f)
+  ruled-agrees role.Declares stage i =
+      either-way (eqb (st .points) 0) (isOpen ls) _ _ (headChecks l) (pointChecks l) (open-points ls st w)
+      (agree-last (headLine l) (λ h. begun h (moved stage st)) (headChecks l) (head-agrees l))
+      (agree-last (pointLine l) (λ p. pointed (moved stage st)) (pointChecks l) (point-agrees l))
+  ruled-agrees role.Event stage i = e-agrees ls l (moved stage st) (w .clock)
+  ruled-agrees role.Satellites stage i = f-agrees ls l (moved stage st) (w .clock)
+  ruled-agrees role.Differential stage i = d-agrees ls l (moved stage st)
+  ruled-agrees role.Seals stage i = agree-last (gLine l) (λ u. moved stage st) (shapeChecks 2 255 false l) (shape-agrees 2 255 false l)
+  ruled-agrees role.Remark stage i = agree-last (lLine l) (λ u. moved stage st) (shapeChecks 1 99 false l) (shape-agrees 1 99 false l)
+  ruled-agrees role.Other stage i = agree-last (otherLine l) (λ u. moved stage st) (shapeChecks 1 255 false l) (shape-agrees 1 255 false l)
+  ruled-agrees role.NoRole stage i = absurd (false-true i)
 
   judge-agrees : Agrees (judge l st) (checksOf ls l)
   unfolding judge checksOf on number
   judge-agrees =
-      let k = kindOf (getD l 0 0) in
+      let r = roleIn l in
       agree-need 4 1 (leb 1 (length l)) _ _ λ e.
-      rw (← kind-letters k (getD l 0 0) (letter (getD l 0 0)))
-      (agree-need 5 1 (isKind k) _ _ λ i.
-      subst (λ t. Agrees (given (orderOf k st) (refuses 6 0 1) λ stage. ruled k l (moved stage st)) (check 6 1 t ∷ kindChecks k ls l)) (order-told ls st w k)
-      (agree-given 6 1 (orderOf k st) _ (kindChecks k ls l) λ stage e. ruled-agrees k stage i))
+      rw (← begins l .0)
+      (agree-need 5 1 (isRole r) _ _ λ i.
+      subst (λ t. Agrees (given (orderOf r st) (refuses 6 0 1) λ stage. ruled r l (moved stage st)) (check 6 1 t ∷ roleChecks r ls l)) (order-told ls st w r)
+      (agree-given 6 1 (orderOf r st) _ (roleChecks r ls l) λ stage e. ruled-agrees r stage i))
 
 -- ---- the first that fails, told apart
 

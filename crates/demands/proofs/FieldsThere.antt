@@ -28,7 +28,7 @@ use Rattle.trips.proofs.Altitudes.{altitude-trip}
 use Rattle.demands.specs.Checks.{isThere}
 use Rattle.demands.specs.FieldTexts.{Stood, Field, Codes, FieldsTold}
 use Rattle.demands.proofs.Entries.{code-there, code-here}
-use Rattle.demands.proofs.Leading.{letter}
+use Rattle.demands.proofs.Letters.{letter}
 
 -- ---- a field that reads both ways
 
@@ -152,7 +152,7 @@ either-field x a b = (out (eqb x a) (eqb x b) refl refl, back)
 
 pub fields-told : FieldsTold
 fields-told = record {
-  kind = letter;
+  role = letter;
   time = trip-field _ _ _ 6 time-trip;
   date = trip-field _ _ _ 6 date-trip;
   planned = trip-field _ _ _ 6 planned-trip;

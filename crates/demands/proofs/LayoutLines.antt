@@ -4,12 +4,13 @@ use Prim.Native.Nat.{ℕ, zero, suc, _+_, _*_, _/_, _%_, _≤_}
 use Prim.Native.Char.{code}
 use mathlib.Core.Bool.{true, false, _&&_}
 use mathlib.Core.List.{List, [], _∷_, _++_, append-nil}
+use mathlib.Core.Option.{some}
 use mathlib.Core.Path.{_≡_, refl, sym, _∙_, ap, subst}
 use mathlib.Core.Logic.{_↔_}
 use native.Mathlib.Omega.{arith}
 use borrow.Author.Tests.{le-leb, eqb-true, eq-eqb, ne-eqb}
 use lib.Dec.{eqb, leb}
-use lib.ListN.{length, getD, replicate, length-append}
+use lib.ListN.{length, getD, drop, replicate, length-append}
 use lib.Seq.{drop-length}
 use Rattle.rules.specs.Families.{firstStart, layoutLetter}
 use Rattle.rules.specs.Choice.{leads}
@@ -30,9 +31,10 @@ use Rattle.trips.proofs.Laws.{past, byte-there}
 use Rattle.trips.proofs.Texts.{areValid, both-valid, shaped-here}
 use Rattle.trips.proofs.Digits.{digits-length, digits-clean, number-there, number-here}
 use Rattle.demands.specs.Grammar.{laid, IsLayoutLine, AtMostOne, absent, given}
+use Rattle.demands.specs.Coming.{orZero, entriesIn}
 use Rattle.demands.proofs.Laws.{shape-there}
 use Rattle.demands.proofs.Valued.{IsTold}
-use Rattle.demands.proofs.Entries.{code-range, entry-length, Tiled, entries-there, entries-here, all-laid, entries-laid, laid-allowed, allowed-there, tiled-tiles, tiles-tiled}
+use Rattle.demands.proofs.Entries.{code-range, entry-length, there, Tiled, count-in, entries-there, entries-here, all-laid, entries-laid, laid-allowed, allowed-there, tiled-tiles, tiles-tiled}
 
 letter-is : (f : Family) → (1 ≤ layoutLetter f) × (isValid false (layoutLetter f) ≡ true)
 unfolding isValid
@@ -48,27 +50,41 @@ slots-laid es h = simp (length-append, length-replicate) (omega arith)
 
 -- ---- a line that reads as a layout
 
-pub layout-there : (f : Family) (layout : Layout) (l : List ℕ) → getD l 0 0 ≡ layoutLetter f → layoutLine (firstStart f) l ≡ says layout → IsLayoutLine f layout l
-unfolding layoutLine layoutFields
-layout-there f layout l k h =
-    let s = then-inv (shaped 3 99 false l) layout _ h in
-    let w = shape-there 3 99 false l tt (s .1) in
-    let n = given-inv (numberAt l 1 2) _ (says layout) _ refuses-says (s .2) in
-    let nn : ℕ = n .0 in
-    let m = need-inv (eqb (length l) (3 + 7 * nn)) _ (says layout) _ refuses-says (n .2) in
-    let long : length l ≡ 3 + 7 * nn = eqb-true _ _ (m .0) in
-    let few : nn ≤ 13 = omega (arith, w .short) in
-    let r = entries-there nn l 3 (length l) (firstStart f) emptyLayout layout (sym long) (m .1) in
-    let es = r .entries in
-    let is : laid es ≡ layout = sym (all-laid [] es (omega (arith, r .count))) ∙ r .is in
-    let front : l ≡ layoutLetter f ∷ (digitsOf 2 nn ++ (entryTexts es ++ [])) =
-    byte-there l 0 1 (layoutLetter f) refl (letter-is f .0) k
-    ∙ ap (λ x. layoutLetter f ∷ x) (number-there l 1 2 3 nn refl (n .1) .0
-    ∙ ap (λ x. digitsOf 2 nn ++ x) (r .text ∙ ap (λ x. entryTexts es ++ x) (drop-length l))) in
-    let text : l ≡ layoutLetter f ∷ (digitsOf 2 (length es) ++ entryTexts es) =
-    front ∙ ap (λ x. layoutLetter f ∷ (digitsOf 2 nn ++ x)) (append-nil (entryTexts es))
-    ∙ ap (λ x. layoutLetter f ∷ (digitsOf 2 x ++ entryTexts es)) (sym (r .count)) in
-    record { entries = es; tiles = tiled-tiles es (firstStart f) (omega (arith, r .count)) (r .tiled); text = text; short = w .short; slots = sym is }
+module _ (f : Family) (layout : Layout) (l : List ℕ) (h : layoutLine (firstStart f) l ≡ says layout) where
+  -- NN, and NN entries
+  read : (nn : ℕ) × (numberAt l 1 2 ≡ some nn) × (length l ≤ 99) × (nn ≤ 13) × (layout ≡ laid (entriesIn nn l 3))
+      × Tiled (entriesIn nn l 3) (firstStart f) emptyLayout × (drop 3 l ≡ entryTexts (entriesIn nn l 3))
+  unfolding layoutLine layoutFields
+  read =
+      let s = then-inv (shaped 3 99 false l) layout _ h in
+      let w = shape-there 3 99 false l tt (s .1) in
+      let n = given-inv (numberAt l 1 2) _ (says layout) _ refuses-says (s .2) in
+      let m = need-inv (eqb (length l) (3 + 7 * n .0)) _ (says layout) _ refuses-says (n .2) in
+      let long : length l ≡ 3 + 7 * n .0 = eqb-true _ _ (m .0) in
+      let few : n .0 ≤ 13 = omega (arith, w .short) in
+      let r = entries-there (n .0) l 3 (length l) (firstStart f) emptyLayout layout (sym long) (m .1) in
+      let es = entriesIn (n .0) l 3 in
+      let text : drop 3 l ≡ entryTexts es = r .2 ∙ ap (λ x. entryTexts es ++ x) (drop-length l) ∙ append-nil (entryTexts es) in
+      (n .0, n .1, w .short, few, sym (r .0) ∙ all-laid [] es (omega (arith, count-in (n .0) l 3)), r .1, text)
+
+  -- the layout is that of the entries that the line has
+  pub layout-laid : layout ≡ laid (entriesIn (orZero (numberAt l 1 2)) l 3)
+  layout-laid = read .4 ∙ ap (λ n. laid (entriesIn n l 3)) (sym (there (numberAt l 1 2) (read .1)))
+
+  pub layout-there : getD l 0 0 ≡ layoutLetter f → IsLayoutLine f layout l
+  layout-there k =
+      let r = read in
+      let es = entriesIn (r .0) l 3 in
+      let n = count-in (r .0) l 3 in
+      let text : l ≡ layoutLetter f ∷ (digitsOf 2 (r .0) ++ entryTexts es) =
+      byte-there l 0 1 (layoutLetter f) refl (letter-is f .0) k ∙ ap (λ x. layoutLetter f ∷ x) (number-there l 1 2 3 (r .0) refl (r .1) .0 ∙ ap (λ x. digitsOf 2 (r .0) ++ x) (r .6)) in
+      record {
+        entries = es;
+        tiles = tiled-tiles es (firstStart f) (omega (arith, r .3)) (r .5);
+        text = text ∙ ap (λ x. layoutLetter f ∷ (digitsOf 2 x ++ entryTexts es)) (sym n);
+        short = r .2;
+        slots = r .4;
+      }
 
 -- ---- and a layout's own line
 
@@ -146,7 +162,7 @@ layout-allowed f layout l w =
     )
 
 -- so is the empty one, where there is no such line
-pub told : (f : Family) {layout : Layout} {ls : List (List ℕ)} → AtMostOne f layout ls → IsTold (firstStart f) layout
+pub told : (f : Family) {layout : Layout} {ls : List (List ℕ)} → AtMostOne f layout ls → IsTold f layout
 unfolding allowed allPlaced leads isUnused
 told family.B absent = (refl, refl)
 told family.K absent = (refl, refl)
@@ -159,7 +175,7 @@ module _ (f : Family) (layout : Layout) where
   unfolding layoutSaid
   reads-line l e =
       let k = need-inv (eqb (getD l 0 0) (layoutLetter f)) _ (says layout) _ refuses-says e in
-      layout-there f layout l (eqb-true _ _ (k .0)) (k .1)
+      layout-there f layout l (k .1) (eqb-true _ _ (k .0))
 
   line-reads : (l : List ℕ) → IsLayoutLine f layout l → layoutSaid f l ≡ says layout
   unfolding layoutSaid

@@ -6,6 +6,7 @@ pub mod Entries
 pub mod Tails
 pub mod Valued
 pub mod LayoutLines
+pub mod Letters
 pub mod Leading
 pub mod Passing
 pub mod Sections

@@ -13,23 +13,30 @@ use lib.Dec.{eqb, leb, ltb}
 use lib.ListN.{length, getD, length-append}
 use Rattle.rules.specs.Choice.{byte, bytes, Each}
 use Rattle.rules.specs.Choice as choice
+use Rattle.rules.specs.Families.{layoutLetter, layoutOf}
 use Rattle.rules.specs.Fields.{timeAt}
 use Rattle.rules.specs.Refusals.{says}
-use Rattle.rules.specs.Order.{start, moved, judge}
-use Rattle.rules.specs.declared.Family.the-variants as family
+use Rattle.rules.specs.Roles.{isDeclaring, afterH, afterLayout, stageAfter}
+use Rattle.rules.specs.Order.{start, fitsDeclaration, moved, judge}
+use Rattle.rules.specs.declared.Layout.{Layout}
+use Rattle.rules.specs.declared.Family.{Family}
 use Rattle.rules.specs.declared.Head.{Head}
+use Rattle.rules.specs.declared.Role.{Role}
 use Rattle.rules.specs.declared.State.{State}
 use Rattle.rules.proofs.Inverse.{false-true}
-use Rattle.demands.specs.Grammar.{IsHeadLine, IsPointLine, IsELine, IsFLine, Untimed, differential, remark, other, Follows, AtMostOne, absent, given, beginning}
-use Rattle.demands.specs.Coming.{isOf, pointsOf, isOpen, Open, those, lastTime, NoTime, Latest, isInTime, Meant}
+use Rattle.laws.proofs.Passing.{roleIn, leading-inv, Leaves, judged}
+use Rattle.laws.proofs.Passing as passes
+use Rattle.demands.specs.Grammar.{IsHeadLine, IsPointLine, IsLayoutLine, Follows, AtMostOne, absent, given, beginning}
+use Rattle.demands.specs.Coming.{isAmong, pointsOf, isOpen, Open, those, lastTime, NoTime, Latest, isInTime, Meant}
 use Rattle.demands.specs.Faults.{PassAfter}
+use Rattle.demands.specs.FieldTexts.{Letter}
 use Rattle.demands.proofs.Laws.{each-join}
-use Rattle.demands.proofs.Carried.{e-said, f-said}
-use Rattle.demands.proofs.Valued.{b-said, k-said, head-said, point-said}
-use Rattle.demands.proofs.LayoutLines.{layout-said}
-use Rattle.demands.proofs.Leading.{Part, InBody, head, point, fix, extra, event, quiet, Leads, first, second, further, fixing, noting, flying, sealing, remarking, judge-leads}
+use Rattle.demands.proofs.Valued.{head-there, head-said, point-there}
+use Rattle.demands.proofs.LayoutLines.{layout-there, layout-said}
+use Rattle.demands.proofs.Letters.{every, put-by, letter, tells-letter, isTelling, begins}
+use Rattle.demands.proofs.Leading.{plain-fits, head-fits, order-inv}
 use Rattle.demands.proofs.Passing.{Passes, done, next}
-use Rattle.demands.proofs.Standing.{head-points, only-without, or-true, open-left, Stands, stands-start, stands-next}
+use Rattle.demands.proofs.Standing.{head-points, or-true, some-points, open-left, untold, Stands, stands-start, stands-next}
 use Rattle.demands.proofs.Faulty.{judge-passes, passes-judge}
 
 -- ---- the declaration
@@ -99,56 +106,42 @@ opened-point ls l left w n o =
       count = omega arith;
     }
 
--- ---- I and J lines
+-- ---- the lines that tell a layout
 
 module _ (x : ℕ) (l : List ℕ) where
-  those-same : (ls : List (List ℕ)) → eqb (getD l 0 0) x ≡ false → those x (ls ++ (l ∷ [])) ≡ those x ls
+  those-next : (ls : List (List ℕ)) → those x (ls ++ (l ∷ [])) ≡ those x ls ++ cond (eqb (getD l 0 0) x) (l ∷ []) []
   unfolding those
-  those-same [] k = rw k
-  those-same (a ∷ ls) k = rw (those-same ls k)
-
-  those-first : (ls : List (List ℕ)) → getD l 0 0 ≡ x → beginning x ls ≡ 0 → those x (ls ++ (l ∷ [])) ≡ l ∷ []
-  unfolding those beginning
-  those-first [] k e = rw (eq-eqb (getD l 0 0) x k)
-  those-first (a ∷ ls) k e = go (eqb (getD a 0 0) x) e (those-first ls k)
+  those-next [] = refl
+  those-next (a ∷ ls) = go (eqb (getD a 0 0) x) (those-next ls)
     where
-      go : (b : Bool) → cond b 1 0 + beginning x ls ≡ 0 → (beginning x ls ≡ 0 → those x (ls ++ (l ∷ [])) ≡ l ∷ [])
-          → cond b (a ∷ those x (ls ++ (l ∷ []))) (those x (ls ++ (l ∷ []))) ≡ l ∷ []
-      go true e r = absurd (omega arith)
-      go false e r = r (omega arith)
+      go : (b : Bool) → those x (ls ++ (l ∷ [])) ≡ those x ls ++ cond (eqb (getD l 0 0) x) (l ∷ []) []
+          → cond b (a ∷ those x (ls ++ (l ∷ []))) (those x (ls ++ (l ∷ []))) ≡ cond b (a ∷ those x ls) (those x ls) ++ cond (eqb (getD l 0 0) x) (l ∷ []) []
+      go true r = ap (λ y. a ∷ y) r
+      go false r = r
+
+none-those : (x : ℕ) (ls : List (List ℕ)) → Each (λ l. getD l 0 0 ≡ x → ⊥) ls → those x ls ≡ []
+unfolding those
+none-those x [] h = refl
+none-those x (l ∷ ls) h = rw (ne-eqb (getD l 0 0) x (h .0)) (none-those x ls (h .1))
 
 -- ---- the state, in the grammar's words
 
 record Tells (ls : List (List ℕ)) (st : State) : Type 0 where
   declaration : (st .points ≡ 0) ⊎ Opened ls (st .points)
-  fixes : AtMostOne family.B (st .flight .fixes) (those (code "I") ls)
-  extras : AtMostOne family.K (st .flight .extras) (those (code "J") ls)
+  told : (f : Family) → AtMostOne f (layoutOf f (st .flight .layouts)) (those (layoutLetter f) ls)
 
 tells-start : Tells [] start
 unfolding those
-tells-start = record { declaration = inl refl; fixes = absent; extras = absent }
+tells-start = record { declaration = inl refl; told = every (λ f. AtMostOne f (layoutOf f (start .flight .layouts)) (those (layoutLetter f) [])) absent absent }
 
 module _ (ls : List (List ℕ)) (l : List ℕ) (st : State) (w : Stands ls st) (t : Tells ls st) where
-  fixes-same : (b : ℕ) → getD l 0 0 ≡ b → eqb b (code "I") ≡ false → AtMostOne family.B (st .flight .fixes) (those (code "I") (ls ++ (l ∷ [])))
-  fixes-same b k n = rw (those-same (code "I") l ls (rw k n)) (t .fixes)
+  -- a line that tells no layout of the family
+  told-same : (f : Family) → eqb (getD l 0 0) (layoutLetter f) ≡ false → AtMostOne f (layoutOf f (st .flight .layouts)) (those (layoutLetter f) (ls ++ (l ∷ [])))
+  told-same f n = rw (those-next (layoutLetter f) l ls, n, append-nil) (t .told f)
 
-  extras-same : (b : ℕ) → getD l 0 0 ≡ b → eqb b (code "J") ≡ false → AtMostOne family.K (st .flight .extras) (those (code "J") (ls ++ (l ∷ [])))
-  extras-same b k n = rw (those-same (code "J") l ls (rw k n)) (t .extras)
-
-  quiet-tells : Untimed l → st .points ≡ 0 → Tells (ls ++ (l ∷ [])) (moved 5 st)
-  quiet-tells (differential v) z = record { declaration = inl z; fixes = fixes-same 68 (v .letter) refl; extras = extras-same 68 (v .letter) refl }
-  quiet-tells (remark v) z = record { declaration = inl z; fixes = fixes-same 76 (v .letter) refl; extras = extras-same 76 (v .letter) refl }
-  quiet-tells (other v) z =
-      let b = getD l 0 0 in
-      record {
-        declaration = inl z;
-        fixes = fixes-same b refl (ne-eqb b 73 (λ e. omega (arith, v .from)));
-        extras = extras-same b refl (ne-eqb b 74 (λ e. omega (arith, v .from)));
-      }
-
-  event-letter : (n : ℕ) → IsELine n l ⊎ IsFLine n l → (eqb (getD l 0 0) (code "I") ≡ false) × (eqb (getD l 0 0) (code "J") ≡ false)
-  event-letter n (inl v) = rw (e-said l n v .0) (refl, refl)
-  event-letter n (inr v) = rw (f-said l n v .0) (refl, refl)
+  told-here : (f : Family) (i : Layout) → IsLayoutLine f i l → st .stage ≤ afterLayout f - 1 → AtMostOne f i (those (layoutLetter f) (ls ++ (l ∷ [])))
+  told-here f i v b =
+      rw (those-next (layoutLetter f) l ls, none-those (layoutLetter f) ls (no-letter (layoutLetter f) ls (untold f ls st w b)), layout-said f i l v .0, eq-eqb (layoutLetter f) (layoutLetter f) refl) (given v)
 
   -- a point that is not the last, or the last
   point-tells : IsPointLine l → 1 ≤ st .points → (st .points ≡ 0) ⊎ Opened ls (st .points) → (st .points - 1 ≡ 0) ⊎ Opened (ls ++ (l ∷ [])) (st .points - 1)
@@ -159,43 +152,36 @@ module _ (ls : List (List ℕ)) (l : List ℕ) (st : State) (w : Stands ls st) (
       go true e = inr (opened-point ls l (st .points) v (leb-true _ _ e) o)
       go false e = let i = leb-false 2 (st .points) e in inl (omega arith)
 
-  body-tells : {m : State} → InBody st l m → Tells (ls ++ (l ∷ [])) m
-  body-tells (head h z d b v) =
-      let k = head-said h l v .0 in
-      let n : beginning (code "C") ls ≡ 0 = eqb-true _ _ (not-false _ (sym (w .declared) ∙ d)) in
-      record { declaration = inr (opened-head ls l h v n); fixes = fixes-same 67 k refl; extras = extras-same 67 k refl }
-  body-tells (point h v) =
-      let k = point-said l v .0 in
-      record { declaration = point-tells v h (t .declaration); fixes = fixes-same 67 k refl; extras = extras-same 67 k refl }
-  body-tells (fix f z q v) =
-      let k = b-said (st .flight .fixes) f l v .0 in
-      record { declaration = inl z; fixes = fixes-same 66 k refl; extras = extras-same 66 k refl }
-  body-tells (extra n z q v) =
-      let k = k-said (st .flight .extras) n l v .0 in
-      record { declaration = inl z; fixes = fixes-same 75 k refl; extras = extras-same 75 k refl }
-  body-tells (event n z q v) =
-      let k = event-letter n v in
-      record { declaration = inl z; fixes = fixes-same (getD l 0 0) refl (k .0); extras = extras-same (getD l 0 0) refl (k .1) }
-  body-tells (quiet z v) = quiet-tells v z
+  tells-left : (stage : ℕ) {r : Role} {after : State} → Letter r (getD l 0 0) → ((f : Family) → eqb (getD l 0 0) (layoutLetter f) ≡ isTelling f r)
+      → fitsDeclaration (isDeclaring r) st ≡ true → stageAfter r (st .stage) ≡ some stage → Leaves l (moved stage st) r after → Tells (ls ++ (l ∷ [])) after
+  unfolding stageAfter
+  tells-left stage k n f o (passes.opens e) = record { declaration = inl (plain-fits st f); told = λ g. told-same g (n g) }
+  tells-left stage k n f o (passes.date d i e) = record { declaration = inl (plain-fits st f); told = λ g. told-same g (n g) }
+  tells-left stage k n f o (passes.header i e) = record { declaration = inl (plain-fits st f); told = λ g. told-same g (n g) }
+  tells-left stage k n f o (passes.layout x i e) = record {
+    declaration = inl (plain-fits st f);
+    told = put-by (λ g y. AtMostOne g y (those (layoutLetter g) (ls ++ (l ∷ [])))) x i (st .flight .layouts)
+        (told-here x i (layout-there x i l e (tells-letter x k)) (leading-inv afterH (afterLayout x - 1) (afterLayout x) (st .stage) stage o .1))
+        (λ g m. told-same g (n g ∙ m));
+  }
+  tells-left stage k n f o (passes.columned x i e q) = record { declaration = inl (plain-fits st f); told = λ g. told-same g (n g) }
+  tells-left stage k n f o (passes.head h i e) = record {
+    declaration = inr (opened-head ls l h (head-there h l k e) (eqb-true _ _ (not-false _ (sym (w .declared) ∙ head-fits st i f .0))));
+    told = λ g. told-same g (n g);
+  }
+  tells-left stage k n f o (passes.point p i e) = record { declaration = point-tells (point-there p l k e) (some-points (st .points) i) (t .declaration); told = λ g. told-same g (n g) }
+  tells-left stage k n f o (passes.event i e q) = record { declaration = inl (plain-fits st f); told = λ g. told-same g (n g) }
+  tells-left stage k n f o (passes.satellites i e q) = record { declaration = inl (plain-fits st f); told = λ g. told-same g (n g) }
+  tells-left stage k n f o (passes.differential e) = record { declaration = inl (plain-fits st f); told = λ g. told-same g (n g) }
+  tells-left stage k n f o (passes.seals e) = record { declaration = inl (plain-fits st f); told = λ g. told-same g (n g) }
+  tells-left stage k n f o (passes.remark e) = record { declaration = inl (plain-fits st f); told = λ g. told-same g (n g) }
+  tells-left stage k n f o (passes.other e) = record { declaration = inl (plain-fits st f); told = λ g. told-same g (n g) }
 
-  tells-next : {p : Part} {m : State} → Leads st l p m → Tells (ls ++ (l ∷ [])) m
-  unfolding isOf bytes
-  tells-next (first z p v) = record { declaration = inl p; fixes = fixes-same 65 (v .letter) refl; extras = extras-same 65 (v .letter) refl }
-  tells-next (second d a b p n v) =
-      let k : getD l 0 0 ≡ code "H" = ap (λ x. getD x 0 0) (v .text) in
-      record { declaration = inl p; fixes = fixes-same 72 k refl; extras = extras-same 72 k refl }
-  tells-next (further a b p n v) = record { declaration = inl p; fixes = fixes-same 72 (v .letter) refl; extras = extras-same 72 (v .letter) refl }
-  tells-next (fixing i a p v) =
-      let k = layout-said family.B i l v .0 in
-      let n = only-without (bytes "AH") (code "I") ls refl (sym (w .staged .headers) ∙ rw a) in
-      record { declaration = inl p; fixes = rw (those-first (code "I") l ls k n) (given v); extras = extras-same 73 k refl }
-  tells-next (noting j a b p v) =
-      let k = layout-said family.K j l v .0 in
-      let n = only-without (bytes "AHI") (code "J") ls refl (sym (w .staged .layouts) ∙ le-leb _ _ b) in
-      record { declaration = inl p; fixes = fixes-same 74 k refl; extras = rw (those-first (code "J") l ls k n) (given v) }
-  tells-next (flying a b v) = body-tells v
-  tells-next (sealing a b p v) = record { declaration = inl p; fixes = fixes-same 71 (v .letter) refl; extras = extras-same 71 (v .letter) refl }
-  tells-next (remarking a b p v) = record { declaration = inl p; fixes = fixes-same 76 (v .letter) refl; extras = extras-same 76 (v .letter) refl }
+  tells-next : (after : State) → judge l st ≡ says after → Tells (ls ++ (l ∷ [])) after
+  tells-next after e =
+      let j = judged l st after e in
+      let o = order-inv (roleIn l) st (j .stage) (j .order) in
+      tells-left (j .stage) (letter (getD l 0 0)) (λ f. begins l .2 f .1) (o .0) (o .1) (j .left)
 
 -- ---- lines that pass
 
@@ -205,9 +191,7 @@ pub record Behind (ls : List (List ℕ)) (st : State) : Type 0 where
   tells : Tells ls st
 
 behind-next : (ls : List (List ℕ)) (l : List ℕ) (st m : State) → Behind ls st → judge l st ≡ says m → Behind (ls ++ (l ∷ [])) m
-behind-next ls l st m w e =
-    let v = judge-leads l st m (w .stands .sound) e in
-    record { stands = stands-next ls l st (w .stands) (v .1); tells = tells-next ls l st (w .stands) (w .tells) (v .1) }
+behind-next ls l st m w e = record { stands = stands-next ls l st m (w .stands) e; tells = tells-next ls l st (w .stands) (w .tells) m e }
 
 pub behind-start : Behind [] start
 behind-start = record { stands = stands-start; tells = tells-start }
@@ -249,7 +233,7 @@ follows t now = (out (leb t now) (ltb 43200 (t - now)) refl refl, back)
 
     back : Follows t now → (leb t now || ltb 43200 (t - now)) ≡ true
     back (inl h) = rw (le-leb t now h)
-    back (inr h) = rw (lt-ltb 43200 (t - now) h) (sym (or-true (leb t now)))
+    back (inr h) = rw (lt-ltb 43200 (t - now) h) (or-true (leb t now))
 
 -- the last time is that of the last timed line
 abbrev Timing : List (List ℕ) → Option ℕ → Type 0
@@ -257,7 +241,7 @@ Timing ls (some t) = Latest ls t
 Timing ls none = Each NoTime ls
 
 -- one line in front of lines whose last time is o
-timing-more : (l : List ℕ) (ls : List (List ℕ)) (o : Option ℕ) (b : Bool) (u : Option ℕ) → isOf (66 ∷ 69 ∷ 70 ∷ 75 ∷ []) (getD l 0 0) ≡ b → timeAt l (byte 2) ≡ u → Timing ls o
+timing-more : (l : List ℕ) (ls : List (List ℕ)) (o : Option ℕ) (b : Bool) (u : Option ℕ) → isAmong (66 ∷ 69 ∷ 70 ∷ 75 ∷ []) (getD l 0 0) ≡ b → timeAt l (byte 2) ≡ u → Timing ls o
     → Timing (l ∷ ls) (choice.given o (cond b u none) λ t. some t)
 timing-more l ls (some t) b u p q w =
     record { before = l ∷ w .before; line = w .line; after = w .after; order = ap (λ x. l ∷ x) (w .order); timed = w .timed; time = w .time; no-later = w .no-later }
@@ -276,8 +260,7 @@ behind-meant ls st w =
     let v = w .stands in
     record {
       declaration = (λ e. opened ls st w .0 (leb-true 1 (st .points) (ap (leb 1) (v .points) ∙ sym (open-left ls) ∙ e)), open-there ls);
-      fixes = subst (λ x. AtMostOne family.B x (those (code "I") ls)) (v .fixes) (w .tells .fixes);
-      extras = subst (λ x. AtMostOne family.K x (those (code "J") ls)) (v .extras) (w .tells .extras);
+      told = λ f. subst (λ x. AtMostOne f x (those (layoutLetter f) ls)) (v .layouts f) (w .tells .told f);
       latest = λ t e. subst (Timing ls) e (timing ls);
       no-time = λ e. subst (Timing ls) e (timing ls);
       times = λ t now e. rw e (follows t now);

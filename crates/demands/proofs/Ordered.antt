@@ -1,5 +1,5 @@
 -- A line may come where the check stands exactly when the lines before tell that it may. Assumes nothing.
-use Prim.Native.Nat.{ℕ}
+use Prim.Native.Nat.{ℕ, _-_}
 use Prim.Native.Char.{code}
 use mathlib.Core.Bool.{Bool, true, false, not, _&&_, _||_, cond}
 use mathlib.Core.List.{List, [], _∷_}
@@ -9,16 +9,19 @@ use native.Mathlib.Omega.{arith}
 use borrow.Author.Tests.{le-leb, lt-leb, leb-true, leb-false, eqb-true, eq-eqb}
 use lib.Dec.{eqb, leb}
 use lib.ListN.{length}
-use Rattle.rules.specs.Roles.{leading, stageAfter}
+use Rattle.rules.specs.Roles.{isDeclaring, atStart, afterA, afterH, afterLayout, inBody, afterG, afterLastG, leading, bodyAfter, stageAfter}
 use Rattle.rules.specs.Choice.{need, bytes}
-use Rattle.rules.specs.Order.{isC, fitsDeclaration, orderOf}
-use Rattle.rules.specs.declared.Kind.{Kind}
-use Rattle.rules.specs.declared.Kind.the-variants as kind
+use Rattle.rules.specs.Order.{fitsDeclaration, orderOf}
+use Rattle.rules.specs.declared.Family.{Family}
+use Rattle.rules.specs.declared.Family.the-variants as family
+use Rattle.rules.specs.declared.Role.{Role}
+use Rattle.rules.specs.declared.Role.the-variants as role
 use Rattle.rules.specs.declared.State.{State}
 use Rattle.rules.proofs.Inverse.{and-inv, bool-eq}
-use Rattle.demands.specs.Coming.{isOf, only, without, endsWith, isOpen, isBody, mayCome}
+use Rattle.demands.specs.Coming.{isAmong, only, without, endsWith, isOpen, isBody, lettersBefore, mayCome}
 use Rattle.demands.specs.Checks.{isThere}
-use Rattle.demands.proofs.Standing.{only-without, open-left, none-left, Stands}
+use Rattle.demands.proofs.Letters.{every}
+use Rattle.demands.proofs.Standing.{and-true, only-without, open-left, none-left, Stands}
 
 -- ---- tests
 
@@ -72,127 +75,102 @@ module _ (ls : List (List ℕ)) (st : State) (w : Stands ls st) where
 
   c-fits : fitsDeclaration true st ≡ (isOpen ls || (without (code "C") ls && without (code "B") ls))
   unfolding fitsDeclaration
-  c-fits = rw (open-is, w .declared, w .bs, twice-not) (go (isOpen ls))
+  c-fits = rw (open-is, w .declared, w .counts family.B, twice-not) (go (isOpen ls))
     where
       go : (o : Bool) → cond o true (without (code "C") ls && without (code "B") ls) ≡ (o || (without (code "C") ls && without (code "B") ls))
       go true = refl
       go false = refl
 
   -- among A, H, I and J lines there is no declaration
-  closed : (xs : List ℕ) → isOf xs (code "C") ≡ false → only xs ls ≡ true → isOpen ls ≡ false
+  closed : (xs : List ℕ) → isAmong xs (code "C") ≡ false → only xs ls ≡ true → isOpen ls ≡ false
   closed xs n e = open-left ls ∙ ap (leb 1) (none-left ls (only-without xs (code "C") ls n e))
 
-  -- ---- kind by kind
+  -- ---- role by role
 
-  fitted : (k : Kind) → isThere (orderOf k st) ≡ (fitsDeclaration (isC k) st && isThere (stageAfter k (st .stage)))
+  -- a line of another role than C, from the parts that lead on
+  fitted : (r : Role) → isThere (orderOf r st) ≡ (fitsDeclaration (isDeclaring r) st && isThere (stageAfter r (st .stage)))
   unfolding orderOf
-  fitted k = there-need (fitsDeclaration (isC k) st) (stageAfter k (st .stage))
+  fitted r = there-need (fitsDeclaration (isDeclaring r) st) (stageAfter r (st .stage))
 
-  in-body : isThere (leading 2 5 5 (st .stage)) ≡ isBody ls
+  early : (r : Role) (low high next : ℕ) → isDeclaring r ≡ false → stageAfter r (st .stage) ≡ leading low high next (st .stage)
+      → isThere (orderOf r st) ≡ (not (isOpen ls) && (leb low (st .stage) && leb (st .stage) high))
+  early r low high next c e = fitted r ∙ rw (c, e, plain-fits) (ap (λ t. not (isOpen ls) && t) (there-leading low high next (st .stage)))
+
+  in-body : (leb afterH (st .stage) && leb (st .stage) inBody) ≡ isBody ls
   unfolding isBody
-  in-body = there-leading 2 5 5 (st .stage) ∙ rw (w .staged .two-lines, w .staged .unsealed)
+  in-body = rw (w .staged .two-lines, w .staged .unsealed)
 
-  plain-body : (k : Kind) → isC k ≡ false → stageAfter k (st .stage) ≡ leading 2 5 5 (st .stage) → isThere (orderOf k st) ≡ (isBody ls && not (isOpen ls))
-  plain-body k c e =
-      fitted k
-      ∙ ap (λ t. fitsDeclaration t st && isThere (stageAfter k (st .stage))) c
-      ∙ ap (λ o. fitsDeclaration false st && isThere o) e
-      ∙ ap (λ t. t && isThere (leading 2 5 5 (st .stage))) plain-fits
-      ∙ ap (λ t. not (isOpen ls) && t) in-body
-      ∙ swap (not (isOpen ls)) (isBody ls)
+  plain-body : (r : Role) → isDeclaring r ≡ false → stageAfter r (st .stage) ≡ bodyAfter (st .stage) → isThere (orderOf r st) ≡ (isBody ls && not (isOpen ls))
+  plain-body r c e = early r afterH inBody inBody c e ∙ ap (λ t. not (isOpen ls) && t) in-body ∙ swap (not (isOpen ls)) (isBody ls)
 
-  c-body : isThere (orderOf kind.C st) ≡ mayCome kind.C ls
+  c-body : isThere (orderOf role.Declares st) ≡ mayCome role.Declares ls
   unfolding stageAfter mayCome
-  c-body =
-      fitted kind.C
-      ∙ ap (λ t. t && isThere (leading 2 5 5 (st .stage))) c-fits
-      ∙ ap (λ t. (isOpen ls || (without (code "C") ls && without (code "B") ls)) && t) in-body
-      ∙ swap (isOpen ls || (without (code "C") ls && without (code "B") ls)) (isBody ls)
+  c-body = fitted role.Declares ∙ rw (c-fits, there-leading afterH inBody inBody (st .stage), in-body) (swap (isOpen ls || (without (code "C") ls && without (code "B") ls)) (isBody ls))
 
-  -- of the parts up to the layouts
-  early : (k : Kind) (low high next : ℕ) → isC k ≡ false → stageAfter k (st .stage) ≡ leading low high next (st .stage)
-      → isThere (orderOf k st) ≡ (not (isOpen ls) && (leb low (st .stage) && leb (st .stage) high))
-  early k low high next c e =
-      fitted k
-      ∙ ap (λ t. fitsDeclaration t st && isThere (stageAfter k (st .stage))) c
-      ∙ ap (λ o. fitsDeclaration false st && isThere o) e
-      ∙ ap (λ t. t && isThere (leading low high next (st .stage))) plain-fits
-      ∙ ap (λ t. not (isOpen ls) && t) (there-leading low high next (st .stage))
-
-  a-first : isThere (orderOf kind.A st) ≡ mayCome kind.A ls
+  a-first : isThere (orderOf role.Opens st) ≡ mayCome role.Opens ls
   unfolding stageAfter mayCome isOpen
   a-first =
-      early kind.A 0 0 1 refl refl
-      ∙ bool-eq (not (isOpen ls) && (leb 0 (st .stage) && leb (st .stage) 0)) (eqb (length ls) 0)
+      early role.Opens atStart atStart afterA refl refl
+      ∙ bool-eq (not (isOpen ls) && (leb atStart (st .stage) && leb (st .stage) atStart)) (eqb (length ls) 0)
       (λ e.
-      let i = leb-true (st .stage) 0 (and-inv (leb 0 (st .stage)) _ (and-inv (not (isOpen ls)) _ e .1) .1) in
-      let n = leb-false 1 (length ls) (sym (w .staged .some-line) ∙ lt-leb 1 (st .stage) (omega arith)) in
+      let i = leb-true (st .stage) atStart (and-inv (leb atStart (st .stage)) _ (and-inv (not (isOpen ls)) _ e .1) .1) in
+      let n = leb-false 1 (length ls) (sym (w .staged .some-line) ∙ lt-leb afterA (st .stage) (omega arith)) in
       eq-eqb (length ls) 0 (omega arith))
       (λ e.
       let n = eqb-true (length ls) 0 e in
-      let i = leb-false 1 (st .stage) (w .staged .some-line ∙ lt-leb 1 (length ls) (omega arith)) in
-      rw (nothing ls n, le-leb 0 (st .stage) (omega arith), le-leb (st .stage) 0 (omega arith)))
+      let i = leb-false afterA (st .stage) (w .staged .some-line ∙ lt-leb 1 (length ls) (omega arith)) in
+      rw (nothing ls n, le-leb atStart (st .stage) (omega arith), le-leb (st .stage) atStart (omega arith)))
     where
       nothing : (ls : List (List ℕ)) → length ls ≡ 0 → isOpen ls ≡ false
       nothing [] e = refl
       nothing (l ∷ ls) e = absurd (omega arith)
 
-  h-told : isThere (orderOf kind.H st) ≡ mayCome kind.H ls
-  unfolding stageAfter mayCome isOf bytes
+  h-told : isThere (orderOf role.Heads st) ≡ mayCome role.Heads ls
+  unfolding stageAfter mayCome isAmong bytes
   h-told =
-      early kind.H 1 2 2 refl refl
-      ∙ rw (w .staged .some-line, w .staged .headers) (implied (isOpen ls) (leb 1 (length ls)) (only (bytes "AH") ls) (closed (bytes "AH") refl))
+      early role.Heads afterA afterH afterH refl refl
+      ∙ rw (w .staged .some-line, w .staged .untold family.B) (implied (isOpen ls) (leb 1 (length ls)) (only (bytes "AH") ls) (closed (bytes "AH") refl))
 
-  i-told : isThere (orderOf kind.I st) ≡ mayCome kind.I ls
-  unfolding stageAfter mayCome isOf bytes
-  i-told =
-      early kind.I 2 2 3 refl refl
-      ∙ rw (w .staged .two-lines, w .staged .headers) (implied (isOpen ls) (leb 2 (length ls)) (only (bytes "AH") ls) (closed (bytes "AH") refl))
+  layout-told : (f : Family) → isThere (orderOf (role.Tells f) st) ≡ mayCome (role.Tells f) ls
+  unfolding stageAfter mayCome isAmong bytes
+  layout-told f =
+      early (role.Tells f) afterH (afterLayout f - 1) (afterLayout f) refl refl
+      ∙ rw (w .staged .two-lines, w .staged .untold f)
+      (implied (isOpen ls) (leb 2 (length ls)) (only (lettersBefore f) ls) (closed (lettersBefore f) (every (λ f. isAmong (lettersBefore f) (code "C") ≡ false) refl refl f)))
 
-  j-told : isThere (orderOf kind.J st) ≡ mayCome kind.J ls
-  unfolding stageAfter mayCome isOf bytes
-  j-told =
-      early kind.J 2 3 4 refl refl
-      ∙ rw (w .staged .two-lines, w .staged .layouts) (implied (isOpen ls) (leb 2 (length ls)) (only (bytes "AHI") ls) (closed (bytes "AHI") refl))
-
-  g-told : isThere (orderOf kind.G st) ≡ mayCome kind.G ls
+  g-told : isThere (orderOf role.Seals st) ≡ mayCome role.Seals ls
   unfolding stageAfter mayCome
   g-told =
-      early kind.G 2 6 6 refl refl
+      early role.Seals afterH afterG afterG refl refl
       ∙ rw (w .staged .two-lines, w .staged .sealing) (turn (not (isOpen ls)) (leb 2 (length ls)) (without (code "G") ls || endsWith (code "G") ls))
 
-  l-stages : isThere (stageAfter kind.L (st .stage)) ≡ leb 2 (length ls)
+  l-stages : isThere (stageAfter role.Remark (st .stage)) ≡ leb 2 (length ls)
   unfolding stageAfter
-  l-stages = go (leb (st .stage) 5) refl ∙ w .staged .two-lines
+  l-stages = go (leb (st .stage) inBody) refl ∙ w .staged .two-lines
     where
-      go : (b : Bool) → leb (st .stage) 5 ≡ b → isThere (cond b (leading 2 5 5 (st .stage)) (leading 6 7 7 (st .stage))) ≡ leb 2 (st .stage)
-      go true e = there-leading 2 5 5 (st .stage) ∙ rw e (swap (leb 2 (st .stage)) true)
+      go : (b : Bool) → leb (st .stage) inBody ≡ b → isThere (cond b (bodyAfter (st .stage)) (leading afterG afterLastG afterLastG (st .stage))) ≡ leb afterH (st .stage)
+      go true e = there-leading afterH inBody inBody (st .stage) ∙ rw e (and-true (leb afterH (st .stage)))
       go false e =
-          let h = leb-false (st .stage) 5 e in
+          let h = leb-false (st .stage) inBody e in
           let m = w .staged .most in
-          there-leading 6 7 7 (st .stage) ∙ rw (le-leb 6 (st .stage) (omega arith), le-leb (st .stage) 7 m, le-leb 2 (st .stage) (omega arith))
+          there-leading afterG afterLastG afterLastG (st .stage)
+          ∙ rw (le-leb afterG (st .stage) (omega arith), le-leb (st .stage) afterLastG m, le-leb afterH (st .stage) (omega arith))
 
-  l-told : isThere (orderOf kind.L st) ≡ mayCome kind.L ls
+  l-told : isThere (orderOf role.Remark st) ≡ mayCome role.Remark ls
   unfolding mayCome
-  l-told =
-      fitted kind.L
-      ∙ ap (λ t. t && isThere (stageAfter kind.L (st .stage))) plain-fits
-      ∙ ap (λ t. not (isOpen ls) && t) l-stages
-      ∙ swap (not (isOpen ls)) (leb 2 (length ls))
+  l-told = fitted role.Remark ∙ rw (plain-fits, l-stages) (swap (not (isOpen ls)) (leb 2 (length ls)))
 
-  pub order-told : (k : Kind) → isThere (orderOf k st) ≡ mayCome k ls
+  pub order-told : (r : Role) → isThere (orderOf r st) ≡ mayCome r ls
   unfolding stageAfter mayCome
-  order-told kind.A = a-first
-  order-told kind.B = plain-body kind.B refl refl
-  order-told kind.C = c-body
-  order-told kind.D = plain-body kind.D refl refl
-  order-told kind.E = plain-body kind.E refl refl
-  order-told kind.F = plain-body kind.F refl refl
-  order-told kind.G = g-told
-  order-told kind.H = h-told
-  order-told kind.I = i-told
-  order-told kind.J = j-told
-  order-told kind.K = plain-body kind.K refl refl
-  order-told kind.L = l-told
-  order-told kind.Other = plain-body kind.Other refl refl
-  order-told kind.NoKind = fitted kind.NoKind ∙ swap (fitsDeclaration false st) false
+  order-told role.Opens = a-first
+  order-told role.Heads = h-told
+  order-told (role.Tells f) = layout-told f
+  order-told (role.Columned f) = plain-body (role.Columned f) refl refl
+  order-told role.Declares = c-body
+  order-told role.Event = plain-body role.Event refl refl
+  order-told role.Satellites = plain-body role.Satellites refl refl
+  order-told role.Differential = plain-body role.Differential refl refl
+  order-told role.Seals = g-told
+  order-told role.Remark = l-told
+  order-told role.Other = plain-body role.Other refl refl
+  order-told role.NoRole = fitted role.NoRole ∙ swap (fitsDeclaration false st) false

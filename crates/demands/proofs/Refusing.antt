@@ -1,9 +1,10 @@
 -- A file is refused with a number, line and byte exactly when that refusal's meaning holds of it. Assumes nothing.
-use Prim.Native.Nat.{ℕ, suc, _+_, _≤_}
+use Prim.Native.Nat.{ℕ, suc, _+_, _≤_, _<_}
 use Prim.Native.Char.{code}
 use mathlib.Core.Bool.{Bool, true, false, cond}
 use mathlib.Core.List.{List, [], _∷_, _++_}
 use mathlib.Core.Logic.{_⊎_, inl, inr, _↔_}
+use mathlib.Core.Option.{Option, none, some}
 use mathlib.Core.Path.{_≡_, refl, sym, _∙_, ap}
 use native.Mathlib.Omega.{arith}
 use borrow.Author.Tests.{le-leb, lt-leb, leb-true, leb-false, eqb-true, eqb-false, eq-eqb, ne-eqb}
@@ -13,14 +14,20 @@ use Rattle.rules.specs.Choice.{need}
 use Rattle.rules.specs.Refusals.{number, Said, says, refuses}
 use Rattle.rules.specs.Split.{Lines, end, broken, line, text, linesOf, afterCR}
 use Rattle.rules.specs.Order.{start}
-use Rattle.rules.specs.Files.{finish, run, verdict}
+use Rattle.rules.specs.Roles.{inBody}
+use Rattle.rules.specs.Files.{endsAfter, finish, hasRoom, run, verdict}
 use Rattle.rules.specs.declared.Flight.{Flight}
+use Rattle.rules.specs.declared.Seal.{Seal}
+use Rattle.rules.specs.declared.Seal.the-variants as seal
 use Rattle.rules.specs.declared.State.{State}
+use Rattle.rules.proofs.Inverse.{false-true}
 use Rattle.laws.proofs.Splitting.{cut, none-left, lines-of-line}
+use Rattle.laws.proofs.Counted.{judged-more}
 use Rattle.demands.specs.Grammar.{IsText, beginning}
 use Rattle.demands.specs.Coming.{Open}
-use Rattle.demands.specs.Faults.{Before, NoEnd, none-comes, lf-alone, cr-alone, Refused, empty, too-long, line-end, in-line, table-full, ends-early}
-use Rattle.demands.proofs.Passing.{Passes, one-line-more, lines-passed, before, text-is, is-text, begins, lines-written, Stops, ended, endless, faulty, full, comes, passes-run, stops-run}
+use Rattle.demands.specs.Faults.{Before, NoEnd, none-comes, lf-alone, cr-alone, Unsealed, Refused, empty, too-long, line-end, in-line, table-full, ends-early}
+use Rattle.demands.proofs.Passing.{Passes, all-passed, before, text-is, is-text, begins, lines-joined, none-fit, Stops, ended, endless, faulty, full, comes, passes-run, stops-run}
+use Rattle.demands.proofs.Standing.{Stands}
 use Rattle.demands.proofs.Faulty.{judge-fails, fails-judge, judge-passes, passes-judge}
 use Rattle.demands.proofs.Meaning.{Behind, behind-start, passes-behind, behind-passes, opened}
 
@@ -92,29 +99,40 @@ end-none (cr-alone t r h n) = broken-text t (13 ∷ r) 0 h (cr-broken r n) ∙ a
 
 -- ---- a refused file
 
-module _ (file : List ℕ) (room : ℕ) where
+-- the part that the file must reach was not reached exactly where what it needs is missing
+missing : (seal : Seal) (lines : List (List ℕ)) (st : State) → Stands lines st → (st .stage < endsAfter seal) ↔ Unsealed seal lines
+missing seal.Strict lines st w = (
+  λ h. eqb-true (beginning (code "G") lines) 0 (sym (w .staged .unsealed) ∙ le-leb (st .stage) inBody (omega arith)),
+  λ e. let i = leb-true (st .stage) inBody (w .staged .unsealed ∙ eq-eqb (beginning (code "G") lines) 0 e) in omega arith,
+)
+
+-- the first line that has no room comes right behind those that have
+full-at : (room : Option ℕ) (n : ℕ) → hasRoom room n ≡ true → hasRoom room (n + 1) ≡ false → room ≡ some n
+full-at none n e f = absurd (false-true (sym f))
+full-at (some entries) n e f = let i = leb-true n entries e in let j = leb-false (n + 1) entries f in ap some (omega arith)
+
+module _ (seal : Seal) (file : List ℕ) (room : Option ℕ) where
   -- an answer that is a refusal means what it says
   abbrev Means : Said Flight → Type 0
   Means (says f) = Unit {0}
-  Means (refuses n l b) = Refused file room n l b
+  Means (refuses n l b) = Refused seal file room n l b
 
-  early : (lines : List (List ℕ)) (st : State) → Before file room lines [] → Behind lines st → Means (finish st)
+  early : (lines : List (List ℕ)) (st : State) → Before file room lines [] → Behind lines st → Means (finish seal st)
   unfolding finish number
-  early lines st w v = go (eqb (st .points) 0) (leb 6 (st .stage)) refl refl
+  early lines st w v = go (eqb (st .points) 0) (leb (endsAfter seal) (st .stage)) refl refl
     where
-      go : (x y : Bool) → eqb (st .points) 0 ≡ x → leb 6 (st .stage) ≡ y
+      go : (x y : Bool) → eqb (st .points) 0 ≡ x → leb (endsAfter seal) (st .stage) ≡ y
           → Means (need x (refuses 16 (st .flight .lines + 1) 0) λ u. need y (refuses 16 (st .flight .lines + 1) 0) λ v. says (st .flight))
       go true true p q = tt
       go true false p q =
-          let i = leb-false 6 (st .stage) q in
-          rw (v .stands .lines) (ends-early lines w (inr (eqb-true (beginning (code "G") lines) 0 (sym (v .stands .staged .unsealed) ∙ le-leb (st .stage) 5 (omega arith)))))
+          rw (v .stands .lines) (ends-early lines w (inr (missing seal lines st (v .stands) .0 (leb-false (endsAfter seal) (st .stage) q))))
       go false y p q =
           let i = eqb-false (st .points) 0 p in
           rw (v .stands .lines) (ends-early lines w (inl (opened lines st v .0 (omega arith))))
 
   -- where the check stops, its answer means what it says
   stopped : (lines : List (List ℕ)) (st : State) (k : Lines) (x : Said Flight) (rest : List ℕ) → Before file room lines rest → linesOf rest ≡ k → Behind lines st
-      → Stops room st k x → Means x
+      → Stops seal room st k x → Means x
   unfolding number
   stopped lines st k x rest w e v ended = early lines st (rw (none-left rest e) at w) v
   stopped lines st k x rest w e v (endless i) = rw (v .stands .lines) (line-end lines rest i w (no-end rest i e))
@@ -123,19 +141,19 @@ module _ (file : List ℕ) (room : ℕ) where
       rw (v .stands .lines) (in-line lines l (c .rest) i b (rw (c .bytes) at w) (text-is l (c .clear)) (judge-fails lines l st (v .stands) i j b h))
   stopped lines st k x rest w e v (full {l = l} {ls = ls} m h g) =
       let c = cut rest l ls e in
-      let i : m .flight .lines ≡ length lines + 1 = one-line-more l st m h ∙ ap (λ y. y + 1) (v .stands .lines) in
-      rw i (table-full lines l (c .rest) (rw (c .bytes) at w) (text-is l (c .clear)) (judge-passes lines l st (v .stands) m h) (omega (arith, w .fits)))
+      let i : m .flight .lines ≡ length lines + 1 = judged-more l st m h .lines ∙ ap (λ y. y + 1) (v .stands .lines) in
+      rw i (table-full lines l (c .rest) (rw (c .bytes) at w) (text-is l (c .clear)) (judge-passes lines l st (v .stands) m h) (full-at room (length lines) (w .fits) (rw i at g)))
 
-  means : Means (verdict file room)
+  means : Means (verdict seal file room)
   unfolding verdict number
   means = go (leb 1 (length file)) (leb (length file) 16777216) refl refl
     where
       go : (x y : Bool) → leb 1 (length file) ≡ x → leb (length file) 16777216 ≡ y
-          → Means (need x (refuses 1 0 0) λ u. need y (refuses 2 0 0) λ v. run room start (linesOf file))
+          → Means (need x (refuses 1 0 0) λ u. need y (refuses 2 0 0) λ v. run seal room start (linesOf file))
       go false y p q = let i = leb-false 1 (length file) p in empty (omega arith)
       go true false p q = too-long (leb-false (length file) 16777216 q)
       go true true p q =
-          let c = comes room (linesOf file) start (omega arith) in
+          let c = comes seal room (linesOf file) start (none-fit room) in
           let b = begins (c .lines) file (c .left) (c .parted) in
           let v = passes-behind [] behind-start (c .passes) in
           let w : Before file room (c .lines) (b .rest) = record {
@@ -144,11 +162,11 @@ module _ (file : List ℕ) (room : ℕ) where
             bytes = b .bytes;
             texts = b .texts;
             passes = v .0;
-            fits = omega (arith, c .fits, lines-passed (c .passes));
+            fits = rw (all-passed (c .passes)) at (c .fits);
           } in
-          stopped (c .lines) (c .state) (c .left) (run room start (linesOf file)) (b .rest) w (b .lines) (v .1) (c .stops)
+          stopped (c .lines) (c .state) (c .left) (run seal room start (linesOf file)) (b .rest) w (b .lines) (v .1) (c .stops)
 
-  refused-there : (n l b : ℕ) → verdict file room ≡ refuses n l b → Refused file room n l b
+  refused-there : (n l b : ℕ) → verdict seal file room ≡ refuses n l b → Refused seal file room n l b
   refused-there n l b e = rw e at means
 
   -- where the check stands when it has gone through the lines before
@@ -162,29 +180,26 @@ module _ (file : List ℕ) (room : ℕ) where
 
   -- it answers for what is left
   goes : (lines : List (List ℕ)) (rest : List ℕ) (k : Lines) (x : Said Flight) → Before file room lines rest → linesOf rest ≡ k → (h : Gone lines)
-      → Stops room (h .state) k x → verdict file room ≡ x
+      → Stops seal room (h .state) k x → verdict seal file room ≡ x
   unfolding verdict
   goes lines rest k x w e h s =
-      let l : linesOf file ≡ before lines k = ap linesOf (w .bytes) ∙ lines-written lines rest (w .texts) ∙ ap (before lines) e in
-      let n : h .state .flight .lines ≤ room = omega (arith, w .fits, h .behind .stands .lines) in
-      rw (le-leb _ _ (w .least), le-leb _ _ (w .most), l) (passes-run room k (h .passes) n ∙ stops-run room (h .state) s)
+      let l : linesOf file ≡ before lines k = ap linesOf (w .bytes) ∙ lines-joined lines rest (w .texts) ∙ ap (before lines) e in
+      rw (le-leb _ _ (w .least), le-leb _ _ (w .most), l) (passes-run seal room k (h .passes) (rw (h .behind .stands .lines) (w .fits)) ∙ stops-run seal room (h .state) s)
 
-  finish-early : (lines : List (List ℕ)) (st : State) → Behind lines st → Open lines ⊎ (beginning (code "G") lines ≡ 0)
-      → finish st ≡ refuses 16 (st .flight .lines + 1) 0
+  finish-early : (lines : List (List ℕ)) (st : State) → Behind lines st → Open lines ⊎ Unsealed seal lines
+      → finish seal st ≡ refuses 16 (st .flight .lines + 1) 0
   unfolding finish number
   finish-early lines st v (inl h) =
       let i = opened lines st v .1 h in
       rw (ne-eqb (st .points) 0 (λ z. omega arith))
   finish-early lines st v (inr h) = go (eqb (st .points) 0)
     where
-      go : (x : Bool) → need x (refuses 16 (st .flight .lines + 1) 0) (λ u. need (leb 6 (st .stage)) (refuses 16 (st .flight .lines + 1) 0) λ v. says (st .flight))
+      go : (x : Bool) → need x (refuses 16 (st .flight .lines + 1) 0) (λ u. need (leb (endsAfter seal) (st .stage)) (refuses 16 (st .flight .lines + 1) 0) λ v. says (st .flight))
           ≡ refuses 16 (st .flight .lines + 1) 0
-      go true =
-          let i = leb-true (st .stage) 5 (v .stands .staged .unsealed ∙ eq-eqb (beginning (code "G") lines) 0 h) in
-          rw (lt-leb 6 (st .stage) (omega arith))
+      go true = rw (lt-leb (endsAfter seal) (st .stage) (missing seal lines st (v .stands) .1 h))
       go false = refl
 
-  refused-here : {n l b : ℕ} → Refused file room n l b → verdict file room ≡ refuses n l b
+  refused-here : {n l b : ℕ} → Refused seal file room n l b → verdict seal file room ≡ refuses n l b
   unfolding verdict number linesOf
   refused-here (empty e) = rw (lt-leb 1 (length file) (omega arith))
   refused-here (too-long h) = rw (le-leb 1 (length file) (omega arith), lt-leb (length file) 16777216 h)
@@ -199,12 +214,12 @@ module _ (file : List ℕ) (room : ℕ) where
   refused-here (table-full lines l rest w t p r) =
       let h = gone lines (l ++ (13 ∷ 10 ∷ rest)) w in
       let m = passes-judge lines l (h .state) (h .behind .stands) p in
-      let i : m .0 .flight .lines ≡ length lines + 1 = one-line-more l (h .state) (m .0) (m .1) ∙ ap (λ y. y + 1) (h .behind .stands .lines) in
-      rw (← i) (goes lines (l ++ (13 ∷ 10 ∷ rest)) (line l (linesOf rest)) _ w (lines-of-line l rest (is-text l t)) h (full (m .0) (m .1) (omega arith)))
+      let i : m .0 .flight .lines ≡ length lines + 1 = judged-more l (h .state) (m .0) (m .1) .lines ∙ ap (λ y. y + 1) (h .behind .stands .lines) in
+      rw (← i) (goes lines (l ++ (13 ∷ 10 ∷ rest)) (line l (linesOf rest)) _ w (lines-of-line l rest (is-text l t)) h (full (m .0) (m .1) (ap (λ x. hasRoom x (m .0 .flight .lines)) r ∙ lt-leb (m .0 .flight .lines) (length lines) (omega arith))))
   refused-here (ends-early lines w e) =
       let h = gone lines [] w in
       goes lines [] end _ w refl h ended ∙ finish-early lines (h .state) (h .behind) e ∙ ap (λ x. refuses 16 (x + 1) 0) (h .behind .stands .lines)
 
 -- what each refusal of a file means
-pub refused-first : (file : List ℕ) (room n l b : ℕ) → (verdict file room ≡ refuses n l b) ↔ Refused file room n l b
-refused-first file room n l b = (refused-there file room n l b, refused-here file room)
+pub refused-first : (seal : Seal) (file : List ℕ) (room : Option ℕ) (n l b : ℕ) → (verdict seal file room ≡ refuses n l b) ↔ Refused seal file room n l b
+refused-first seal file room n l b = (refused-there seal file room n l b, refused-here seal file room)

@@ -1,79 +1,85 @@
 -- B, K and C lines: such a line reads as values exactly when it is their text, and they are within their limits. From the laws of each line both ways. Assumes nothing.
 use Prim.Native.Nat.{ℕ, _+_, _-_, _≤_}
 use Prim.Native.Char.{code}
-use mathlib.Core.Bool.{true, false}
+use mathlib.Core.Bool.{Bool, true, false}
 use mathlib.Core.List.{List}
 use mathlib.Core.Logic.{_↔_}
+use mathlib.Core.Option.{some}
 use mathlib.Core.Path.{_≡_, refl, sym, _∙_, ap, subst}
 use native.Mathlib.Omega.{arith}
 use borrow.Author.Tests.{le-leb, leb-true, eqb-true, eq-eqb}
 use lib.Dec.{eqb}
 use lib.ListN.{length, getD, take, drop, length-drop, take-append-drop}
-use Rattle.rules.specs.Choice.{Each}
+use Rattle.rules.specs.Choice.{need, Each}
+use Rattle.rules.specs.Families.{firstStart, lineLetter}
 use Rattle.rules.specs.Refusals.{says}
 use Rattle.rules.specs.Chars.{isValid}
-use Rattle.rules.specs.Layouts.{entriesOf, allowed}
-use Rattle.rules.specs.Lines.{headLine, pointLine, bLine, kLine}
+use Rattle.rules.specs.Fields.{timeAt}
+use Rattle.rules.specs.Layouts.{entriesOf, allowed, columns}
+use Rattle.rules.specs.Lines.{headLine, pointLine, fixFields, shapedBy, bLine, kLine, columnedLine}
 use Rattle.rules.specs.Reads.{fixSaid, extraSaid, headSaid, pointSaid}
 use Rattle.rules.specs.Writes.{fixText, extraText}
 use Rattle.rules.specs.declared.Layout.{Layout}
+use Rattle.rules.specs.declared.Family.{Family}
+use Rattle.rules.specs.declared.Family.the-variants as family
 use Rattle.rules.specs.declared.Fix.{Fix}
 use Rattle.rules.specs.declared.Head.{Head}
 use Rattle.rules.specs.declared.Point.{Point}
-use Rattle.rules.specs.Limits.{isTime, isClean, goodFixFields, goodFix, goodExtra, goodHeadFields, goodHead}
-use Rattle.rules.proofs.Inverse.{false-true, refuses-says, need-inv}
+use Rattle.rules.specs.Limits.{isTime, isClean, goodTail, goodFixFields, goodFix, goodExtra, goodHeadFields, goodHead}
+use Rattle.rules.proofs.Inverse.{false-true, refuses-says, given-inv, need-inv, then-inv}
 use Rattle.trips.proofs.Texts.{clean-valid}
 use Rattle.trips.proofs.LineTrip.{line-limits}
-use Rattle.trips.proofs.Fixes.{fix-trip}
+use Rattle.trips.proofs.Fixes.{fix-trip, fields-there}
 use Rattle.trips.proofs.Extras.{extra-trip}
 use Rattle.trips.proofs.Heads.{head-trip, head-within}
 use Rattle.trips.proofs.Heads as heads
 use Rattle.trips.proofs.Points.{point-trip}
-use Rattle.demands.specs.Grammar.{Columns, IsBLine, IsKLine, IsHeadLine, IsPointLine}
+use Rattle.demands.specs.Grammar.{Columns, IsBLine, IsKLine, IsColumned, IsHeadLine, IsPointLine}
 use Rattle.demands.proofs.Laws.{each-cut, valid-are, shape-there}
 use Rattle.demands.proofs.Days.{day-exactly, planned-exactly}
 use Rattle.demands.proofs.Tails.{tail-exactly}
 
--- a layout that a line can tell, over the place where its first column starts
-abbrev pub IsTold : ℕ → Layout → Type 0
-IsTold start layout = (allowed start layout ≡ true) × (length (layout .entries) ≡ 13)
+-- a layout that a line can tell
+abbrev pub IsTold : Family → Layout → Type 0
+IsTold f layout = (allowed (firstStart f) layout ≡ true) × (length (layout .entries) ≡ 13)
 
 -- ---- the limits, by such a layout
 
-pub fix-limits : (layout : Layout) → IsTold 36 layout → (f : Fix) (tail : List ℕ)
-    → (goodFix f tail layout ≡ true) ↔ ((goodFixFields f ≡ true) × Columns (entriesOf layout) tail)
-unfolding goodFix
-fix-limits layout t f tail =
-    let x = tail-exactly 36 tail layout (omega arith) (t .0) (t .1) in (
-      λ e. let w = need-inv (goodFixFields f) false true _ false-true e in (w .0, x .0 (w .1)),
-      λ h. rw (h .0) (x .1 (h .1)),
-    )
+pub start-low : (f : Family) → 1 ≤ firstStart f
+start-low family.B = omega arith
+start-low family.K = omega arith
 
-pub extra-limits : (layout : Layout) → IsTold 8 layout → (t : ℕ) (tail : List ℕ)
-    → (goodExtra t tail layout ≡ true) ↔ ((isTime t ≡ true) × Columns (entriesOf layout) tail)
-unfolding goodExtra
-extra-limits layout t n tail =
-    let x = tail-exactly 8 tail layout (omega arith) (t .0) (t .1) in (
-      λ e. let w = need-inv (isTime n) false true _ false-true e in (w .0, x .0 (w .1)),
+-- fields that are good, and columns
+limits : (f : Family) (layout : Layout) → IsTold f layout → (fields : Bool) (tail : List ℕ)
+    → ((need fields false λ u. goodTail (firstStart f) tail layout) ≡ true) ↔ ((fields ≡ true) × Columns (entriesOf layout) tail)
+limits f layout t fields tail =
+    let x = tail-exactly (firstStart f) tail layout (start-low f) (t .0) (t .1) in (
+      λ e. let w = need-inv fields false true _ false-true e in (w .0, x .0 (w .1)),
       λ h. rw (h .0) (x .1 (h .1)),
     )
 
 -- ---- a line as its reader reads it
 
-pub fix-reads : (layout : Layout) → IsTold 36 layout → (f : Fix) (l : List ℕ) → IsBLine layout f l → fixSaid l layout ≡ says f
-fix-reads layout t f l w = ap (λ x. fixSaid x layout) (w .text) ∙ fix-trip layout .here f (w .tail) (fix-limits layout t f (w .tail) .1 (w .fields, w .columns))
+pub fix-reads : (layout : Layout) → IsTold family.B layout → (f : Fix) (l : List ℕ) → IsBLine layout f l → fixSaid l layout ≡ says f
+unfolding goodFix
+fix-reads layout t f l w =
+    ap (λ x. fixSaid x layout) (w .text) ∙ fix-trip layout .here f (w .tail) (limits family.B layout t (goodFixFields f) (w .tail) .1 (w .fields, w .columns))
 
-pub extra-reads : (layout : Layout) → IsTold 8 layout → (t : ℕ) (l : List ℕ) → IsKLine layout t l → extraSaid l layout ≡ says t
-extra-reads layout i t l w = ap (λ x. extraSaid x layout) (w .text) ∙ extra-trip layout .here t (w .tail) (extra-limits layout i t (w .tail) .1 (w .time, w .columns))
+pub extra-reads : (layout : Layout) → IsTold family.K layout → (t : ℕ) (l : List ℕ) → IsKLine layout t l → extraSaid l layout ≡ says t
+unfolding goodExtra
+extra-reads layout i t l w =
+    ap (λ x. extraSaid x layout) (w .text) ∙ extra-trip layout .here t (w .tail) (limits family.K layout i (isTime t) (w .tail) .1 (w .time, w .columns))
 
-pub fix-read : (layout : Layout) → IsTold 36 layout → (f : Fix) (l : List ℕ) → fixSaid l layout ≡ says f → IsBLine layout f l
+pub fix-read : (layout : Layout) → IsTold family.B layout → (f : Fix) (l : List ℕ) → fixSaid l layout ≡ says f → IsBLine layout f l
+unfolding goodFix
 fix-read layout t f l e =
-    let g = fix-limits layout t f (drop 35 l) .0 (line-limits (fix-trip layout) l f e) in
+    let g = limits family.B layout t (goodFixFields f) (drop 35 l) .0 (line-limits (fix-trip layout) l f e) in
     record { tail = drop 35 l; text = fix-trip layout .there l f e; fields = g .0; columns = g .1 }
 
-pub extra-read : (layout : Layout) → IsTold 8 layout → (t : ℕ) (l : List ℕ) → extraSaid l layout ≡ says t → IsKLine layout t l
+pub extra-read : (layout : Layout) → IsTold family.K layout → (t : ℕ) (l : List ℕ) → extraSaid l layout ≡ says t → IsKLine layout t l
+unfolding goodExtra
 extra-read layout i t l e =
-    let g = extra-limits layout i t (drop 7 l) .0 (line-limits (extra-trip layout) l t e) in
+    let g = limits family.K layout i (isTime t) (drop 7 l) .0 (line-limits (extra-trip layout) l t e) in
     record { tail = drop 7 l; text = extra-trip layout .there l t e; time = g .0; columns = g .1 }
 
 pub head-reads : (h : Head) (l : List ℕ) → IsHeadLine h l → headSaid l ≡ says h
@@ -117,33 +123,42 @@ point-read p l e = (record { point = p; rest = drop 18 l; text = point-trip .the
 
 -- ---- a line as the check reads it
 
-pub b-there : (layout : Layout) (f : Fix) (l : List ℕ) → IsTold 36 layout → getD l 0 0 ≡ code "B" → bLine layout l ≡ says f → IsBLine layout f l
-unfolding fixSaid
-b-there layout f l t k e = fix-read layout t f l (rw (eq-eqb _ _ k, t .0) e)
+pub columned-letter : (f : Family) (layout : Layout) (t : ℕ) (l : List ℕ) → IsColumned f layout t l → getD l 0 0 ≡ lineLetter f
+unfolding fixText extraText
+columned-letter family.B layout t l w = ap (λ x. getD x 0 0) (w .2 .text)
+columned-letter family.K layout t l w = ap (λ x. getD x 0 0) (w .text)
 
-pub b-letter : (layout : Layout) (f : Fix) (l : List ℕ) → IsBLine layout f l → getD l 0 0 ≡ code "B"
-unfolding fixText
-b-letter layout f l w = ap (λ x. getD x 0 0) (w .text)
+pub columned-there : (f : Family) (layout : Layout) (t : ℕ) (l : List ℕ) → IsTold f layout → getD l 0 0 ≡ lineLetter f → columnedLine f layout l ≡ says t → IsColumned f layout t l
+unfolding columnedLine fixSaid extraSaid
+columned-there family.B layout t l i k e = let r = then-inv (bLine layout l) t _ e in (r .0, cc, fix-read layout i (r .0) l (rw (eq-eqb _ _ k, i .0) (r .1)))
+columned-there family.K layout t l i k e = extra-read layout i t l (rw (eq-eqb _ _ k, i .0) e)
 
-pub b-said : (layout : Layout) (f : Fix) (l : List ℕ) → IsTold 36 layout × IsBLine layout f l → (getD l 0 0 ≡ code "B") × (bLine layout l ≡ says f)
-unfolding fixSaid
-b-said layout f l w =
-    let a = need-inv (eqb (getD l 0 0) (code "B")) _ (says f) _ refuses-says (fix-reads layout (w .0) f l (w .1)) in
-    (eqb-true _ _ (a .0), need-inv (allowed 36 layout) _ (says f) _ refuses-says (a .1) .1)
+pub columned-said : (f : Family) (layout : Layout) (t : ℕ) (l : List ℕ) → IsTold f layout → IsColumned f layout t l → columnedLine f layout l ≡ says t
+unfolding columnedLine fixSaid extraSaid
+columned-said family.B layout t l i w =
+    let a = need-inv (eqb (getD l 0 0) (code "B")) _ (says (w .0)) _ refuses-says (fix-reads layout i (w .0) l (w .2)) in
+    rw (need-inv (allowed 36 layout) _ (says (w .0)) _ refuses-says (a .1) .1) (ap says (w .1))
+columned-said family.K layout t l i w =
+    let a = need-inv (eqb (getD l 0 0) (code "K")) _ (says t) _ refuses-says (extra-reads layout i t l w) in
+    need-inv (allowed 8 layout) _ (says t) _ refuses-says (a .1) .1
 
-pub k-there : (layout : Layout) (t : ℕ) (l : List ℕ) → IsTold 8 layout → getD l 0 0 ≡ code "K" → kLine layout l ≡ says t → IsKLine layout t l
-unfolding extraSaid
-k-there layout t l i k e = extra-read layout i t l (rw (eq-eqb _ _ k, i .0) e)
-
-pub k-letter : (layout : Layout) (t : ℕ) (l : List ℕ) → IsKLine layout t l → getD l 0 0 ≡ code "K"
-unfolding extraText
-k-letter layout t l w = ap (λ x. getD x 0 0) (w .text)
-
-pub k-said : (layout : Layout) (t : ℕ) (l : List ℕ) → IsTold 8 layout × IsKLine layout t l → (getD l 0 0 ≡ code "K") × (kLine layout l ≡ says t)
-unfolding extraSaid
-k-said layout t l w =
-    let a = need-inv (eqb (getD l 0 0) (code "K")) _ (says t) _ refuses-says (extra-reads layout (w .0) t l (w .1)) in
-    (eqb-true _ _ (a .0), need-inv (allowed 8 layout) _ (says t) _ refuses-says (a .1) .1)
+-- its time stands at 2 to 7
+pub columned-time : (f : Family) (layout : Layout) (t : ℕ) (l : List ℕ) → columnedLine f layout l ≡ says t → timeAt l 1 ≡ some t
+unfolding columnedLine bLine kLine
+columned-time family.B layout t l e =
+    let r = then-inv (bLine layout l) t _ e in
+    let s = then-inv (shapedBy 36 layout l) (r .0) _ (r .1) in
+    let x = then-inv (fixFields l) (r .0) _ (s .2) in
+    let c = then-inv (columns l layout) (r .0) _ (x .2) in
+    let i : x .0 ≡ r .0 = cc in
+    let j : r .0 .time ≡ t = cc in
+    fields-there l (r .0) (x .1 ∙ ap says i) .at-time ∙ ap some j
+columned-time family.K layout t l e =
+    let s = then-inv (shapedBy 8 layout l) t _ e in
+    let x = given-inv (timeAt l 1) _ (says t) _ refuses-says (s .2) in
+    let c = then-inv (columns l layout) t _ (x .2) in
+    let i : x .0 ≡ t = cc in
+    x .1 ∙ ap some i
 
 pub head-there : (h : Head) (l : List ℕ) → getD l 0 0 ≡ code "C" → headLine l ≡ says h → IsHeadLine h l
 unfolding headSaid

@@ -5,13 +5,14 @@ use Prim.Native.Char.{code}
 use mathlib.Core.Bool.{Bool, true, not, _&&_}
 use mathlib.Core.List.{List, [], _∷_, _++_, append-assoc}
 use mathlib.Core.Logic.{_⊎_, inl, inr}
-use mathlib.Core.Path.{_≡_, refl, _∙_, ap, subst}
+use mathlib.Core.Path.{_≡_, refl, sym, _∙_, ap, subst}
 use native.Mathlib.Omega.{arith}
 use borrow.Author.Tests.{eqb-false, not-true}
 use lib.Dec.{eqb, lit≤}
 use lib.IntN.{pos}
 use lib.ListN.{getD, drop}
 use Rattle.rules.specs.Choice.{bytes, Each}
+use Rattle.rules.specs.Families.{lineLetter, layoutLetter, layoutOf}
 use Rattle.rules.specs.Degrees.{isPosition}
 use Rattle.rules.specs.Layouts.{emptyLayout}
 use Rattle.rules.specs.Writes.{headText, pointText}
@@ -19,16 +20,20 @@ use Rattle.rules.specs.declared.Entry.{Entry}
 use Rattle.rules.specs.declared.Layout.{Layout}
 use Rattle.rules.specs.declared.Family.{Family}
 use Rattle.rules.specs.declared.Family.the-variants as family
+use Rattle.rules.specs.declared.Layouts.{Layouts}
 use Rattle.rules.specs.declared.Fix.{Fix}
+use Rattle.rules.specs.declared.Seal.{Seal}
+use Rattle.rules.specs.declared.Seal.the-variants as seal
 use Rattle.rules.proofs.Computed.{everything, fileOf}
 use Rattle.rules.proofs.Damaged.{fiveLines, fiveLayout}
 use Rattle.rules.specs.Limits.{isAltitude, goodFixFields}
 use Rattle.rules.proofs.Inverse.{and-inv}
 use Rattle.trips.proofs.Texts.{areValid}
-use Rattle.demands.specs.Grammar.{IsText, july, AtMostOne, absent, given, Timed, fix, event, satellites, extra, Untimed, differential, remark, other, Items, done, timed, untimed, Body, undeclared, declared, none, column, linesIn, Meets, written}
+use Rattle.demands.specs.Grammar.{IsText, july, AtMostOne, absent, given, Timed, columned, event, satellites, Untimed, differential, remark, other, Items, done, timed, untimed, Body, undeclared, declared, none, column, linesIn, Meets, joinLines}
 use Rattle.demands.proofs.Laws.{each-map, each-join, each-cut, are-valid}
 use Rattle.demands.proofs.Rows.{width-exactly, rule-exactly}
-use Rattle.demands.proofs.Valued.{b-letter, k-letter}
+use Rattle.demands.proofs.Letters.{every}
+use Rattle.demands.proofs.Valued.{columned-letter}
 
 -- ---- the file of five lines
 
@@ -61,8 +66,8 @@ theFix = record {
   gnss = record { metres = pos 120 };
 }
 
-pub five-meet : Meets fiveLines
-unfolding everything fileOf written isText areValid fxa siu theFix goodFixFields isPosition isAltitude
+pub five-meet : Meets seal.Strict fiveLines
+unfolding everything fileOf joinLines isText areValid fxa siu theFix goodFixFields isPosition isAltitude
 five-meet = record {
   least = lit≤ tt;
   most = lit≤ tt;
@@ -70,8 +75,7 @@ five-meet = record {
     recorder = bytes "AXYZ001";
     day = bytes "HFDTE150724";
     headers = [];
-    fixLayout = bytes "I023638FXA3940SIU" ∷ [];
-    extraLayout = [];
+    told = every (λ f. List (List ℕ)) (bytes "I023638FXA3940SIU" ∷ []) [];
     body = bytes "B1200005130000N00015000WA001000012001208" ∷ [];
     seal = bytes "GABC" ∷ [];
     remarks = [];
@@ -88,8 +92,7 @@ five-meet = record {
     ),
   );
   date = record { day = 15; month = 7; year = 2024 };
-  fixes = fiveLayout;
-  extras = emptyLayout;
+  layouts = record { b = fiveLayout; k = emptyLayout };
   times = 43200 ∷ [];
   keeps = record {
     recorder = record {
@@ -100,7 +103,7 @@ five-meet = record {
     };
     day = record { text = refl; day = record { from = lit≤ tt; to = lit≤ tt; days = 31; month = july; low = lit≤ tt; high = lit≤ tt } };
     headers = tt;
-    fixLayout = given (record {
+    told = every (λ f. AtMostOne f (layoutOf f (record { b = fiveLayout; k = emptyLayout })) (every (λ f. List (List ℕ)) (bytes "I023638FXA3940SIU" ∷ []) [] f)) (given (record {
       entries = fxa ∷ siu ∷ [];
       tiles = (
         record { starts = refl; ends = lit≤ tt; spelt = lit≤ tt; word = refl; wide = width-exactly 0x465841 3 .0 refl },
@@ -110,17 +113,20 @@ five-meet = record {
       text = refl;
       short = lit≤ tt;
       slots = refl;
-    });
-    extraLayout = absent;
-    body = undeclared (timed (fix theFix refl (record {
-      tail = bytes "01208";
-      text = refl;
-      fields = refl;
-      columns = column (bytes "012") refl (are-valid (bytes "012") refl) (rule-exactly 0x465841 (bytes "012") .0 refl)
-          (column (bytes "08") refl (are-valid (bytes "08") refl) (rule-exactly 0x534955 (bytes "08") .0 refl) none);
-    })) done);
+    })) absent;
+    body = undeclared (timed (columned family.B (
+      theFix,
+      refl,
+      record {
+        tail = bytes "01208";
+        text = refl;
+        fields = refl;
+        columns = column (bytes "012") refl (are-valid (bytes "012") refl) (rule-exactly 0x465841 (bytes "012") .0 refl)
+            (column (bytes "08") refl (are-valid (bytes "08") refl) (rule-exactly 0x534955 (bytes "08") .0 refl) none);
+      },
+    )) done);
     order = tt;
-    seal = (record { letter = refl; shape = record { long = lit≤ tt; short = lit≤ tt; valid = are-valid (bytes "GABC") refl } }, tt);
+    seals = (record { letter = refl; shape = record { long = lit≤ tt; short = lit≤ tt; valid = are-valid (bytes "GABC") refl } }, tt);
     sealed = lit≤ tt;
     remarks = tt;
   };
@@ -138,27 +144,25 @@ SealOrRemark l = (getD l 0 0 ≡ code "G") ⊎ (getD l 0 0 ≡ code "L")
 
 layout-no-g : (f : Family) {layout : Layout} {ls : List (List ℕ)} → AtMostOne f layout ls → Each NoG ls
 layout-no-g f absent = tt
-layout-no-g family.B (given w) = ((λ g. let e = ap (λ x. getD x 0 0) (w .text) in omega arith), tt)
-layout-no-g family.K (given w) = ((λ g. let e = ap (λ x. getD x 0 0) (w .text) in omega arith), tt)
+layout-no-g f (given w) = ((λ g. every (λ f. layoutLetter f ≡ code "G" → ⊥) (λ e. omega arith) (λ e. omega arith) f (sym (ap (λ x. getD x 0 0) (w .text)) ∙ g)), tt)
 
 untimed-no-g : (l : List ℕ) → Untimed l → NoG l
 untimed-no-g l (differential w) g = omega (arith, w .letter)
 untimed-no-g l (remark w) g = omega (arith, w .letter)
 untimed-no-g l (other w) g = omega (arith, w .from)
 
-module _ {fixes extras : Layout} where
-  timed-no-g : {t : ℕ} (l : List ℕ) → Timed fixes extras t l → NoG l
-  timed-no-g l (fix f i w) g = let e = b-letter fixes f l w in omega arith
+module _ {layouts : Layouts} where
+  timed-no-g : {t : ℕ} (l : List ℕ) → Timed layouts t l → NoG l
+  timed-no-g {t} l (columned f w) g = every (λ f. lineLetter f ≡ code "G" → ⊥) (λ e. omega arith) (λ e. omega arith) f (sym (columned-letter f (layoutOf f layouts) t l w) ∙ g)
   timed-no-g l (event w) g = let e = ap (λ x. getD x 0 0) (w .text) in omega arith
   timed-no-g l (satellites w) g = let e = ap (λ x. getD x 0 0) (w .text) in omega arith
-  timed-no-g {t} l (extra w) g = let e = k-letter extras t l w in omega arith
 
-  items-no-g : {ls : List (List ℕ)} {ts : List ℕ} → Items fixes extras ls ts → Each NoG ls
+  items-no-g : {ls : List (List ℕ)} {ts : List ℕ} → Items layouts ls ts → Each NoG ls
   items-no-g done = tt
   items-no-g (timed {l = l} w r) = (timed-no-g l w, items-no-g r)
   items-no-g (untimed {l = l} w r) = (untimed-no-g l w, items-no-g r)
 
-  body-no-g : {ls : List (List ℕ)} {ts : List ℕ} → Body fixes extras ls ts → Each NoG ls
+  body-no-g : {ls : List (List ℕ)} {ts : List ℕ} → Body layouts ls ts → Each NoG ls
   unfolding headText pointText
   body-no-g (undeclared i) = items-no-g i
   body-no-g (declared before hd points after h i no-b w ps c j) =
@@ -175,29 +179,29 @@ behind-front (l ∷ front) back [] g after n k e = absurd (n .0 (ap (λ x. getD 
 behind-front (l ∷ front) back (b ∷ before) g after n k e = behind-front front back before g after (n .1) k (ap (drop 1) e)
 
 -- behind a G line only G and L lines come
-after-g : {file : List ℕ} (m : Meets file) (before : List (List ℕ)) (g : List ℕ) (after : List (List ℕ)) → linesIn (m .parts) ≡ before ++ (g ∷ after)
+after-g : {seal : Seal} {file : List ℕ} (m : Meets seal file) (before : List (List ℕ)) (g : List ℕ) (after : List (List ℕ)) → linesIn (m .parts) ≡ before ++ (g ∷ after)
     → getD g 0 0 ≡ code "G" → Each SealOrRemark after
 after-g m before g after e k =
     let p = m .parts in
     let w = m .keeps in
-    let front : List (List ℕ) = p .recorder ∷ p .day ∷ (p .headers ++ (p .fixLayout ++ (p .extraLayout ++ p .body))) in
+    let front : List (List ℕ) = p .recorder ∷ p .day ∷ (p .headers ++ (p .told family.B ++ (p .told family.K ++ p .body))) in
     let back : List (List ℕ) = p .seal ++ p .remarks in
     let n : Each NoG front = (
       (λ z. omega (arith, w .recorder .letter)),
       (
         (λ z. let i = ap (λ x. getD x 0 0) (w .day .text) in omega arith),
         each-join NoG (p .headers) _ (each-map (p .headers) (λ l h z. omega (arith, h .letter)) (w .headers))
-            (each-join NoG (p .fixLayout) _ (layout-no-g family.B (w .fixLayout))
-            (each-join NoG (p .extraLayout) (p .body) (layout-no-g family.K (w .extraLayout)) (body-no-g (w .body)))),
+            (each-join NoG (p .told family.B) _ (layout-no-g family.B (w .told family.B))
+            (each-join NoG (p .told family.K) (p .body) (layout-no-g family.K (w .told family.K)) (body-no-g (w .body)))),
       ),
     ) in
     let i : front ++ back ≡ linesIn p = simp append-assoc in
     let s = behind-front front back before g after n k (i ∙ e) in
     let b : Each SealOrRemark back =
-    each-join SealOrRemark (p .seal) (p .remarks) (each-map (p .seal) (λ l h. inl (h .letter)) (w .seal)) (each-map (p .remarks) (λ l h. inr (h .letter)) (w .remarks)) in
+    each-join SealOrRemark (p .seal) (p .remarks) (each-map (p .seal) (λ l h. inl (h .letter)) (w .seals)) (each-map (p .remarks) (λ l h. inr (h .letter)) (w .remarks)) in
     each-cut SealOrRemark (s .0) (g ∷ after) (subst (Each SealOrRemark) (s .1) b) .1 .1
 
-pub no-b-after-g : {file : List ℕ} (m : Meets file) (before : List (List ℕ)) (g : List ℕ) (after : List (List ℕ)) → linesIn (m .parts) ≡ before ++ (g ∷ after)
+pub no-b-after-g : {seal : Seal} {file : List ℕ} (m : Meets seal file) (before : List (List ℕ)) (g : List ℕ) (after : List (List ℕ)) → linesIn (m .parts) ≡ before ++ (g ∷ after)
     → getD g 0 0 ≡ code "G" → Each (λ l. getD l 0 0 ≡ code "B" → ⊥) after
 no-b-after-g m before g after e k = each-map after no-b (after-g m before g after e k)
   where
