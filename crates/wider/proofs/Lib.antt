@@ -1,11 +1,3 @@
 pub mod Lists
 pub mod Placed
 pub mod OneLine
-pub mod Judged
-pub mod Changing
-pub mod Simulated
-pub mod Kept
-pub mod WholeFile
-pub mod Instances
-pub mod NotWider
-pub mod Demand
