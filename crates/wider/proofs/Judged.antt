@@ -1,0 +1,166 @@
+-- One line of a file against those before it, and the same place in a file with added columns: it passes there too, and leaves the states alike. Assumes nothing.
+use Prim.Native.Nat.{ℕ, _+_, _-_, _≤_, _<_}
+use mathlib.Core.Bool.{true, false, cond}
+use mathlib.Core.List.{List, [], _∷_}
+use mathlib.Core.Option.{none, some}
+use mathlib.Core.Path.{_≡_, refl, sym, ap, _∙_}
+use native.Mathlib.Omega.{arith}
+use borrow.Author.Tests.{le-leb, eqb-true}
+use lib.Dec.{eqb}
+use lib.ListN.{length, getD}
+use Rattle.rules.specs.Choice.{on}
+use Rattle.rules.specs.Families.{firstStart, lineLetter, layoutOf, withLayout}
+use Rattle.rules.specs.Refusals.{says}
+use Rattle.rules.specs.Lines.{kindOf, layoutLine, columnedLine}
+use Rattle.rules.specs.Roles.{isRole, isPlain, isDeclaring, sameFamily, isOf, stageAfter}
+use Rattle.rules.specs.Order.{fitsDeclaration, orderOf, moved, laidOut, judge}
+use Rattle.rules.specs.Reads.{layoutSaid}
+use Rattle.rules.specs.declared.Layout.{Layout}
+use Rattle.rules.specs.declared.Layouts.{Layouts}
+use Rattle.rules.specs.declared.Family.{Family}
+use Rattle.rules.specs.declared.Family.the-variants as family
+use Rattle.rules.specs.declared.Role.{Role}
+use Rattle.rules.specs.declared.Role.the-variants as role
+use Rattle.rules.specs.declared.Flight.{Flight}
+use Rattle.rules.specs.declared.State.{State}
+use Rattle.rules.proofs.Inverse.{none-some, refuses-says, false-true, need-inv, then-inv}
+use Rattle.laws.proofs.Passing.{leading-so, leading-inv, roleIn, Leaves, opens, date, header, layout, columned, head, point, event, satellites, differential, seals, remark, other, judged, judged-so}
+use Rattle.sound.proofs.Placed.{Sound}
+use Rattle.wider.specs.Wider.{WiderLine}
+use Rattle.wider.specs.Before.{saidOf, AsBefore}
+use Rattle.wider.proofs.Lists.{Pairs}
+use Rattle.wider.proofs.OneLine.{reading, says-same, as-before}
+
+-- ---- the state of the new file
+
+-- what is said of it: its own layouts, and its own count of lines
+abbrev pub wideFlight : Layouts → ℕ → Flight → Flight
+wideFlight new n f = record { date = f .date; layouts = new; lines = n; counts = f .counts }
+
+abbrev pub wide : Layouts → ℕ → State → State
+wide new n st = record { stage = st .stage; declared = st .declared; points = st .points; clock = st .clock; flight = wideFlight new n (st .flight) }
+
+-- ---- a line by its role
+
+known-long : (l : List ℕ) → isRole (roleIn l) ≡ true → 1 ≤ length l
+unfolding kindOf
+known-long [] h = absurd (false-true h)
+known-long (b ∷ l) h = omega arith
+
+-- the line l of the role r passes from st to after, in the part `stage`
+pub record Comes (r : Role) (l : List ℕ) (st after : State) : Type 0 where
+  pub stage : ℕ
+  pub order : orderOf r st ≡ some stage
+  pub left : Leaves l (moved stage st) r after
+
+pub came : (r : Role) (l : List ℕ) (st after : State) → roleIn l ≡ r → judge l st ≡ says after → Comes r l st after
+came r l st after q h = let j = judged l st after h in rw (← q) record { stage = j .stage; order = j .order; left = j .left }
+
+pub comes : (r : Role) (l : List ℕ) (st after : State) → roleIn l ≡ r → isRole r ≡ true → Comes r l st after → judge l st ≡ says after
+comes r l st after q k c =
+    judged-so l st after (record { long = known-long l (ap isRole q ∙ k); known = ap isRole q ∙ k; stage = c .stage; order = rw q (c .order); left = rw q (c .left) })
+
+-- and where it came, it could
+pub order-stage : (r : Role) (st : State) (stage : ℕ) → orderOf r st ≡ some stage → stageAfter r (st .stage) ≡ some stage
+unfolding orderOf
+order-stage r st stage h = need-inv (fitsDeclaration (isDeclaring r) st) none (some stage) _ none-some h .1
+
+-- ---- lines without columns
+
+-- it leaves the states alike, and is of no family
+abbrev Quiet : Layouts → ℕ → List ℕ → State → Role → State → Type 0
+Quiet new n l m r after =
+    Leaves l (wide new n m) r (wide new n after) × (after .flight .layouts ≡ m .flight .layouts) × ((g : Family) → isOf g r ≡ false)
+
+plain-left : (new : Layouts) (n : ℕ) {l : List ℕ} {m : State} {r : Role} {after : State} → isPlain r ≡ true → Leaves l m r after → Quiet new n l m r after
+plain-left new n p (opens e) = absurd (false-true p)
+plain-left new n p (date d z e) = absurd (false-true p)
+plain-left new n p (header z e) = absurd (false-true p)
+plain-left new n p (layout f i e) = absurd (false-true p)
+plain-left new n p (columned f t e o) = absurd (false-true p)
+plain-left new n p (head h z e) = (head h z e, refl, λ g. refl)
+plain-left new n p (point q z e) = (point q z e, refl, λ g. refl)
+plain-left new n p (event t e o) = (event t e o, refl, λ g. refl)
+plain-left new n p (satellites t e o) = (satellites t e o, refl, λ g. refl)
+plain-left new n p (differential e) = (differential e, refl, λ g. refl)
+plain-left new n p (seals e) = (seals e, refl, λ g. refl)
+plain-left new n p (remark e) = (remark e, refl, λ g. refl)
+plain-left new n p (other e) = (other e, refl, λ g. refl)
+
+-- the lines of a family, with the line t before them where it is one of them
+abbrev pub Paired : Layouts → Layouts → Family → List (List ℕ) → List (List ℕ) → Type 0
+Paired old new g = Pairs (AsBefore g (layoutOf g old) (layoutOf g new))
+
+abbrev pub with-line : Family → List ℕ → List (List ℕ) → List (List ℕ)
+with-line g t xs = cond (isOf g (roleIn t)) (t ∷ xs) xs
+
+-- the line t of the old file leaves the state `after`, and t′ of the new one the same with its own layouts and count; each reads as before, if it has columns
+pub record Stepped (old new : Layouts) (n : ℕ) (st after : State) (t t′ : List ℕ) : Type 0 where
+  pub judges : judge t′ (wide new n st) ≡ says (wide new (n + 1) after)
+  pub layouts : after .flight .layouts ≡ st .flight .layouts
+  pub pairs : (g : Family) (xs ys : List (List ℕ)) → Paired old new g xs ys → Paired old new g (with-line g t xs) (with-line g t′ ys)
+
+pub plain-step : (old new : Layouts) (n : ℕ) (t : List ℕ) (st after : State) → isPlain (roleIn t) ≡ true → judge t st ≡ says after → Stepped old new n st after t t
+unfolding orderOf fitsDeclaration
+plain-step old new n t st after p h =
+    let j = judged t st after h in
+    let q = plain-left new (n + 1) p (j .left) in
+    record {
+      judges = judged-so t _ _ (record { long = j .long; known = j .known; stage = j .stage; order = j .order; left = q .0 });
+      layouts = q .1;
+      pairs = λ g xs ys r. rw (q .2 g) r;
+    }
+
+-- ---- lines with columns
+
+pub columned-role : (f : Family) (l : List ℕ) → getD l 0 0 ≡ lineLetter f → roleIn l ≡ role.Columned f
+unfolding kindOf
+columned-role family.B l e = rw e
+columned-role family.K l e = rw e
+
+-- two families are one, or each has its own lines and its own layout
+pub data Beside (f : Family) : Family → Type 0 where
+  one : Beside f f
+  apart : {g : Family} → sameFamily g f ≡ false → ((l : Layout) (ls : Layouts) → layoutOf g (withLayout f l ls) ≡ layoutOf g ls) → Beside f g
+
+pub beside : (f g : Family) → Beside f g
+beside family.B family.B = one
+beside family.B family.K = apart refl (λ l ls. refl)
+beside family.K family.B = apart refl (λ l ls. refl)
+beside family.K family.K = one
+
+its-own : (f : Family) → sameFamily f f ≡ true
+its-own family.B = refl
+its-own family.K = refl
+
+module _ (f : Family) (old new : Layouts) (n : ℕ) (t t′ : List ℕ) (so : Sound (firstStart f) (layoutOf f old)) (so′ : Sound (firstStart f) (layoutOf f new))
+    (k : getD t 0 0 ≡ lineLetter f) (w : WiderLine (firstStart f) (layoutOf f old) (layoutOf f new) t t′) where
+  columned-left : (m after : State) → m .flight .layouts ≡ old → Leaves t m (role.Columned f) after
+      → Leaves t′ (wide new n m) (role.Columned f) (wide new n after) × (after .flight .layouts ≡ m .flight .layouts) × (getD t′ 0 0 ≡ lineLetter f)
+      × AsBefore f (layoutOf f old) (layoutOf f new) t t′
+  columned-left m after p (columned g x e o) =
+      let r = reading g in
+      let v = then-inv (saidOf g t (layoutOf g old)) x _ (sym (r .timed t (layoutOf g old) k (so .right)) ∙ rw (← p) e) in
+      let again = says-same g (layoutOf g old) (layoutOf g new) t t′ (v .0) so′ w (v .1) in
+      let k′ = r .begins t′ (layoutOf g new) (v .0) again in
+      let e′ : columnedLine g (layoutOf g new) t′ ≡ says x = r .timed t′ (layoutOf g new) k′ (so′ .right) ∙ rw again (v .2) in
+      (columned g x e′ o, refl, k′, as-before g (layoutOf g old) (layoutOf g new) t t′ (v .0) so′ w (v .1))
+
+  pairs-with : AsBefore f (layoutOf f old) (layoutOf f new) t t′ → (g : Family) → Beside f g → (xs ys : List (List ℕ)) → Paired old new g xs ys
+      → Paired old new g (cond (sameFamily g f) (t ∷ xs) xs) (cond (sameFamily g f) (t′ ∷ ys) ys)
+  pairs-with a g one xs ys r = rw (its-own g) (a, r)
+  pairs-with a g (apart q h) xs ys r = rw q r
+
+pub columned-step : (f : Family) (old new : Layouts) (n : ℕ) (t t′ : List ℕ) (st after : State) → Sound (firstStart f) (layoutOf f old)
+    → Sound (firstStart f) (layoutOf f new) → getD t 0 0 ≡ lineLetter f → WiderLine (firstStart f) (layoutOf f old) (layoutOf f new) t t′ → st .flight .layouts ≡ old
+    → judge t st ≡ says after → Stepped old new n st after t t′
+unfolding orderOf fitsDeclaration
+columned-step f old new n t t′ st after so so′ k w p h =
+    let c = came (role.Columned f) t st after (columned-role f t k) h in
+    let d = columned-left f old new (n + 1) t t′ so so′ k w (moved (c .stage) st) after p (c .left) in
+    let q′ = columned-role f t′ (d .2) in
+    record {
+      judges = comes (role.Columned f) t′ _ _ q′ refl (record { stage = c .stage; order = c .order; left = d .0 });
+      layouts = d .1;
+      pairs = λ g xs ys r. rw (columned-role f t k, q′) (pairs-with f old new (n + 1) t t′ so so′ k w (d .3) g (beside f g) xs ys r);
+    }
