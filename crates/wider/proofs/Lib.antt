@@ -3,3 +3,4 @@ pub mod Placed
 pub mod OneLine
 pub mod Judged
 pub mod Changing
+pub mod Simulated

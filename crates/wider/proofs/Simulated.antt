@@ -1,0 +1,229 @@
+-- The lines of a file with added columns pass one after the other, as the old lines did, and the lines of each family read as before. Assumes nothing.
+use Prim.Native.Nat.{ℕ, _+_, _≤_, _<_}
+use mathlib.Core.Bool.{true, false}
+use mathlib.Core.List.{List, [], _∷_}
+use mathlib.Core.Option.{none, some}
+use mathlib.Core.Path.{_≡_, refl, sym, ap, subst, _∙_}
+use native.Mathlib.Omega.{arith}
+use borrow.Author.Tests.{leb-true}
+use lib.Dec.{leb, eqb}
+use Rattle.rules.specs.Families.{firstStart, layoutOf, withLayout}
+use Rattle.rules.specs.Refusals.{says}
+use Rattle.rules.specs.Layouts.{emptyLayout}
+use Rattle.rules.specs.Roles.{isFront, isOf, atStart, afterA, afterH, afterLayout, inBody, stageAfter}
+use Rattle.rules.specs.Split.{Lines, end, broken, line}
+use Rattle.rules.specs.Order.{moved, laidOut, judge, start}
+use Rattle.rules.specs.Files.{endsAfter, finish, run}
+use Rattle.rules.specs.declared.Layout.{Layout}
+use Rattle.rules.specs.declared.Layouts.{Layouts}
+use Rattle.rules.specs.declared.Family.{Family}
+use Rattle.rules.specs.declared.Family.the-variants as family
+use Rattle.rules.specs.declared.Role.{Role}
+use Rattle.rules.specs.declared.Flight.{Flight}
+use Rattle.rules.specs.declared.Seal.{Seal}
+use Rattle.rules.specs.declared.State.{State}
+use Rattle.rules.proofs.Inverse.{refuses-says, false-true, need-inv}
+use Rattle.laws.proofs.Passing.{leading-inv, front-over, roleIn, Leaves, opens, date, header, layout, columned as has-columns, head, point, event, satellites, differential, seals, remark, other, judged, ran, ran-so}
+use Rattle.sound.proofs.Placed.{Sound, sound-line, sound-empty}
+use Rattle.wider.specs.Wider.{Extends, AfterLayouts, done, same, columned, LayoutLines, all, without, changed, put, families, noLayouts, Wider, front, from}
+use Rattle.wider.specs.Before.{linesOfFamily}
+use Rattle.wider.proofs.Judged.{wideFlight, wide, order-stage, Paired, plain-step, Beside, one, apart, beside, columned-role, columned-step}
+use Rattle.wider.proofs.Changing.{told-role, told-after, told-passes, staged, Behind, columned-behind, tells-behind, plain-behind, behind-front, judged-alike, sealed-alike}
+
+-- ---- what is shown of the lines ls′ of the new file, from its state on, where those of the old one are ls and say f
+
+pub record Passed (seal : Seal) (st : State) (ls ls′ : Lines) (f : Flight) (old new : Layouts) : Type 0 where
+  pub lines : ℕ
+  pub runs : run seal none st ls′ ≡ says (wideFlight new lines f)
+  pub told : f .layouts ≡ old
+  pub pairs : (g : Family) → Paired old new g (linesOfFamily g ls) (linesOfFamily g ls′)
+
+-- with a line t′ before the new ones
+before-line : {seal : Seal} {st after : State} {ls ls′ : Lines} {f : Flight} {old new : Layouts} (ms : Lines) (t′ : List ℕ) → judge t′ st ≡ says after
+    → (r : Passed seal after ls ls′ f old new)
+    → ((g : Family) → Paired old new g (linesOfFamily g ls) (linesOfFamily g ls′) → Paired old new g (linesOfFamily g ms) (linesOfFamily g (line t′ ls′)))
+    → Passed seal st ms (line t′ ls′) f old new
+before-line {seal = seal} {st = st} {after = after} {ls′ = ls′} ms t′ j r p = record {
+  lines = r .lines;
+  runs = ran-so seal none st t′ ls′ _ (record { after = after; judges = j; fits = refl; runs = r .runs });
+  told = r .told;
+  pairs = λ g. p g (r .pairs g);
+}
+
+-- ---- after the layout lines
+
+-- the layouts of each family
+abbrev Fit : Family → Layout → Layout → Type 0
+Fit g i i′ = Sound (firstStart g) i × Sound (firstStart g) i′ × Extends i i′
+
+abbrev pub Fine : Layouts → Layouts → Type 0
+Fine old new = (g : Family) → Fit g (layoutOf g old) (layoutOf g new)
+
+module _ (seal : Seal) (f : Flight) where
+  at-end : (old new : Layouts) (st : State) (n : ℕ) → st .flight .layouts ≡ old → run seal none st end ≡ says f → Passed seal (wide new n st) end end f old new
+  unfolding run finish
+  at-end old new st n p h =
+      let w = need-inv (eqb (st .points) 0) _ (says f) _ refuses-says h in
+      let v = need-inv (leb (endsAfter seal) (st .stage)) _ (says f) _ refuses-says (w .1) in
+      let e : st .flight ≡ f = cc in
+      record { lines = n; runs = rw (w .0, v .0, ← e); told = rw (← e) p; pairs = λ g. tt }
+
+  body : {old new : Layouts} {ls ls′ : Lines} → Fine old new → AfterLayouts old new ls ls′ → (st : State) (n : ℕ) → st .flight .layouts ≡ old → run seal none st ls ≡ says f
+      → Passed seal (wide new n st) ls ls′ f old new
+  body {old = old} {new = new} fi done st n p h = at-end old new st n p h
+  body {old = old} {new = new} fi (same {t = t} {ls = ls} x b) st n p h =
+      let u = ran seal none st t ls f h in
+      let d = plain-step old new n t st (u .after) x (u .judges) in
+      before-line (line t ls) t (d .judges) (body fi b (u .after) (n + 1) (d .layouts ∙ p) (u .runs)) (λ g. d .pairs g _ _)
+  body {old = old} {new = new} fi (columned {t = t} {t′ = t′} {ls = ls} g k w b) st n p h =
+      let u = ran seal none st t ls f h in
+      let d = columned-step g old new n t t′ st (u .after) (fi g .0) (fi g .1) k w p (u .judges) in
+      before-line (line t ls) t′ (d .judges) (body fi b (u .after) (n + 1) (d .layouts ∙ p) (u .runs)) (λ g. d .pairs g _ _)
+
+-- ---- behind the part `low`: the end, or a line that comes only behind the front
+
+abbrev Begins : ℕ → Lines → Type 0
+Begins low end = Unit {0}
+Begins low (broken n) = Unit {0}
+Begins low (line t ls) = Behind low (roleIn t)
+
+module _ (seal : Seal) (low : ℕ) (st : State) (early : st .stage ≤ low) where
+  over : (ls : Lines) (f : Flight) → Begins low ls → run seal none st ls ≡ says f → afterH ≤ st .stage
+  unfolding run finish
+  over end f b h =
+      let w = need-inv (eqb (st .points) 0) _ (says f) _ refuses-says h in
+      let v = need-inv (leb (endsAfter seal) (st .stage)) _ (says f) _ refuses-says (w .1) in
+      omega (arith, front-over seal, leb-true (endsAfter seal) (st .stage) (v .0))
+  over (broken n) f b h = absurd (refuses-says h)
+  over (line t ls) f b h = let u = ran seal none st t ls f h in behind-front low t b st early (u .after) (u .judges)
+
+  run-alike : (ls : Lines) (s : ℕ) → Begins low ls → low < inBody → s ≤ low → afterH ≤ s → afterH ≤ st .stage → run seal none (staged s st) ls ≡ run seal none st ls
+  unfolding run finish
+  run-alike end s b i e a a′ = rw (sealed-alike seal (st .stage) s a′ (omega arith) a (omega arith))
+  run-alike (broken n) s b i e a a′ = refl
+  run-alike (line t ls) s b i e a a′ = rw (judged-alike low t b st early s e a a′)
+
+-- ---- the layout lines
+
+-- the families in the order of their layout lines, all of them behind the part `low`
+abbrev Ordered : ℕ → List Family → Type 0
+Ordered low [] = low < inBody
+Ordered low (f ∷ fs) = (low < afterLayout f) × Ordered (afterLayout f) fs
+
+ordered-from : (low low′ : ℕ) (fs : List Family) → low ≤ low′ → Ordered low′ fs → Ordered low fs
+ordered-from low low′ [] h o = omega arith
+ordered-from low low′ (f ∷ fs) h o = (omega (arith, o .0), o .1)
+
+in-body : (low : ℕ) (fs : List Family) → Ordered low fs → low < inBody
+in-body low [] o = o
+in-body low (f ∷ fs) o = omega (arith, o .0, in-body (afterLayout f) fs (o .1))
+
+-- so begin the lines from there on
+begins : {fs : List Family} {old new : Layouts} {ls ls′ : Lines} (low : ℕ) → LayoutLines fs old new ls ls′ → Ordered low fs → Begins low ls
+begins low (all done) o = tt
+begins low (all (same {t = t} x b)) o = plain-behind low (roleIn t) x o
+begins low (all (columned {t = t} f k w b)) o = rw (columned-role f t k) (columned-behind low f o)
+begins low (without {f = f} {fs = fs} r) o = begins low r (ordered-from low (afterLayout f) fs (omega (arith, o .0)) (o .1))
+begins low (changed {f = f} {t = t} {i = i} e e′ x r) o = rw (told-role f t i e) (tells-behind low f (o .0))
+begins low (put {f = f} {fs = fs} e′ r) o = begins low r (ordered-from low (afterLayout f) fs (omega (arith, o .0)) (o .1))
+
+own-layout : (f : Family) (i : Layout) (ls : Layouts) → layoutOf f (withLayout f i ls) ≡ i
+own-layout family.B i ls = refl
+own-layout family.K i ls = refl
+
+with-own : (f : Family) (ls : Layouts) → withLayout f (layoutOf f ls) ls ≡ ls
+with-own family.B ls = refl
+with-own family.K ls = refl
+
+fine-with : (f : Family) (i i′ : Layout) (old new : Layouts) → Fit f i i′ → Fine old new → Fine (withLayout f i old) (withLayout f i′ new)
+fine-with f i i′ old new x fi g = by g (beside f g)
+  where
+    by : (g : Family) → Beside f g → Fit g (layoutOf g (withLayout f i old)) (layoutOf g (withLayout f i′ new))
+    by g one = rw (own-layout g i old, own-layout g i′ new) x
+    by g (apart q h) = rw (h i old, h i′ new) (fi g)
+
+-- no layout is told yet behind the part `low`
+abbrev Later : ℕ → Layouts → Type 0
+Later low ls = (g : Family) → low < afterLayout g → layoutOf g ls ≡ emptyLayout
+
+later-with : (low : ℕ) (f : Family) (i : Layout) (ls : Layouts) → low < afterLayout f → Later low ls → Later (afterLayout f) (withLayout f i ls)
+later-with low f i ls h la g p = by g (beside f g) p
+  where
+    by : (g : Family) → Beside f g → afterLayout f < afterLayout g → layoutOf g (withLayout f i ls) ≡ emptyLayout
+    by g one p = absurd (omega arith)
+    by g (apart q k) p = k i ls ∙ la g (omega arith)
+
+abbrev pub Went : Seal → State → Lines → Lines → Flight → Type 0
+Went seal st ls ls′ f = (old new : Layouts) × Fine old new × Passed seal st ls ls′ f old new
+
+module _ (seal : Seal) (f : Flight) where
+  layouts-went : {fs : List Family} {old new : Layouts} {ls ls′ : Lines} (low : ℕ) → LayoutLines fs old new ls ls′ → Ordered low fs → Later low old → Fine old new
+      → (st : State) (n : ℕ) → st .flight .layouts ≡ old → st .points ≡ 0 → afterH ≤ st .stage → st .stage ≤ low → run seal none st ls ≡ says f
+      → Went seal (wide new n st) ls ls′ f
+  layouts-went {old = old} {new = new} low (all b) o la fi st n p z a c h = (old, new, fi, body seal f fi b st n p h)
+  layouts-went low (without {f = g} r) o la fi st n p z a c h =
+      layouts-went (afterLayout g) r (o .1) (λ q k. la q (omega (arith, o .0))) fi st n p z a (omega (arith, o .0)) h
+  layouts-went {old = old} {new = new} low (changed {f = g} {t = t} {t′ = t′} {i = i} {i′ = i′} {ls = ls} e e′ x r) o la fi st n p z a c h =
+      let u = ran seal none st t ls f h in
+      let m = told-after g t i e st (u .after) (u .judges) in
+      let w = layouts-went (afterLayout g) r (o .1) (later-with low g i old (o .0) la) (fine-with g i i′ old new (sound-line g t i e, sound-line g t′ i′ e′, x) fi)
+      (laidOut g i (moved (afterLayout g) st)) (n + 1) (ap (withLayout g i) p) z (omega (arith, o .0)) (omega arith) (rw m (u .runs)) in
+      let j = told-passes g t′ i′ e′ (wide new n st) z a (omega (arith, o .0)) in
+      (w .0, w .1, w .2, before-line (line t ls) t′ j (w .3) (λ q y. rw (told-role g t i e, told-role g t′ i′ e′) y))
+  layouts-went {old = old} {new = new} low (put {f = g} {fs = fs} {t′ = t′} {i′ = i′} {ls = ls} e′ r) o la fi st n p z a c h =
+      let s = afterLayout g in
+      let q : withLayout g emptyLayout old ≡ old = ap (λ y. withLayout g y old) (sym (la g (omega (arith, o .0)))) ∙ with-own g old in
+      let fi′ = rw q at (fine-with g emptyLayout i′ old new (sound-empty (firstStart g), sound-line g t′ i′ e′, tt) fi) in
+      let same-run = run-alike seal s st (omega (arith, o .0)) ls s (begins s r (o .1)) (in-body s fs (o .1)) (omega arith) (omega (arith, o .0)) a in
+      let w = layouts-went s r (o .1) (λ q k. la q (omega (arith, o .0))) fi′ (staged s st) (n + 1) p z (omega (arith, o .0)) (omega arith) (same-run ∙ h) in
+      let j = told-passes g t′ i′ e′ (wide new n st) z a (omega (arith, o .0)) in
+      (w .0, w .1, w .2, before-line ls t′ j (w .3) (λ q y. rw (told-role g t′ i′ e′) y))
+
+-- ---- the A line and the H lines
+
+record Early (st : State) : Type 0 where
+  stage : st .stage ≤ afterH
+  points : st .points ≡ 0
+  layouts : st .flight .layouts ≡ noLayouts
+
+early-left : (st : State) (s : ℕ) {l : List ℕ} {r : Role} {after : State} → Early st → isFront r ≡ true → stageAfter r (st .stage) ≡ some s → Leaves l (moved s st) r after
+    → Early after × ((g : Family) → isOf g r ≡ false)
+unfolding stageAfter
+early-left st s y x o (opens e) = (record { stage = omega (arith, leading-inv atStart atStart afterA (st .stage) s o .2); points = y .points; layouts = y .layouts }, λ g. refl)
+early-left st s y x o (date d z e) = (record { stage = omega (arith, leading-inv afterA afterH afterH (st .stage) s o .2); points = y .points; layouts = y .layouts }, λ g. refl)
+early-left st s y x o (header z e) = (record { stage = omega (arith, leading-inv afterA afterH afterH (st .stage) s o .2); points = y .points; layouts = y .layouts }, λ g. refl)
+early-left st s y x o (layout f i e) = absurd (false-true x)
+early-left st s y x o (has-columns f t e w) = absurd (false-true x)
+early-left st s y x o (head h z e) = absurd (false-true x)
+early-left st s y x o (point p z e) = absurd (false-true x)
+early-left st s y x o (event t e w) = absurd (false-true x)
+early-left st s y x o (satellites t e w) = absurd (false-true x)
+early-left st s y x o (differential e) = absurd (false-true x)
+early-left st s y x o (seals e) = absurd (false-true x)
+early-left st s y x o (remark e) = absurd (false-true x)
+early-left st s y x o (other e) = absurd (false-true x)
+
+none-yet : (g : Family) → layoutOf g noLayouts ≡ emptyLayout
+none-yet family.B = refl
+none-yet family.K = refl
+
+none-fine : Fine noLayouts noLayouts
+none-fine g = rw (none-yet g) (sound-empty (firstStart g), sound-empty (firstStart g), tt)
+
+module _ (seal : Seal) (f : Flight) where
+  went : {ls ls′ : Lines} → Wider ls ls′ → (st : State) → Early st → run seal none st ls ≡ says f → Went seal st ls ls′ f
+  went (from {ls = ls} {ls′ = ls′} r) st y h =
+      let o : Ordered afterH families = (omega arith, (omega arith, omega arith)) in
+      let a = over seal afterH st (y .stage) ls f (begins afterH r o) h in
+      let w = layouts-went seal f afterH r o (λ g p. none-yet g) none-fine st (st .flight .lines) (y .layouts) (y .points) a (y .stage) h in
+      subst (λ x. Went seal (wide x (st .flight .lines) st) ls ls′ f) (sym (y .layouts)) w
+  went (front {t = t} {ls = ls} x w) st y h =
+      let u = ran seal none st t ls f h in
+      let j = judged t st (u .after) (u .judges) in
+      let n = early-left st (j .stage) y x (order-stage (roleIn t) st (j .stage) (j .order)) (j .left) in
+      let r = went w (u .after) (n .0) (u .runs) in
+      (r .0, r .1, r .2, before-line (line t ls) t (u .judges) (r .3) (λ g p. rw (n .1 g) p))
+
+  -- from the first line on
+  pub lines-went : {ls ls′ : Lines} → Wider ls ls′ → run seal none start ls ≡ says f → Went seal start ls ls′ f
+  lines-went w h = went w start (record { stage = omega arith; points = refl; layouts = refl }) h
