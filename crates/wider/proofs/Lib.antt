@@ -4,3 +4,8 @@ pub mod OneLine
 pub mod Judged
 pub mod Changing
 pub mod Simulated
+pub mod Kept
+pub mod WholeFile
+pub mod Instances
+pub mod NotWider
+pub mod Demand

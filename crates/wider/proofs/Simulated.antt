@@ -82,20 +82,20 @@ module _ (seal : Seal) (f : Flight) where
 
 -- ---- behind the part `low`: the end, or a line that comes only behind the front
 
-abbrev Begins : ℕ → Lines → Type 0
+abbrev pub Begins : ℕ → Lines → Type 0
 Begins low end = Unit {0}
 Begins low (broken n) = Unit {0}
 Begins low (line t ls) = Behind low (roleIn t)
 
 module _ (seal : Seal) (low : ℕ) (st : State) (early : st .stage ≤ low) where
-  over : (ls : Lines) (f : Flight) → Begins low ls → run seal none st ls ≡ says f → afterH ≤ st .stage
+  pub front-behind : (ls : Lines) (f : Flight) → Begins low ls → run seal none st ls ≡ says f → afterH ≤ st .stage
   unfolding run finish
-  over end f b h =
+  front-behind end f b h =
       let w = need-inv (eqb (st .points) 0) _ (says f) _ refuses-says h in
       let v = need-inv (leb (endsAfter seal) (st .stage)) _ (says f) _ refuses-says (w .1) in
       omega (arith, front-over seal, leb-true (endsAfter seal) (st .stage) (v .0))
-  over (broken n) f b h = absurd (refuses-says h)
-  over (line t ls) f b h = let u = ran seal none st t ls f h in behind-front low t b st early (u .after) (u .judges)
+  front-behind (broken n) f b h = absurd (refuses-says h)
+  front-behind (line t ls) f b h = let u = ran seal none st t ls f h in behind-front low t b st early (u .after) (u .judges)
 
   run-alike : (ls : Lines) (s : ℕ) → Begins low ls → low < inBody → s ≤ low → afterH ≤ s → afterH ≤ st .stage → run seal none (staged s st) ls ≡ run seal none st ls
   unfolding run finish
@@ -169,7 +169,7 @@ module _ (seal : Seal) (f : Flight) where
       let w = layouts-went (afterLayout g) r (o .1) (later-with low g i old (o .0) la) (fine-with g i i′ old new (sound-line g t i e, sound-line g t′ i′ e′, x) fi)
       (laidOut g i (moved (afterLayout g) st)) (n + 1) (ap (withLayout g i) p) z (omega (arith, o .0)) (omega arith) (rw m (u .runs)) in
       let j = told-passes g t′ i′ e′ (wide new n st) z a (omega (arith, o .0)) in
-      (w .0, w .1, w .2, before-line (line t ls) t′ j (w .3) (λ q y. rw (told-role g t i e, told-role g t′ i′ e′) y))
+      (w .0, w .1, w .2, before-line {old = w .0} {new = w .1} (line t ls) t′ j (w .3) (λ q y. rw (told-role g t i e, told-role g t′ i′ e′) y))
   layouts-went {old = old} {new = new} low (put {f = g} {fs = fs} {t′ = t′} {i′ = i′} {ls = ls} e′ r) o la fi st n p z a c h =
       let s = afterLayout g in
       let q : withLayout g emptyLayout old ≡ old = ap (λ y. withLayout g y old) (sym (la g (omega (arith, o .0)))) ∙ with-own g old in
@@ -177,7 +177,7 @@ module _ (seal : Seal) (f : Flight) where
       let same-run = run-alike seal s st (omega (arith, o .0)) ls s (begins s r (o .1)) (in-body s fs (o .1)) (omega arith) (omega (arith, o .0)) a in
       let w = layouts-went s r (o .1) (λ q k. la q (omega (arith, o .0))) fi′ (staged s st) (n + 1) p z (omega (arith, o .0)) (omega arith) (same-run ∙ h) in
       let j = told-passes g t′ i′ e′ (wide new n st) z a (omega (arith, o .0)) in
-      (w .0, w .1, w .2, before-line ls t′ j (w .3) (λ q y. rw (told-role g t′ i′ e′) y))
+      (w .0, w .1, w .2, before-line {old = w .0} {new = w .1} ls t′ j (w .3) (λ q y. rw (told-role g t′ i′ e′) y))
 
 -- ---- the A line and the H lines
 
@@ -214,7 +214,7 @@ module _ (seal : Seal) (f : Flight) where
   went : {ls ls′ : Lines} → Wider ls ls′ → (st : State) → Early st → run seal none st ls ≡ says f → Went seal st ls ls′ f
   went (from {ls = ls} {ls′ = ls′} r) st y h =
       let o : Ordered afterH families = (omega arith, (omega arith, omega arith)) in
-      let a = over seal afterH st (y .stage) ls f (begins afterH r o) h in
+      let a = front-behind seal afterH st (y .stage) ls f (begins afterH r o) h in
       let w = layouts-went seal f afterH r o (λ g p. none-yet g) none-fine st (st .flight .lines) (y .layouts) (y .points) a (y .stage) h in
       subst (λ x. Went seal (wide x (st .flight .lines) st) ls ls′ f) (sym (y .layouts)) w
   went (front {t = t} {ls = ls} x w) st y h =
@@ -222,7 +222,7 @@ module _ (seal : Seal) (f : Flight) where
       let j = judged t st (u .after) (u .judges) in
       let n = early-left st (j .stage) y x (order-stage (roleIn t) st (j .stage) (j .order)) (j .left) in
       let r = went w (u .after) (n .0) (u .runs) in
-      (r .0, r .1, r .2, before-line (line t ls) t (u .judges) (r .3) (λ g p. rw (n .1 g) p))
+      (r .0, r .1, r .2, before-line {old = r .0} {new = r .1} (line t ls) t (u .judges) (r .3) (λ g p. rw (n .1 g) p))
 
   -- from the first line on
   pub lines-went : {ls ls′ : Lines} → Wider ls ls′ → run seal none start ls ≡ says f → Went seal start ls ls′ f

@@ -1,0 +1,127 @@
+-- Worked files with added columns, each computed: they show that such files are there, and of every sort. Assumes nothing.
+use Prim.Native.Nat.{ℕ}
+use Prim.Native.String.{String}
+use mathlib.Core.Bool.{true, false}
+use mathlib.Core.List.{List, [], _∷_}
+use mathlib.Core.Path.{_≡_, refl}
+use Rattle.rules.specs.Choice.{bytes}
+use Rattle.rules.specs.Refusals.{says, valueOr}
+use Rattle.rules.specs.Chars.{characters}
+use Rattle.rules.specs.Listed.{keepsRule}
+use Rattle.rules.specs.Layouts.{emptyLayout}
+use Rattle.rules.specs.Reads.{layoutSaid}
+use Rattle.rules.specs.declared.Layout.{Layout}
+use Rattle.rules.specs.declared.Layouts.{Layouts}
+use Rattle.rules.specs.declared.Family.{Family}
+use Rattle.rules.specs.declared.Family.the-variants as family
+use Rattle.rules.proofs.Computed.{everything, fileOf}
+use Rattle.rules.proofs.Damaged.{fiveLines}
+use Rattle.wider.specs.Wider.{widthIn, textIn, KeepsRules, done, same, columned, all, without, changed, put, noLayouts, front, from, WiderFile}
+use Rattle.wider.specs.Before.{putIn}
+
+-- the layout that a line tells, the empty one where it tells none; and the layouts that an I line and a J line tell
+unfoldable pub told : Family → String → Layout
+told f l = valueOr emptyLayout (layoutSaid f (bytes l))
+
+abbrev laid : String → String → Layouts
+laid i j = record { b = told family.B i; k = told family.K j }
+
+-- the text of a column keeps the rules, whether the column is an added one or not
+fit : {x : ℕ} {text : List ℕ} {A : Type 0} → characters false text ≡ says tt → keepsRule x text ≡ true → A → KeepsRules x text
+fit v r h = record { valid = v; rule = r }
+
+-- ENL put between FXA and SIU of document 01's file of five lines
+abbrev pub enlBetween : List ℕ
+unfolding fileOf
+enlBetween = fileOf ("AXYZ001" ∷ "HFDTE150724" ∷ "I033638FXA3941ENL4243SIU" ∷ "B1200005130000N00015000WA001000012001234508" ∷ "GABC" ∷ [])
+
+pub between : WiderFile fiveLines enlBetween
+unfolding everything fileOf widthIn textIn told
+between =
+    front refl (front refl (from (changed {i = told family.B "I023638FXA3940SIU"} {i′ = told family.B "I033638FXA3941ENL4243SIU"} refl refl (refl, (refl, tt)) (without
+    (all {old = laid "I023638FXA3940SIU" ""} {new = laid "I033638FXA3941ENL4243SIU" ""}
+    (columned family.B refl (record { fields = refl; long = refl; kept = (refl, (refl, tt)); added = (fit refl refl, (fit refl refl, (fit refl refl, tt))) })
+    (same refl done)))))))
+
+-- an unlisted code put before FXA, and the old columns in the other order
+abbrev pub othersMoved : List ℕ
+unfolding fileOf
+othersMoved = fileOf ("AXYZ001" ∷ "HFDTE150724" ∷ "I033637ZZZ3839SIU4042FXA" ∷ "B1200005130000N00015000WA0010000120X-08012" ∷ "GABC" ∷ [])
+
+pub before-and-moved : WiderFile fiveLines othersMoved
+unfolding everything fileOf widthIn textIn told
+before-and-moved =
+    front refl (front refl (from (changed {i = told family.B "I023638FXA3940SIU"} {i′ = told family.B "I033637ZZZ3839SIU4042FXA"} refl refl (refl, (refl, tt)) (without
+    (all {old = laid "I023638FXA3940SIU" ""} {new = laid "I033637ZZZ3839SIU4042FXA" ""}
+    (columned family.B refl (record { fields = refl; long = refl; kept = (refl, (refl, tt)); added = (fit refl refl, (fit refl refl, (fit refl refl, tt))) })
+    (same refl done)))))))
+
+abbrev pub noColumns : List ℕ
+unfolding fileOf
+noColumns = fileOf ("AXYZ001" ∷ "HFDTE150724" ∷ "HFPLTPILOT" ∷ "B1200005130000N00015000WA0010000120" ∷ "K120004" ∷ "E120005PEV" ∷ "B1200055130000N00015000WA0010000120" ∷ "GABC" ∷ [])
+
+-- an I line put into a file that had none, after the last H line
+abbrev pub withI : List ℕ
+unfolding fileOf
+withI = fileOf ("AXYZ001" ∷ "HFDTE150724" ∷ "HFPLTPILOT" ∷ "I013638ENL" ∷ "B1200005130000N00015000WA0010000120345" ∷ "K120004" ∷ "E120005PEV" ∷ "B1200055130000N00015000WA0010000120999" ∷ "GABC" ∷ [])
+
+pub put-i : WiderFile noColumns withI
+unfolding everything fileOf widthIn textIn told
+put-i =
+    front refl (front refl (front refl (from (put {i′ = told family.B "I013638ENL"} refl (without
+    (all {old = noLayouts} {new = laid "I013638ENL" ""}
+    (columned family.B refl (record { fields = refl; long = refl; kept = tt; added = (fit refl refl, tt) })
+    (columned family.K refl (record { fields = refl; long = refl; kept = tt; added = tt }) (same refl
+    (columned family.B refl (record { fields = refl; long = refl; kept = tt; added = (fit refl refl, tt) }) (same refl done)))))))))))
+
+-- a K column added where there was no J line: it is put in after the last H line
+abbrev pub withJ : List ℕ
+unfolding fileOf
+withJ = fileOf ("AXYZ001" ∷ "HFDTE150724" ∷ "HFPLTPILOT" ∷ "J010810HDT" ∷ "B1200005130000N00015000WA0010000120" ∷ "K120004270" ∷ "E120005PEV" ∷ "B1200055130000N00015000WA0010000120" ∷ "GABC" ∷ [])
+
+pub put-j : WiderFile noColumns withJ
+unfolding everything fileOf widthIn textIn told
+put-j =
+    front refl (front refl (front refl (from (without (put {i′ = told family.K "J010810HDT"} refl
+    (all {old = noLayouts} {new = laid "" "J010810HDT"}
+    (columned family.B refl (record { fields = refl; long = refl; kept = tt; added = tt })
+    (columned family.K refl (record { fields = refl; long = refl; kept = tt; added = (fit refl refl, tt) }) (same refl
+    (columned family.B refl (record { fields = refl; long = refl; kept = tt; added = tt }) (same refl done)))))))))))
+
+-- both put in
+abbrev pub withBoth : List ℕ
+unfolding fileOf
+withBoth = fileOf ("AXYZ001" ∷ "HFDTE150724" ∷ "HFPLTPILOT" ∷ "I013638ENL" ∷ "J010810HDT" ∷ "B1200005130000N00015000WA0010000120345" ∷ "K120004270" ∷ "E120005PEV" ∷ "B1200055130000N00015000WA0010000120999" ∷ "GABC" ∷ [])
+
+pub put-both : WiderFile noColumns withBoth
+unfolding everything fileOf widthIn textIn told
+put-both =
+    front refl (front refl (front refl (from (put {i′ = told family.B "I013638ENL"} refl (put {i′ = told family.K "J010810HDT"} refl
+    (all {old = noLayouts} {new = laid "I013638ENL" "J010810HDT"}
+    (columned family.B refl (record { fields = refl; long = refl; kept = tt; added = (fit refl refl, tt) })
+    (columned family.K refl (record { fields = refl; long = refl; kept = tt; added = (fit refl refl, tt) }) (same refl
+    (columned family.B refl (record { fields = refl; long = refl; kept = tt; added = (fit refl refl, tt) }) (same refl done)))))))))))
+
+abbrev pub bothLines : List ℕ
+unfolding fileOf
+bothLines = fileOf ("AXYZ001" ∷ "HFDTE150724" ∷ "I00" ∷ "J010808TDS" ∷ "B1200005130000N00015000WA0010000120" ∷ "K1200047" ∷ "GABC" ∷ [])
+
+-- I00 replaced, and a column put before the one of the K lines
+abbrev pub bothWidened : List ℕ
+unfolding fileOf
+bothWidened = fileOf ("AXYZ001" ∷ "HFDTE150724" ∷ "I023639DAE4040ZZZ" ∷ "J020810HDT1111TDS" ∷ "B1200005130000N00015000WA0010000120-012:" ∷ "K1200042707" ∷ "GABC" ∷ [])
+
+pub both : WiderFile bothLines bothWidened
+unfolding everything fileOf widthIn textIn told
+both =
+    front refl (front refl (from (changed {i = emptyLayout} {i′ = told family.B "I023639DAE4040ZZZ"} refl refl tt
+    (changed {i = told family.K "J010808TDS"} {i′ = told family.K "J020810HDT1111TDS"} refl refl (refl, tt)
+    (all {old = laid "I00" "J010808TDS"} {new = laid "I023639DAE4040ZZZ" "J020810HDT1111TDS"}
+    (columned family.B refl (record { fields = refl; long = refl; kept = tt; added = (fit refl refl, (fit refl refl, tt)) })
+    (columned family.K refl (record { fields = refl; long = refl; kept = (refl, tt); added = (fit refl refl, (fit refl refl, tt)) })
+    (same refl done))))))))
+
+-- how many lines were put in
+pub put-in : (putIn between ≡ 0) × (putIn put-i ≡ 1) × (putIn put-j ≡ 1) × (putIn put-both ≡ 2) × (putIn both ≡ 0)
+unfolding between put-i put-j put-both both
+put-in = (refl, refl, refl, refl, refl)

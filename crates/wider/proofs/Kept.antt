@@ -1,0 +1,184 @@
+-- What added columns leave as it is, whatever a file says: the lines without columns; how many lines there are more; the old bits of the presence word. Assumes nothing.
+use Prim.Native.Nat.{ℕ, suc, _+_, _-_, _*_, _^_, _<_}
+use mathlib.Core.Bool.{Bool, true, false, not, _&&_, cond}
+use mathlib.Core.List.{List, [], _∷_}
+use mathlib.Core.Option.{Option, none, some}
+use mathlib.Core.Path.{_≡_, refl, sym, ap, _∙_}
+use native.Mathlib.Nat.{zero-mul, mul-one, pow-suc}
+use native.Mathlib.Omega.{arith}
+use borrow.Author.Tests.{eqb-true}
+use lib.Count.{ones, ones-cat}
+use lib.Dec.{eqb, lit<}
+use lib.ListN.{length, getD, take}
+use lib.Seq.{getD-take}
+use Rattle.rules.specs.Choice.{given, byte}
+use Rattle.rules.specs.Families.{firstStart}
+use Rattle.rules.specs.Listed.{listed}
+use Rattle.rules.specs.Layouts.{Span, entriesOf, spanOf, look, carries, bit, wordFrom, presenceOf, presenceSaid}
+use Rattle.rules.specs.Lines.{kindOf}
+use Rattle.rules.specs.Roles.{roleOf, isOf}
+use Rattle.rules.specs.Split.{Lines, end, broken, line}
+use Rattle.rules.specs.declared.Entry.{Entry}
+use Rattle.rules.specs.declared.Layout.{Layout}
+use Rattle.rules.specs.declared.Listed.{Listed}
+use Rattle.rules.specs.declared.Kind.{Kind}
+use Rattle.rules.specs.declared.Family.{Family}
+use Rattle.rules.specs.declared.Family.the-variants as family
+use Rattle.rules.specs.declared.Layouts.{Layouts}
+use Rattle.rules.specs.declared.Role.the-variants as role
+use Rattle.rules.proofs.Inverse.{none-some, false-true, given-inv}
+use Rattle.laws.proofs.Splitting.{textsOf}
+use Rattle.laws.proofs.Passing.{roleIn}
+use Rattle.laws.proofs.Counted.{one, tally}
+use Rattle.wider.specs.Wider.{Extends, widthIn, AfterLayouts, done, same, columned, LayoutLines, all, without, changed, put, Wider, front, from}
+use Rattle.wider.specs.Before.{linesWith, linesOfFamily, addedFrom, addedIn, MoreBits, putInto, putIn}
+use Rattle.wider.proofs.Lists.{found-one}
+use Rattle.sound.proofs.Placed.{Sound}
+use Rattle.wider.proofs.Judged.{columned-role}
+use Rattle.wider.proofs.Changing.{told-role}
+
+-- ---- the lines without columns
+
+pub first-same : (f : Family) (l l′ : List ℕ) → take (byte (firstStart f)) l′ ≡ take (byte (firstStart f)) l → getD l′ 0 0 ≡ getD l 0 0
+first-same f l l′ e =
+    let n = first-byte f in
+    sym (getD-take (byte (firstStart f)) l′ 0 0 n) ∙ ap (λ (x : List ℕ). getD x 0 0) e ∙ getD-take (byte (firstStart f)) l 0 0 n
+  where
+    first-byte : (f : Family) → 0 < byte (firstStart f)
+    first-byte family.B = lit< tt
+    first-byte family.K = lit< tt
+
+module _ (test : Kind → Bool) (no-layout : (k : Kind) (g : Family) → roleOf k ≡ role.Tells g → test k ≡ false)
+    (no-column : (k : Kind) (g : Family) → roleOf k ≡ role.Columned g → test k ≡ false) where
+  -- a line of a kind that is not asked for
+  skip : (t : List ℕ) (ls : Lines) → test (kindOf (getD t 0 0)) ≡ false → linesWith test (line t ls) ≡ linesWith test ls
+  skip t ls n = rw n
+
+  -- a line that stays
+  keep : (t : List ℕ) (ls ls′ : Lines) → linesWith test ls′ ≡ linesWith test ls → linesWith test (line t ls′) ≡ linesWith test (line t ls)
+  keep t ls ls′ e = ap (λ (r : List (List ℕ)). cond (test (kindOf (getD t 0 0))) (t ∷ r) r) e
+
+  body-others : {old new : Layouts} {ls ls′ : Lines} → AfterLayouts old new ls ls′ → linesWith test ls′ ≡ linesWith test ls
+  body-others done = refl
+  body-others (same {t = t} {ls = ls} {ls′ = ls′} x b) = keep t ls ls′ (body-others b)
+  body-others (columned {t = t} {t′ = t′} {ls = ls} {ls′ = ls′} f x w b) =
+      skip t′ ls′ (no-column _ f (columned-role f t′ (first-same f t t′ (w .fields) ∙ x))) ∙ body-others b ∙ sym (skip t ls (no-column _ f (columned-role f t x)))
+
+  layouts-others : {fs : List Family} {old new : Layouts} {ls ls′ : Lines} → LayoutLines fs old new ls ls′ → linesWith test ls′ ≡ linesWith test ls
+  layouts-others (all b) = body-others b
+  layouts-others (without r) = layouts-others r
+  layouts-others (changed {f = f} {t = t} {t′ = t′} {ls = ls} {ls′ = ls′} e e′ x r) =
+      skip t′ ls′ (no-layout _ f (told-role f t′ _ e′)) ∙ layouts-others r ∙ sym (skip t ls (no-layout _ f (told-role f t _ e)))
+  layouts-others (put {f = f} {t′ = t′} {ls′ = ls′} e′ r) = skip t′ ls′ (no-layout _ f (told-role f t′ _ e′)) ∙ layouts-others r
+
+  pub others-same : {ls ls′ : Lines} → Wider ls ls′ → linesWith test ls′ ≡ linesWith test ls
+  others-same (front {t = t} {ls = ls} {ls′ = ls′} x w) = keep t ls ls′ (others-same w)
+  others-same (from r) = layouts-others r
+
+-- ---- the count of lines
+
+body-count : {old new : Layouts} {ls ls′ : Lines} → AfterLayouts old new ls ls′ → length (textsOf ls′) ≡ length (textsOf ls)
+body-count done = refl
+body-count (same x b) = ap suc (body-count b)
+body-count (columned f x w b) = ap suc (body-count b)
+
+layouts-count : {fs : List Family} {old new : Layouts} {ls ls′ : Lines} (r : LayoutLines fs old new ls ls′) → length (textsOf ls′) ≡ length (textsOf ls) + putInto r
+layouts-count (all b) = omega (arith, body-count b)
+layouts-count (without r) = layouts-count r
+layouts-count (changed e e′ x r) = omega (arith, layouts-count r)
+layouts-count (put e′ r) = omega (arith, layouts-count r)
+
+pub lines-more : {ls ls′ : Lines} (w : Wider ls ls′) → length (textsOf ls′) ≡ length (textsOf ls) + putIn w
+lines-more (front x w) = omega (arith, lines-more w)
+lines-more (from r) = layouts-count r
+
+-- as many lines of a family as were counted
+pub family-tallied : (f : Family) (ls : Lines) → length (linesOfFamily f ls) ≡ tally (isOf f) ls
+family-tallied f end = refl
+family-tallied f (broken b) = refl
+family-tallied f (line t ls) = by (isOf f (roleIn t)) (family-tallied f ls)
+  where
+    by : (b : Bool) → length (linesOfFamily f ls) ≡ tally (isOf f) ls → length (cond b (t ∷ linesOfFamily f ls) (linesOfFamily f ls)) ≡ one b + tally (isOf f) ls
+    by true r = omega arith
+    by false r = omega arith
+
+-- ---- the presence word
+
+-- the word from its highest bit down, and how many bits are set
+horner : Layout → List Listed → ℕ
+horner l [] = 0
+horner l (r ∷ rs) = horner l rs * 2 + bit l r
+
+set-bits : Layout → List Listed → ℕ
+set-bits l [] = 0
+set-bits l (r ∷ rs) = bit l r + set-bits l rs
+
+word-horner : (l : Layout) (rs : List Listed) (n : ℕ) → wordFrom l rs n ≡ horner l rs * 2 ^ n
+unfolding wordFrom horner
+word-horner l [] n = sym (zero-mul (2 ^ n))
+word-horner l (r ∷ rs) n = rw (word-horner l rs (suc n), pow-suc) (omega arith)
+
+small : (b : Bool) → (cond b 1 0 < 2) × (ones (cond b 1 0) ≡ cond b 1 0)
+unfolding ones
+small true = (lit< tt, refl)
+small false = (lit< tt, refl)
+
+ones-horner : (l : Layout) (rs : List Listed) → ones (horner l rs) ≡ set-bits l rs
+unfolding ones horner set-bits
+ones-horner l [] = refl
+ones-horner l (r ∷ rs) =
+    let b = small (carries l (r .code)) in
+    ones-cat 1 (horner l rs) (bit l r) (b .0) ∙ omega (arith, ones-horner l rs, b .1)
+
+count-bits : (l : Layout) → ones (wordFrom l listed 0) ≡ set-bits l listed
+count-bits l = ap ones (word-horner l listed 0 ∙ mul-one (horner l listed)) ∙ ones-horner l listed
+
+module _ (old new : Layout) (x : Extends old new) where
+  -- what the old layout carries, the new one carries
+  pub carried : (c : ℕ) → carries old c ≡ true → carries new c ≡ true
+  unfolding carries look widthIn
+  carried c h = go (look old c) refl h
+    where
+      go : (o : Option Span) → look old c ≡ o → given o false (λ s. true) ≡ true → given (look new c) false (λ s. true) ≡ true
+      go none e q = absurd (false-true q)
+      go (some s) e q =
+          let f = found-one (λ (d : Entry). eqb (d .code) c) (λ (k : ℕ) (d : Entry). spanOf d) _ (entriesOf old) 0 s x e in
+          let i : f .0 .code ≡ c = eqb-true _ _ (f .3) in
+          let t : widthIn new c ≡ widthIn old c = rw i at (f .2) in
+          let g = given-inv (look new c) none (some (s .last + 1 - s .first)) _ none-some (t ∙ rw e) in
+          rw (g .1)
+
+  more-bits : (rows : List Listed) (n : ℕ) → wordFrom new rows n ≡ wordFrom old rows n + addedFrom old new rows n
+  unfolding wordFrom addedFrom
+  more-bits [] n = refl
+  more-bits (r ∷ rs) n = go (carries old (r .code)) (carries new (r .code)) (carried (r .code)) (more-bits rs (suc n))
+    where
+      go : (a b : Bool) → (a ≡ true → b ≡ true) → wordFrom new rs (suc n) ≡ wordFrom old rs (suc n) + addedFrom old new rs (suc n)
+          → cond b 1 0 * 2 ^ n + wordFrom new rs (suc n) ≡ (cond a 1 0 * 2 ^ n + wordFrom old rs (suc n)) + (cond (b && not a) 1 0 * 2 ^ n + addedFrom old new rs (suc n))
+      go true true h e = omega arith
+      go true false h e = absurd (false-true (h refl))
+      go false true h e = omega arith
+      go false false h e = omega arith
+
+  more-set : (rows : List Listed) → set-bits new rows ≡ set-bits old rows + addedIn old new rows
+  unfolding set-bits addedIn
+  more-set [] = refl
+  more-set (r ∷ rs) = go (carries old (r .code)) (carries new (r .code)) (carried (r .code)) (more-set rs)
+    where
+      go : (a b : Bool) → (a ≡ true → b ≡ true) → set-bits new rs ≡ set-bits old rs + addedIn old new rs
+          → cond b 1 0 + set-bits new rs ≡ (cond a 1 0 + set-bits old rs) + (cond (b && not a) 1 0 + addedIn old new rs)
+      go true true h e = omega arith
+      go true false h e = absurd (false-true (h refl))
+      go false true h e = omega arith
+      go false false h e = omega arith
+
+  pub presence-more : Sound 36 old → Sound 36 new → MoreBits old new
+  unfolding presenceSaid presenceOf
+  presence-more s s′ = record {
+    before = presenceOf old;
+    after = presenceOf new;
+    old-said = rw (s .right);
+    new-said = rw (s′ .right);
+    word = more-bits listed 0;
+    count = count-bits new ∙ more-set listed ∙ ap (λ n. n + addedIn old new listed) (sym (count-bits old));
+  }
