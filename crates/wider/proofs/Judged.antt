@@ -1,20 +1,16 @@
 -- One line of a file against those before it, and the same place in a file with added columns: it passes there too, and leaves the states alike. Assumes nothing.
-use Prim.Native.Nat.{ℕ, _+_, _-_, _≤_, _<_}
+use Prim.Native.Nat.{ℕ, _+_, _-_, _≤_}
 use mathlib.Core.Bool.{true, false, cond}
 use mathlib.Core.List.{List, [], _∷_}
 use mathlib.Core.Option.{none, some}
 use mathlib.Core.Path.{_≡_, refl, sym, ap, _∙_}
 use native.Mathlib.Omega.{arith}
-use borrow.Author.Tests.{le-leb, eqb-true}
-use lib.Dec.{eqb}
 use lib.ListN.{length, getD}
-use Rattle.rules.specs.Choice.{on}
 use Rattle.rules.specs.Families.{firstStart, lineLetter, layoutOf, withLayout}
 use Rattle.rules.specs.Refusals.{says}
-use Rattle.rules.specs.Lines.{kindOf, layoutLine, columnedLine}
+use Rattle.rules.specs.Lines.{kindOf, columnedLine}
 use Rattle.rules.specs.Roles.{isRole, isPlain, isDeclaring, sameFamily, isOf, stageAfter}
-use Rattle.rules.specs.Order.{fitsDeclaration, orderOf, moved, laidOut, judge}
-use Rattle.rules.specs.Reads.{layoutSaid}
+use Rattle.rules.specs.Order.{fitsDeclaration, orderOf, moved, judge}
 use Rattle.rules.specs.declared.Layout.{Layout}
 use Rattle.rules.specs.declared.Layouts.{Layouts}
 use Rattle.rules.specs.declared.Family.{Family}
@@ -23,8 +19,8 @@ use Rattle.rules.specs.declared.Role.{Role}
 use Rattle.rules.specs.declared.Role.the-variants as role
 use Rattle.rules.specs.declared.Flight.{Flight}
 use Rattle.rules.specs.declared.State.{State}
-use Rattle.rules.proofs.Inverse.{none-some, refuses-says, false-true, need-inv, then-inv}
-use Rattle.laws.proofs.Passing.{leading-so, leading-inv, roleIn, Leaves, opens, date, header, layout, columned, head, point, event, satellites, differential, seals, remark, other, judged, judged-so}
+use Rattle.rules.proofs.Inverse.{none-some, false-true, need-inv, then-inv}
+use Rattle.laws.proofs.Passing.{roleIn, Leaves, opens, date, header, layout, columned, head, point, event, satellites, differential, seals, remark, other, judged, judged-so}
 use Rattle.sound.proofs.Placed.{Sound}
 use Rattle.wider.specs.Wider.{WiderLine}
 use Rattle.wider.specs.Before.{saidOf, AsBefore}

@@ -8,7 +8,7 @@ use native.Mathlib.Nat.{zero-mul, mul-one, pow-suc}
 use native.Mathlib.Omega.{arith}
 use borrow.Author.Tests.{eqb-true}
 use lib.Count.{ones, ones-cat}
-use lib.Dec.{eqb, lit<}
+use lib.Dec.{lit<}
 use lib.ListN.{length, getD, take}
 use lib.Seq.{getD-take}
 use Rattle.rules.specs.Choice.{given, byte}
@@ -32,8 +32,8 @@ use Rattle.laws.proofs.Passing.{roleIn}
 use Rattle.laws.proofs.Counted.{one, tally}
 use Rattle.wider.specs.Wider.{Extends, widthIn, AfterLayouts, done, same, columned, LayoutLines, all, without, changed, put, Wider, front, from}
 use Rattle.wider.specs.Before.{linesWith, linesOfFamily, addedFrom, addedIn, MoreBits, putInto, putIn}
-use Rattle.wider.proofs.Lists.{found-one}
-use Rattle.sound.proofs.Placed.{Sound}
+use Rattle.sound.proofs.Each.{found-one}
+use Rattle.sound.proofs.Placed.{Coded, Sound}
 use Rattle.wider.proofs.Judged.{columned-role}
 use Rattle.wider.proofs.Changing.{told-role}
 
@@ -142,7 +142,7 @@ module _ (old new : Layout) (x : Extends old new) where
       go : (o : Option Span) → look old c ≡ o → given o false (λ s. true) ≡ true → given (look new c) false (λ s. true) ≡ true
       go none e q = absurd (false-true q)
       go (some s) e q =
-          let f = found-one (λ (d : Entry). eqb (d .code) c) (λ (k : ℕ) (d : Entry). spanOf d) _ (entriesOf old) 0 s x e in
+          let f = found-one (Coded c) (λ (k : ℕ) (d : Entry). spanOf d) _ (entriesOf old) 0 s x e in
           let i : f .0 .code ≡ c = eqb-true _ _ (f .3) in
           let t : widthIn new c ≡ widthIn old c = rw i at (f .2) in
           let g = given-inv (look new c) none (some (s .last + 1 - s .first)) _ none-some (t ∙ rw e) in

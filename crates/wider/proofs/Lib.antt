@@ -1,5 +1,4 @@
 pub mod Lists
-pub mod Placed
 pub mod OneLine
 pub mod Judged
 pub mod Changing

@@ -6,7 +6,6 @@ use mathlib.Core.Option.{Option, none, some}
 use mathlib.Core.Path.{_≡_, refl, sym, ap, _∙_}
 use native.Mathlib.Omega.{arith}
 use borrow.Author.Tests.{eq-eqb, eqb-true, not-false}
-use lib.Dec.{eqb}
 use lib.ListN.{length, getD, take, drop, length-append, take-append-drop}
 use lib.Seq.{take-at}
 use Rattle.rules.specs.Choice.{given, need, byte, Each}
@@ -36,9 +35,9 @@ use Rattle.trips.proofs.Extras.{extra-there, extra-trip}
 use Rattle.trips.proofs.Fixes.{fix-there, fix-trip}
 use Rattle.wider.specs.Wider.{textIn, KeepsRules, WiderLine}
 use Rattle.wider.specs.Before.{ValueOf, saidOf, textSaid, AsBefore}
-use Rattle.wider.proofs.Lists.{each-map, each-both, nothing-found, none-passes, found-one}
-use Rattle.sound.proofs.Placed.{Sound}
-use Rattle.wider.proofs.Placed.{own, columns-valid}
+use Rattle.sound.proofs.Each.{each-map, each-both, nothing-found, none-found, found-one}
+use Rattle.sound.proofs.Placed.{Coded, Sound}
+use Rattle.sound.proofs.Columns.{each-looked, columns-valid}
 
 -- ---- parts of a valid text
 
@@ -66,8 +65,8 @@ unfolding shapedBy columns badColumn look
 old-meets start layout l x s c e =
     let v = shaped-there (lineLength start layout) (lineLength start layout) l tt (c .shape) .2 in
     let n = go _ (c .ruled) in
-    let p = none-passes (λ (d : Entry). not (keepsRule (d .code) (columnText l (spanOf d)))) (λ (k : ℕ) (d : Entry). d .first) (entriesOf layout) 0 n in
-    let f = found-one (λ (d : Entry). eqb (d .code) x) (λ (k : ℕ) (d : Entry). spanOf d) _ (entriesOf layout) 0 s p e in
+    let p = nothing-found (λ (d : Entry). not (keepsRule (d .code) (columnText l (spanOf d)))) (λ (k : ℕ) (d : Entry). d .first) (entriesOf layout) 0 n in
+    let f = found-one (Coded x) (λ (k : ℕ) (d : Entry). spanOf d) _ (entriesOf layout) 0 s p e in
     let i : f .0 .code ≡ x = eqb-true _ _ (f .3) in
     let r : keepsRule (f .0 .code) (columnText l (spanOf (f .0))) ≡ true = not-false _ (f .2) in
     (valid-take (s .last - byte (s .first)) (drop (byte (s .first)) l) (valid-drop (byte (s .first)) l v), rw (i, f .4) at r)
@@ -83,7 +82,7 @@ module _ (start : ℕ) (old new : Layout) (l l′ : List ℕ) (w : WiderLine sta
   kept-text : (x : ℕ) (s : Span) → look old x ≡ some s → (s′ : Span) × (look new x ≡ some s′) × (columnText l′ s′ ≡ columnText l s)
   unfolding look textIn
   kept-text x s e =
-      let f = found-one (λ (d : Entry). eqb (d .code) x) (λ (k : ℕ) (d : Entry). spanOf d) _ (entriesOf old) 0 s (w .kept) e in
+      let f = found-one (Coded x) (λ (k : ℕ) (d : Entry). spanOf d) _ (entriesOf old) 0 s (w .kept) e in
       let i : f .0 .code ≡ x = eqb-true _ _ (f .3) in
       let t : textIn new l′ x ≡ textIn old l x = rw i at (f .2) in
       let g = given-inv (look new x) none (some (columnText l s)) _ none-some (t ∙ rw e) in
@@ -93,7 +92,7 @@ module _ (start : ℕ) (old new : Layout) (l l′ : List ℕ) (w : WiderLine sta
     -- every column of the new layout meets the rules
     new-meets : Each (λ (e : Entry). (areValid (columnText l′ (spanOf e)) ≡ true) × (keepsRule (e .code) (columnText l′ (spanOf e)) ≡ true)) (entriesOf new)
     unfolding carries
-    new-meets = each-both _ _ _ (λ e look-e added-e. go e look-e added-e (look old (e .code)) refl) (entriesOf new) (own start new sound) (w .added)
+    new-meets = each-map (entriesOf new) (λ e p. go e (p .0) (p .1) (look old (e .code)) refl) (each-both (entriesOf new) _ _ (each-looked start new sound) (w .added))
       where
         go : (e : Entry) → look new (e .code) ≡ some (spanOf e) → (carries old (e .code) ≡ false → KeepsRules (e .code) (columnText l′ (spanOf e)))
             → (f : Option Span) → look old (e .code) ≡ f → (areValid (columnText l′ (spanOf e)) ≡ true) × (keepsRule (e .code) (columnText l′ (spanOf e)) ≡ true)
@@ -109,14 +108,14 @@ module _ (start : ℕ) (old new : Layout) (l l′ : List ℕ) (w : WiderLine sta
         let n = lineLength start new in
         let front : areValid (take (byte start) l′) ≡ true =
         rw (w .fields) (valid-take (byte start) l (shaped-there (lineLength start old) (lineLength start old) l tt (c .shape) .2)) in
-        let tail = columns-valid start new l′ o sound (w .long) (each-map _ _ (λ e m. m .0) (entriesOf new) new-meets) in
+        let tail = columns-valid start new l′ o sound (w .long) (each-map (entriesOf new) (λ e m. m .0) new-meets) in
         let v : areValid l′ ≡ true = rw take-append-drop at (both-valid (take (byte start) l′) (drop (byte start) l′) front tail) in
         let kept : Each (λ (e : Entry). not (keepsRule (e .code) (columnText l′ (spanOf e))) ≡ false) (entriesOf new) =
-        each-map _ _ (λ e m. ap not (m .1)) (entriesOf new) new-meets in
+        each-map (entriesOf new) (λ e m. ap not (m .1)) new-meets in
         record {
           right = sound .right;
           shape = shaped-here n n l′ (omega (arith, w .long)) (omega (arith, w .long)) v;
-          ruled = rw (nothing-found _ (λ (k : ℕ) (e : Entry). e .first) (entriesOf new) 0 kept);
+          ruled = rw (none-found _ (λ (k : ℕ) (e : Entry). e .first) (entriesOf new) 0 kept);
         }
 
 -- ---- the readings of a line

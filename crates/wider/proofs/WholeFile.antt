@@ -14,7 +14,6 @@ use Rattle.rules.specs.Roles.{roleOf, isDeclaring, isEvent, afterH}
 use Rattle.rules.specs.Split.{end, linesOf}
 use Rattle.rules.specs.Order.{start}
 use Rattle.rules.specs.Files.{hasRoom, run, verdict, goodLines}
-use Rattle.rules.specs.declared.Family.{Family}
 use Rattle.rules.specs.declared.Family.the-variants as family
 use Rattle.rules.specs.declared.Flight.{Flight}
 use Rattle.rules.specs.declared.Seal.{Seal}

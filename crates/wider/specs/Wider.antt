@@ -10,7 +10,7 @@ use Rattle.rules.specs.Choice.{given, byte, Each}
 use Rattle.rules.specs.Refusals.{says}
 use Rattle.rules.specs.Chars.{characters}
 use Rattle.rules.specs.Listed.{keepsRule}
-use Rattle.rules.specs.Layouts.{emptyLayout, entriesOf, spanOf, look, carries, columnText, lineLength}
+use Rattle.rules.specs.Layouts.{entriesOf, spanOf, look, carries, columnText, lineLength}
 use Rattle.rules.specs.Lines.{kindOf}
 use Rattle.rules.specs.Roles.{roleOf, isFront, isPlain}
 use Rattle.rules.specs.Order.{noFlight}
