@@ -1,23 +1,40 @@
 -- The columns of a layout that a line tells: each is found by its code, and they cover the line from the first start to its end. Assumes nothing.
 use Prim.Native.Nat.{ℕ, suc, _+_, _-_, _≤_}
-use mathlib.Core.Bool.{true, false}
+use mathlib.Core.Bool.{true, false, not}
 use mathlib.Core.List.{List, [], _∷_, _++_, append-assoc}
-use mathlib.Core.Option.{some}
+use mathlib.Core.Option.{Option, none, some}
 use mathlib.Core.Path.{_≡_, refl, ap, subst, _∙_}
 use native.Mathlib.Omega.{arith}
-use borrow.Author.Tests.{eq-eqb, ne-eqb}
+use borrow.Author.Tests.{eqb-true, eq-eqb, ne-eqb, not-false}
 use lib.ListN.{length, getD, take, drop, replicate, length-append, take-append-drop, drop-of-length-le, List·getD-append}
 use lib.Seq.{drop-drop}
-use Rattle.rules.specs.Choice.{firstOf, byte, Each}
-use Rattle.rules.specs.Layouts.{unused, emptyLayout, withEntry, entriesOf, spanOf, look, lineLength, columnText}
+use Rattle.rules.specs.Choice.{given, firstOf, byte, Each}
+use Rattle.rules.specs.Refusals.{says, no}
+use Rattle.rules.specs.Listed.{keepsRule}
+use Rattle.rules.specs.declared.Reason.the-variants.{Column}
+use Rattle.rules.specs.Layouts.{unused, emptyLayout, withEntry, entriesOf, Span, spanOf, look, carries, lineLength, columnText, badColumn, columns}
 use Rattle.rules.specs.declared.Entry.{Entry}
 use Rattle.rules.specs.declared.Layout.{Layout}
+use Rattle.rules.proofs.Inverse.{refuses-says, false-true, given-inv}
 use Rattle.trips.proofs.Texts.{areValid, both-valid}
-use Rattle.sound.proofs.Each.{each-map}
+use Rattle.sound.proofs.Each.{each-map, nothing-found, none-found, found-one}
 use Rattle.sound.proofs.Entries.{Fits, Tiled}
 use Rattle.sound.proofs.Placed.{laid, with-laid, Coded, carries-none, Sound, allowed-there}
 
 -- ---- each column is found by its code
+
+-- a code that is carried has one
+pub carried-there : (layout : Layout) (x : ℕ) → carries layout x ≡ true → (s : Span) × (look layout x ≡ some s)
+unfolding carries
+carried-there layout x h = let g = given-inv (look layout x) false true _ false-true h in (g .0, g .1)
+
+-- what is so of each code and its place is so of a code that was looked for, and the place that was found
+pub each-at : (P : ℕ → Span → Type 0) (layout : Layout) (x : ℕ) (s : Span) → Each (λ (e : Entry). P (e .code) (spanOf e)) (entriesOf layout) → look layout x ≡ some s → P x s
+unfolding look
+each-at P layout x s h e =
+    let f = found-one (Coded x) (λ (k : ℕ) (d : Entry). spanOf d) _ (entriesOf layout) 0 s h e in
+    let i : f .0 .code ≡ x = eqb-true _ _ (f .3) in
+    subst (P x) (f .4) (subst (λ y. P y (spanOf (f .0))) i (f .2))
 
 -- past entries of other codes
 past-others : (x : ℕ) (pre es : List Entry) (n : ℕ) → Each (λ e. Coded x e ≡ false) pre
@@ -44,6 +61,24 @@ unfolding look
 each-looked start layout s =
     let a = allowed-there start layout (s .right) (s .full) .0 in
     looked start [] (entriesOf layout) (omega (arith, a .few, a .count)) (a .tiled)
+
+-- ---- each listed one keeps its rule exactly where the line's columns pass
+
+module _ (l : List ℕ) (layout : Layout) where
+  abbrev pub Kept : Type 0
+  Kept = Each (λ (e : Entry). keepsRule (e .code) (columnText l (spanOf e)) ≡ true) (entriesOf layout)
+
+  pub ruled-there : columns l layout ≡ says tt → Kept
+  unfolding columns badColumn
+  ruled-there h = each-map (entriesOf layout) (λ e. not-false _) (nothing-found _ (λ k e. e .first) (entriesOf layout) 0 (none-there _ h))
+    where
+      none-there : (o : Option ℕ) → given o (says tt) (λ first. no Column first) ≡ says (tt {0}) → o ≡ none
+      none-there none h = refl
+      none-there (some i) h = absurd (refuses-says h)
+
+  pub ruled-here : Kept → columns l layout ≡ says tt
+  unfolding columns badColumn
+  ruled-here h = rw (none-found _ (λ (k : ℕ) (e : Entry). e .first) (entriesOf layout) 0 (each-map (entriesOf layout) (λ e. ap not) h))
 
 -- ---- and they cover the line
 

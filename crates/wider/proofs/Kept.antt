@@ -2,23 +2,21 @@
 use Prim.Native.Nat.{ℕ, suc, _+_, _-_, _*_, _^_, _<_}
 use mathlib.Core.Bool.{Bool, true, false, not, _&&_, cond}
 use mathlib.Core.List.{List, [], _∷_}
-use mathlib.Core.Option.{Option, none, some}
+use mathlib.Core.Option.{none, some}
 use mathlib.Core.Path.{_≡_, refl, sym, ap, _∙_}
-use native.Mathlib.Nat.{zero-mul, mul-one, pow-suc}
+use native.Mathlib.Nat.{add-mul, zero-mul, mul-one, pow-suc}
 use native.Mathlib.Omega.{arith}
-use borrow.Author.Tests.{eqb-true}
 use lib.Count.{ones, ones-cat}
 use lib.Dec.{lit<}
 use lib.ListN.{length, getD, take}
 use lib.Seq.{getD-take}
-use Rattle.rules.specs.Choice.{given, byte}
+use Rattle.rules.specs.Choice.{byte}
 use Rattle.rules.specs.Families.{firstStart}
 use Rattle.rules.specs.Listed.{listed}
-use Rattle.rules.specs.Layouts.{Span, entriesOf, spanOf, look, carries, bit, wordFrom, presenceOf, presenceSaid}
+use Rattle.rules.specs.Layouts.{look, carries, bit, wordFrom, presenceOf, presenceSaid}
 use Rattle.rules.specs.Lines.{kindOf}
 use Rattle.rules.specs.Roles.{roleOf, isOf}
 use Rattle.rules.specs.Split.{Lines, end, broken, line}
-use Rattle.rules.specs.declared.Entry.{Entry}
 use Rattle.rules.specs.declared.Layout.{Layout}
 use Rattle.rules.specs.declared.Listed.{Listed}
 use Rattle.rules.specs.declared.Kind.{Kind}
@@ -32,8 +30,8 @@ use Rattle.laws.proofs.Passing.{roleIn}
 use Rattle.laws.proofs.Counted.{one, tally}
 use Rattle.wider.specs.Wider.{Extends, widthIn, AfterLayouts, done, same, columned, LayoutLines, all, without, changed, put, Wider, front, from}
 use Rattle.wider.specs.Before.{linesWith, linesOfFamily, addedFrom, addedIn, MoreBits, putInto, putIn}
-use Rattle.sound.proofs.Each.{found-one}
-use Rattle.sound.proofs.Placed.{Coded, Sound}
+use Rattle.sound.proofs.Placed.{Sound}
+use Rattle.sound.proofs.Columns.{carried-there, each-at}
 use Rattle.wider.proofs.Judged.{columned-role}
 use Rattle.wider.proofs.Changing.{told-role}
 
@@ -136,41 +134,31 @@ count-bits l = ap ones (word-horner l listed 0 ∙ mul-one (horner l listed)) �
 module _ (old new : Layout) (x : Extends old new) where
   -- what the old layout carries, the new one carries
   pub carried : (c : ℕ) → carries old c ≡ true → carries new c ≡ true
-  unfolding carries look widthIn
-  carried c h = go (look old c) refl h
+  unfolding carries widthIn
+  carried c h =
+      let s = carried-there old c h in
+      let t = each-at (λ c s. widthIn new c ≡ widthIn old c) old c (s .0) x (s .1) in
+      rw (given-inv (look new c) none (some (s .0 .last + 1 - s .0 .first)) _ none-some (t ∙ rw (s .1)) .1)
+
+  -- the bit of a row is an old one or an added one
+  new-bit : (r : Listed) → bit new r ≡ bit old r + cond (carries new (r .code) && not (carries old (r .code))) 1 0
+  new-bit r = by (carries old (r .code)) (carries new (r .code)) (carried (r .code))
     where
-      go : (o : Option Span) → look old c ≡ o → given o false (λ s. true) ≡ true → given (look new c) false (λ s. true) ≡ true
-      go none e q = absurd (false-true q)
-      go (some s) e q =
-          let f = found-one (Coded c) (λ (k : ℕ) (d : Entry). spanOf d) _ (entriesOf old) 0 s x e in
-          let i : f .0 .code ≡ c = eqb-true _ _ (f .3) in
-          let t : widthIn new c ≡ widthIn old c = rw i at (f .2) in
-          let g = given-inv (look new c) none (some (s .last + 1 - s .first)) _ none-some (t ∙ rw e) in
-          rw (g .1)
+      by : (a b : Bool) → (a ≡ true → b ≡ true) → _≡_ {A = ℕ} (cond b 1 0) (cond a 1 0 + cond (b && not a) 1 0)
+      by true true h = refl
+      by true false h = absurd (false-true (h refl))
+      by false true h = refl
+      by false false h = refl
 
   more-bits : (rows : List Listed) (n : ℕ) → wordFrom new rows n ≡ wordFrom old rows n + addedFrom old new rows n
   unfolding wordFrom addedFrom
   more-bits [] n = refl
-  more-bits (r ∷ rs) n = go (carries old (r .code)) (carries new (r .code)) (carried (r .code)) (more-bits rs (suc n))
-    where
-      go : (a b : Bool) → (a ≡ true → b ≡ true) → wordFrom new rs (suc n) ≡ wordFrom old rs (suc n) + addedFrom old new rs (suc n)
-          → cond b 1 0 * 2 ^ n + wordFrom new rs (suc n) ≡ (cond a 1 0 * 2 ^ n + wordFrom old rs (suc n)) + (cond (b && not a) 1 0 * 2 ^ n + addedFrom old new rs (suc n))
-      go true true h e = omega arith
-      go true false h e = absurd (false-true (h refl))
-      go false true h e = omega arith
-      go false false h e = omega arith
+  more-bits (r ∷ rs) n = rw (new-bit r, add-mul, more-bits rs (suc n)) (omega arith)
 
   more-set : (rows : List Listed) → set-bits new rows ≡ set-bits old rows + addedIn old new rows
   unfolding set-bits addedIn
   more-set [] = refl
-  more-set (r ∷ rs) = go (carries old (r .code)) (carries new (r .code)) (carried (r .code)) (more-set rs)
-    where
-      go : (a b : Bool) → (a ≡ true → b ≡ true) → set-bits new rs ≡ set-bits old rs + addedIn old new rs
-          → cond b 1 0 + set-bits new rs ≡ (cond a 1 0 + set-bits old rs) + (cond (b && not a) 1 0 + addedIn old new rs)
-      go true true h e = omega arith
-      go true false h e = absurd (false-true (h refl))
-      go false true h e = omega arith
-      go false false h e = omega arith
+  more-set (r ∷ rs) = omega (arith, new-bit r, more-set rs)
 
   pub presence-more : Sound 36 old → Sound 36 new → MoreBits old new
   unfolding presenceSaid presenceOf

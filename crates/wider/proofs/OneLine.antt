@@ -1,30 +1,29 @@
 -- One line with added columns, over the family: it says what the line said before, and so do its old columns. Assumes nothing.
 use Prim.Native.Nat.{ℕ, suc, _+_, _-_, _≤_}
-use mathlib.Core.Bool.{Bool, true, false, not}
+use mathlib.Core.Bool.{Bool, true, false}
 use mathlib.Core.List.{List, [], _++_, append-assoc, append-nil}
 use mathlib.Core.Option.{Option, none, some}
 use mathlib.Core.Path.{_≡_, refl, sym, ap, _∙_}
 use native.Mathlib.Omega.{arith}
-use borrow.Author.Tests.{eq-eqb, eqb-true, not-false}
+use borrow.Author.Tests.{eq-eqb}
 use lib.ListN.{length, getD, take, drop, length-append, take-append-drop}
 use lib.Seq.{take-at}
-use Rattle.rules.specs.Choice.{given, need, byte, Each}
+use Rattle.rules.specs.Choice.{need, byte, Each}
 use Rattle.rules.specs.Families.{firstStart, lineLetter, familyOf}
-use Rattle.rules.specs.Refusals.{Said, says, refuses, no, andThen}
+use Rattle.rules.specs.Refusals.{Said, says, refuses, andThen}
 use Rattle.rules.specs.Chars.{characters, firstInvalid}
 use Rattle.rules.specs.Listed.{packedOf, keepsRule}
-use Rattle.rules.specs.Layouts.{Span, entriesOf, spanOf, look, carries, allowed, lineLength, columnText, badColumn, columns}
+use Rattle.rules.specs.Layouts.{Span, entriesOf, spanOf, look, carries, allowed, lineLength, columnText, columns}
 use Rattle.rules.specs.Lines.{shapedBy, kLine, columnedLine}
 use Rattle.rules.specs.Reads.{fixSaid, extraSaid, entriesSaid, columnSaid, numberSaid}
 use Rattle.rules.specs.Writes.{fixText, extraText}
-use Rattle.rules.specs.declared.Reason.the-variants.{Column}
 use Rattle.rules.specs.declared.Entry.{Entry}
 use Rattle.rules.specs.declared.Layout.{Layout}
 use Rattle.rules.specs.declared.Family.{Family}
 use Rattle.rules.specs.declared.Family.the-variants as family
 use Rattle.rules.specs.declared.Fix.{Fix}
 use Rattle.rules.specs.Limits.{isClean, isTime, goodTail, goodExtra, goodFixFields, goodFix}
-use Rattle.rules.proofs.Inverse.{none-some, refuses-says, false-true, given-inv, need-inv, and-inv}
+use Rattle.rules.proofs.Inverse.{none-some, false-true, given-inv, need-inv, and-inv}
 use Rattle.trips.proofs.Texts.{areValid, both-valid, valid-join, clean-valid, nothing-there, shaped-there, shaped-here}
 use Rattle.trips.proofs.Tails.{tail-there}
 use Rattle.trips.proofs.LineTrip.{LineTrip, line-limits}
@@ -35,9 +34,9 @@ use Rattle.trips.proofs.Extras.{extra-there, extra-trip}
 use Rattle.trips.proofs.Fixes.{fix-there, fix-trip}
 use Rattle.wider.specs.Wider.{textIn, KeepsRules, WiderLine}
 use Rattle.wider.specs.Before.{ValueOf, saidOf, textSaid, AsBefore}
-use Rattle.sound.proofs.Each.{each-map, each-both, nothing-found, none-found, found-one}
-use Rattle.sound.proofs.Placed.{Coded, Sound}
-use Rattle.sound.proofs.Columns.{each-looked, columns-valid}
+use Rattle.sound.proofs.Each.{each-map, each-both}
+use Rattle.sound.proofs.Placed.{Sound}
+use Rattle.sound.proofs.Columns.{carried-there, each-at, each-looked, ruled-there, ruled-here, columns-valid}
 
 -- ---- parts of a valid text
 
@@ -61,30 +60,21 @@ pub record Checked (start : ℕ) (layout : Layout) (l : List ℕ) : Type 0 where
 -- a column that passed
 old-meets : (start : ℕ) (layout : Layout) (l : List ℕ) (x : ℕ) (s : Span) → Checked start layout l → look layout x ≡ some s
     → (areValid (columnText l s) ≡ true) × (keepsRule x (columnText l s) ≡ true)
-unfolding shapedBy columns badColumn look
+unfolding shapedBy
 old-meets start layout l x s c e =
-    let v = shaped-there (lineLength start layout) (lineLength start layout) l tt (c .shape) .2 in
-    let n = go _ (c .ruled) in
-    let p = nothing-found (λ (d : Entry). not (keepsRule (d .code) (columnText l (spanOf d)))) (λ (k : ℕ) (d : Entry). d .first) (entriesOf layout) 0 n in
-    let f = found-one (Coded x) (λ (k : ℕ) (d : Entry). spanOf d) _ (entriesOf layout) 0 s p e in
-    let i : f .0 .code ≡ x = eqb-true _ _ (f .3) in
-    let r : keepsRule (f .0 .code) (columnText l (spanOf (f .0))) ≡ true = not-false _ (f .2) in
-    (valid-take (s .last - byte (s .first)) (drop (byte (s .first)) l) (valid-drop (byte (s .first)) l v), rw (i, f .4) at r)
-  where
-    go : (o : Option ℕ) → given o (says tt) (λ first. no Column first) ≡ says (tt {0}) → o ≡ none
-    go none h = refl
-    go (some i) h = absurd (refuses-says h)
+    let v = shaped-there (lineLength start layout) (lineLength start layout) l tt (c .shape) .2 in (
+      valid-take (s .last - byte (s .first)) (drop (byte (s .first)) l) (valid-drop (byte (s .first)) l v),
+      each-at (λ x s. keepsRule x (columnText l s) ≡ true) layout x s (ruled-there l layout (c .ruled)) e,
+    )
 
 -- ---- a line with added columns
 
 module _ (start : ℕ) (old new : Layout) (l l′ : List ℕ) (w : WiderLine start old new l l′) where
   -- an old column is in the new layout, and has its old text
   kept-text : (x : ℕ) (s : Span) → look old x ≡ some s → (s′ : Span) × (look new x ≡ some s′) × (columnText l′ s′ ≡ columnText l s)
-  unfolding look textIn
+  unfolding textIn
   kept-text x s e =
-      let f = found-one (Coded x) (λ (k : ℕ) (d : Entry). spanOf d) _ (entriesOf old) 0 s (w .kept) e in
-      let i : f .0 .code ≡ x = eqb-true _ _ (f .3) in
-      let t : textIn new l′ x ≡ textIn old l x = rw i at (f .2) in
+      let t = each-at (λ x s. textIn new l′ x ≡ textIn old l x) old x s (w .kept) e in
       let g = given-inv (look new x) none (some (columnText l s)) _ none-some (t ∙ rw e) in
       (g .0, g .1, cc)
 
@@ -103,19 +93,17 @@ module _ (start : ℕ) (old new : Layout) (l l′ : List ℕ) (w : WiderLine sta
             rw (i, k .2) (old-meets start old l (e .code) s c h)
 
     new-checked : Checked start new l′
-    unfolding shapedBy columns badColumn
+    unfolding shapedBy
     new-checked =
         let n = lineLength start new in
         let front : areValid (take (byte start) l′) ≡ true =
         rw (w .fields) (valid-take (byte start) l (shaped-there (lineLength start old) (lineLength start old) l tt (c .shape) .2)) in
         let tail = columns-valid start new l′ o sound (w .long) (each-map (entriesOf new) (λ e m. m .0) new-meets) in
         let v : areValid l′ ≡ true = rw take-append-drop at (both-valid (take (byte start) l′) (drop (byte start) l′) front tail) in
-        let kept : Each (λ (e : Entry). not (keepsRule (e .code) (columnText l′ (spanOf e))) ≡ false) (entriesOf new) =
-        each-map (entriesOf new) (λ e m. ap not (m .1)) new-meets in
         record {
           right = sound .right;
           shape = shaped-here n n l′ (omega (arith, w .long)) (omega (arith, w .long)) v;
-          ruled = rw (none-found _ (λ (k : ℕ) (e : Entry). e .first) (entriesOf new) 0 kept);
+          ruled = ruled-here l′ new (each-map (entriesOf new) (λ e m. m .1) new-meets);
         }
 
 -- ---- the readings of a line
@@ -204,15 +192,11 @@ module _ (f : Family) (old new : Layout) (l l′ : List ℕ) (v : ValueOf f) (so
 
   column-there : (name : List ℕ) → carries old (packedOf name) ≡ true
       → (s s′ : Span) × (columnSaid l old name ≡ says s) × (columnSaid l′ new name ≡ says s′) × (columnText l′ s′ ≡ columnText l s)
-  unfolding carries look columnSaid
-  column-there name h = go (look old (packedOf name)) refl h
-    where
-      go : (o : Option Span) → look old (packedOf name) ≡ o → given o false (λ s. true) ≡ true
-          → (s s′ : Span) × (columnSaid l old name ≡ says s) × (columnSaid l′ new name ≡ says s′) × (columnText l′ s′ ≡ columnText l s)
-      go none p q = absurd (false-true q)
-      go (some s) p q =
-          let k = kept-text (firstStart f) old new l l′ w (packedOf name) s p in
-          (s, k .0, rw (entries-said f l old v e, p), rw (entries-said f l′ new v says-same, k .1), k .2)
+  unfolding look columnSaid
+  column-there name h =
+      let s = carried-there old (packedOf name) h in
+      let k = kept-text (firstStart f) old new l l′ w (packedOf name) (s .0) (s .1) in
+      (s .0, k .0, rw (entries-said f l old v e, s .1), rw (entries-said f l′ new v says-same, k .1), k .2)
 
   pub as-before : AsBefore f old new l l′
   unfolding textSaid numberSaid
