@@ -94,7 +94,7 @@ carries-none es x h =
     none-there none e = refl
     none-there (some s) e = let z : _≡_ {A = ℕ} 0 1 = cc in absurd (omega arith)
 
-none-carries : (es : List Entry) (x : ℕ) → Each (λ e. e .code ≡ x → ⊥) es → carries (laid es) x ≡ false
+pub none-carries : (es : List Entry) (x : ℕ) → Each (λ e. e .code ≡ x → ⊥) es → carries (laid es) x ≡ false
 unfolding carries look
 none-carries es x h =
     let n = none-found (Coded x) (λ k e. spanOf e) es 0 (each-map es (λ e. ne-eqb (e .code) x) h) in

@@ -10,14 +10,13 @@ use lib.ListN.{getD}
 use Rattle.rules.specs.Choice.{on}
 use Rattle.rules.specs.Families.{firstStart, layoutLetter}
 use Rattle.rules.specs.Refusals.{says}
-use Rattle.rules.specs.Lines.{kindOf, layoutLine}
+use Rattle.rules.specs.Lines.{layoutLine}
 use Rattle.rules.specs.Roles.{isPlain, afterH, afterLayout, inBody, afterG, leading, stageAfter}
 use Rattle.rules.specs.Order.{fitsDeclaration, orderOf, moved, laidOut, judge}
 use Rattle.rules.specs.Files.{endsAfter}
 use Rattle.rules.specs.Reads.{layoutSaid}
 use Rattle.rules.specs.declared.Layout.{Layout}
 use Rattle.rules.specs.declared.Family.{Family}
-use Rattle.rules.specs.declared.Family.the-variants as family
 use Rattle.rules.specs.declared.Role.{Role}
 use Rattle.rules.specs.declared.Role.the-variants as role
 use Rattle.rules.specs.declared.Seal.{Seal}
@@ -25,14 +24,10 @@ use Rattle.rules.specs.declared.Seal.the-variants as seal
 use Rattle.rules.specs.declared.State.{State}
 use Rattle.rules.proofs.Inverse.{refuses-says, false-true, need-inv}
 use Rattle.laws.proofs.Passing.{leading-so, leading-inv, roleIn, Leaves, layout}
+use Rattle.wider.proofs.Families.{tells-role}
 use Rattle.wider.proofs.Judged.{came, comes, order-stage}
 
 -- ---- the line that tells a layout
-
-tells-role : (f : Family) (l : List ℕ) → getD l 0 0 ≡ layoutLetter f → roleIn l ≡ role.Tells f
-unfolding kindOf
-tells-role family.B l e = rw e
-tells-role family.K l e = rw e
 
 module _ (f : Family) (l : List ℕ) (i : Layout) (e : layoutSaid f l ≡ says i) where
   line-there : (getD l 0 0 ≡ layoutLetter f) × (layoutLine (firstStart f) l ≡ says i)

@@ -6,15 +6,13 @@ use mathlib.Core.Option.{none, some}
 use mathlib.Core.Path.{_≡_, refl, sym, ap, _∙_}
 use native.Mathlib.Omega.{arith}
 use lib.ListN.{length, getD}
-use Rattle.rules.specs.Families.{firstStart, lineLetter, layoutOf, withLayout}
+use Rattle.rules.specs.Families.{firstStart, lineLetter, layoutOf}
 use Rattle.rules.specs.Refusals.{says}
 use Rattle.rules.specs.Lines.{kindOf, columnedLine}
 use Rattle.rules.specs.Roles.{isRole, isPlain, isDeclaring, sameFamily, isOf, stageAfter}
 use Rattle.rules.specs.Order.{fitsDeclaration, orderOf, moved, judge}
-use Rattle.rules.specs.declared.Layout.{Layout}
 use Rattle.rules.specs.declared.Layouts.{Layouts}
 use Rattle.rules.specs.declared.Family.{Family}
-use Rattle.rules.specs.declared.Family.the-variants as family
 use Rattle.rules.specs.declared.Role.{Role}
 use Rattle.rules.specs.declared.Role.the-variants as role
 use Rattle.rules.specs.declared.Flight.{Flight}
@@ -25,6 +23,7 @@ use Rattle.sound.proofs.Placed.{Sound}
 use Rattle.wider.specs.Wider.{WiderLine}
 use Rattle.wider.specs.Before.{saidOf, AsBefore}
 use Rattle.wider.proofs.Lists.{Pairs}
+use Rattle.wider.proofs.Families.{columned-role, Beside, one, apart, beside}
 use Rattle.wider.proofs.OneLine.{reading, says-same, as-before}
 
 -- ---- the state of the new file
@@ -56,7 +55,7 @@ pub comes : (r : Role) (l : List ℕ) (st after : State) → roleIn l ≡ r → 
 comes r l st after q k c =
     judged-so l st after (record { long = known-long l (ap isRole q ∙ k); known = ap isRole q ∙ k; stage = c .stage; order = rw q (c .order); left = rw q (c .left) })
 
--- and where it came, it could
+-- where it came, it could
 pub order-stage : (r : Role) (st : State) (stage : ℕ) → orderOf r st ≡ some stage → stageAfter r (st .stage) ≡ some stage
 unfolding orderOf
 order-stage r st stage h = need-inv (fitsDeclaration (isDeclaring r) st) none (some stage) _ none-some h .1
@@ -83,18 +82,19 @@ plain-left new n p (seals e) = (seals e, refl, λ g. refl)
 plain-left new n p (remark e) = (remark e, refl, λ g. refl)
 plain-left new n p (other e) = (other e, refl, λ g. refl)
 
--- the lines of a family, with the line t before them where it is one of them
+-- the lines of a family, each as before
 abbrev pub Paired : Layouts → Layouts → Family → List (List ℕ) → List (List ℕ) → Type 0
 Paired old new g = Pairs (AsBefore g (layoutOf g old) (layoutOf g new))
 
-abbrev pub with-line : Family → List ℕ → List (List ℕ) → List (List ℕ)
-with-line g t xs = cond (isOf g (roleIn t)) (t ∷ xs) xs
+-- with the line t before them, where it is one of them
+abbrev pub withLine : Family → List ℕ → List (List ℕ) → List (List ℕ)
+withLine g t xs = cond (isOf g (roleIn t)) (t ∷ xs) xs
 
 -- the line t of the old file leaves the state `after`, and t′ of the new one the same with its own layouts and count; each reads as before, if it has columns
 pub record Stepped (old new : Layouts) (n : ℕ) (st after : State) (t t′ : List ℕ) : Type 0 where
   pub judges : judge t′ (wide new n st) ≡ says (wide new (n + 1) after)
   pub layouts : after .flight .layouts ≡ st .flight .layouts
-  pub pairs : (g : Family) (xs ys : List (List ℕ)) → Paired old new g xs ys → Paired old new g (with-line g t xs) (with-line g t′ ys)
+  pub pairs : (g : Family) (xs ys : List (List ℕ)) → Paired old new g xs ys → Paired old new g (withLine g t xs) (withLine g t′ ys)
 
 pub plain-step : (old new : Layouts) (n : ℕ) (t : List ℕ) (st after : State) → isPlain (roleIn t) ≡ true → judge t st ≡ says after → Stepped old new n st after t t
 unfolding orderOf fitsDeclaration
@@ -109,32 +109,12 @@ plain-step old new n t st after p h =
 
 -- ---- lines with columns
 
-pub columned-role : (f : Family) (l : List ℕ) → getD l 0 0 ≡ lineLetter f → roleIn l ≡ role.Columned f
-unfolding kindOf
-columned-role family.B l e = rw e
-columned-role family.K l e = rw e
-
--- two families are one, or each has its own lines and its own layout
-pub data Beside (f : Family) : Family → Type 0 where
-  one : Beside f f
-  apart : {g : Family} → sameFamily g f ≡ false → ((l : Layout) (ls : Layouts) → layoutOf g (withLayout f l ls) ≡ layoutOf g ls) → Beside f g
-
-pub beside : (f g : Family) → Beside f g
-beside family.B family.B = one
-beside family.B family.K = apart refl (λ l ls. refl)
-beside family.K family.B = apart refl (λ l ls. refl)
-beside family.K family.K = one
-
-its-own : (f : Family) → sameFamily f f ≡ true
-its-own family.B = refl
-its-own family.K = refl
-
-module _ (f : Family) (old new : Layouts) (n : ℕ) (t t′ : List ℕ) (so : Sound (firstStart f) (layoutOf f old)) (so′ : Sound (firstStart f) (layoutOf f new))
+module _ (f : Family) (old new : Layouts) (t t′ : List ℕ) (so : Sound (firstStart f) (layoutOf f old)) (so′ : Sound (firstStart f) (layoutOf f new))
     (k : getD t 0 0 ≡ lineLetter f) (w : WiderLine (firstStart f) (layoutOf f old) (layoutOf f new) t t′) where
-  columned-left : (m after : State) → m .flight .layouts ≡ old → Leaves t m (role.Columned f) after
+  columned-left : (n : ℕ) (m after : State) → m .flight .layouts ≡ old → Leaves t m (role.Columned f) after
       → Leaves t′ (wide new n m) (role.Columned f) (wide new n after) × (after .flight .layouts ≡ m .flight .layouts) × (getD t′ 0 0 ≡ lineLetter f)
       × AsBefore f (layoutOf f old) (layoutOf f new) t t′
-  columned-left m after p (columned g x e o) =
+  columned-left n m after p (columned g x e o) =
       let r = reading g in
       let v = then-inv (saidOf g t (layoutOf g old)) x _ (sym (r .timed t (layoutOf g old) k (so .right)) ∙ rw (← p) e) in
       let again = says-same g (layoutOf g old) (layoutOf g new) t t′ (v .0) so′ w (v .1) in
@@ -144,19 +124,17 @@ module _ (f : Family) (old new : Layouts) (n : ℕ) (t t′ : List ℕ) (so : So
 
   pairs-with : AsBefore f (layoutOf f old) (layoutOf f new) t t′ → (g : Family) → Beside f g → (xs ys : List (List ℕ)) → Paired old new g xs ys
       → Paired old new g (cond (sameFamily g f) (t ∷ xs) xs) (cond (sameFamily g f) (t′ ∷ ys) ys)
-  pairs-with a g one xs ys r = rw (its-own g) (a, r)
+  pairs-with a g (one q) xs ys r = rw q (a, r)
   pairs-with a g (apart q h) xs ys r = rw q r
 
-pub columned-step : (f : Family) (old new : Layouts) (n : ℕ) (t t′ : List ℕ) (st after : State) → Sound (firstStart f) (layoutOf f old)
-    → Sound (firstStart f) (layoutOf f new) → getD t 0 0 ≡ lineLetter f → WiderLine (firstStart f) (layoutOf f old) (layoutOf f new) t t′ → st .flight .layouts ≡ old
-    → judge t st ≡ says after → Stepped old new n st after t t′
-unfolding orderOf fitsDeclaration
-columned-step f old new n t t′ st after so so′ k w p h =
-    let c = came (role.Columned f) t st after (columned-role f t k) h in
-    let d = columned-left f old new (n + 1) t t′ so so′ k w (moved (c .stage) st) after p (c .left) in
-    let q′ = columned-role f t′ (d .2) in
-    record {
-      judges = comes (role.Columned f) t′ _ _ q′ refl (record { stage = c .stage; order = c .order; left = d .0 });
-      layouts = d .1;
-      pairs = λ g xs ys r. rw (columned-role f t k, q′) (pairs-with f old new (n + 1) t t′ so so′ k w (d .3) g (beside f g) xs ys r);
-    }
+  pub columned-step : (n : ℕ) (st after : State) → st .flight .layouts ≡ old → judge t st ≡ says after → Stepped old new n st after t t′
+  unfolding orderOf fitsDeclaration
+  columned-step n st after p h =
+      let c = came (role.Columned f) t st after (columned-role f t k) h in
+      let d = columned-left (n + 1) (moved (c .stage) st) after p (c .left) in
+      let q′ = columned-role f t′ (d .2) in
+      record {
+        judges = comes (role.Columned f) t′ _ _ q′ refl (record { stage = c .stage; order = c .order; left = d .0 });
+        layouts = d .1;
+        pairs = λ g xs ys r. rw (columned-role f t k, q′) (pairs-with (d .3) g (beside f g) xs ys r);
+      }

@@ -10,8 +10,6 @@ use lib.Count.{ones, ones-cat}
 use lib.Dec.{lit<}
 use lib.ListN.{length, getD, take}
 use lib.Seq.{getD-take}
-use Rattle.rules.specs.Choice.{byte}
-use Rattle.rules.specs.Families.{firstStart}
 use Rattle.rules.specs.Listed.{listed}
 use Rattle.rules.specs.Layouts.{look, carries, bit, wordFrom, presenceOf, presenceSaid}
 use Rattle.rules.specs.Lines.{kindOf}
@@ -21,7 +19,6 @@ use Rattle.rules.specs.declared.Layout.{Layout}
 use Rattle.rules.specs.declared.Listed.{Listed}
 use Rattle.rules.specs.declared.Kind.{Kind}
 use Rattle.rules.specs.declared.Family.{Family}
-use Rattle.rules.specs.declared.Family.the-variants as family
 use Rattle.rules.specs.declared.Layouts.{Layouts}
 use Rattle.rules.specs.declared.Role.the-variants as role
 use Rattle.rules.proofs.Inverse.{none-some, false-true, given-inv}
@@ -32,19 +29,13 @@ use Rattle.wider.specs.Wider.{Extends, widthIn, AfterLayouts, done, same
 use Rattle.wider.specs.Before.{linesWith, linesOfFamily, addedFrom, addedIn, MoreBits, putInto, putIn}
 use Rattle.sound.proofs.Placed.{Sound}
 use Rattle.sound.proofs.Columns.{carried-there, each-at}
-use Rattle.wider.proofs.Judged.{columned-role}
+use Rattle.wider.proofs.Families.{columned-role, first-byte}
 use Rattle.wider.proofs.Changing.{told-role}
 
 -- ---- the lines without columns
 
-pub first-same : (f : Family) (l l′ : List ℕ) → take (byte (firstStart f)) l′ ≡ take (byte (firstStart f)) l → getD l′ 0 0 ≡ getD l 0 0
-first-same f l l′ e =
-    let n = first-byte f in
-    sym (getD-take (byte (firstStart f)) l′ 0 0 n) ∙ ap (λ (x : List ℕ). getD x 0 0) e ∙ getD-take (byte (firstStart f)) l 0 0 n
-  where
-    first-byte : (f : Family) → 0 < byte (firstStart f)
-    first-byte family.B = lit< tt
-    first-byte family.K = lit< tt
+first-same : (n : ℕ) (l l′ : List ℕ) → 0 < n → take n l′ ≡ take n l → getD l′ 0 0 ≡ getD l 0 0
+first-same n l l′ p e = sym (getD-take n l′ 0 0 p) ∙ ap (λ (x : List ℕ). getD x 0 0) e ∙ getD-take n l 0 0 p
 
 module _ (test : Kind → Bool) (no-layout : (k : Kind) (g : Family) → roleOf k ≡ role.Tells g → test k ≡ false)
     (no-column : (k : Kind) (g : Family) → roleOf k ≡ role.Columned g → test k ≡ false) where
@@ -60,7 +51,7 @@ module _ (test : Kind → Bool) (no-layout : (k : Kind) (g : Family) → roleOf 
   body-others done = refl
   body-others (same {t = t} {ls = ls} {ls′ = ls′} x b) = keep t ls ls′ (body-others b)
   body-others (columned {t = t} {t′ = t′} {ls = ls} {ls′ = ls′} f x w b) =
-      skip t′ ls′ (no-column _ f (columned-role f t′ (first-same f t t′ (w .fields) ∙ x))) ∙ body-others b ∙ sym (skip t ls (no-column _ f (columned-role f t x)))
+      skip t′ ls′ (no-column _ f (columned-role f t′ (first-same _ t t′ (first-byte f) (w .fields) ∙ x))) ∙ body-others b ∙ sym (skip t ls (no-column _ f (columned-role f t x)))
 
   layouts-others : {fs : List Family} {old new : Layouts} {ls ls′ : Lines} → LayoutLines fs old new ls ls′ → linesWith test ls′ ≡ linesWith test ls
   layouts-others (all b) = body-others b

@@ -9,7 +9,7 @@ use borrow.Author.Tests.{eq-eqb}
 use lib.ListN.{length, getD, take, drop, length-append, take-append-drop}
 use lib.Seq.{take-at}
 use Rattle.rules.specs.Choice.{need, byte, Each}
-use Rattle.rules.specs.Families.{firstStart, lineLetter, familyOf}
+use Rattle.rules.specs.Families.{firstStart, lineLetter}
 use Rattle.rules.specs.Refusals.{Said, says, refuses, andThen}
 use Rattle.rules.specs.Chars.{characters, firstInvalid}
 use Rattle.rules.specs.Listed.{packedOf, keepsRule}
@@ -34,6 +34,7 @@ use Rattle.trips.proofs.Extras.{extra-there, extra-trip}
 use Rattle.trips.proofs.Fixes.{fix-there, fix-trip}
 use Rattle.wider.specs.Wider.{textIn, KeepsRules, WiderLine}
 use Rattle.wider.specs.Before.{ValueOf, saidOf, textSaid, AsBefore}
+use Rattle.wider.proofs.Families.{family-of}
 use Rattle.sound.proofs.Each.{each-map, each-both}
 use Rattle.sound.proofs.Placed.{Sound}
 use Rattle.sound.proofs.Columns.{carried-there, each-at, each-looked, ruled-there, ruled-here, columns-valid}
@@ -172,11 +173,6 @@ reading family.K = record {
 }
 
 -- ---- a line with added columns reads as before
-
-family-of : (f : Family) → familyOf (lineLetter f) ≡ some f
-unfolding familyOf
-family-of family.B = refl
-family-of family.K = refl
 
 entries-said : (f : Family) (l : List ℕ) (layout : Layout) (v : ValueOf f) → saidOf f l layout ≡ says v → entriesSaid l layout ≡ says (entriesOf layout)
 unfolding entriesSaid

@@ -59,11 +59,11 @@ module _ (seal : Seal) (file file′ : List ℕ) (room room′ : Option ℕ) (f 
 
   -- what is said of the new file
   said : Flight
-  said = wideFlight (went .1) (went .3 .lines) f
+  said = wideFlight (went .new) (went .passed .lines) f
 
   tableless : verdict seal file′ none ≡ says said
   unfolding verdict said
-  tableless = rw (le-leb 1 (length file′) (some-bytes seal file′ _ (went .3 .runs)), le-leb (length file′) 16777216 long) (went .3 .runs)
+  tableless = rw (le-leb 1 (length file′) (some-bytes seal file′ _ (went .passed .runs)), le-leb (length file′) 16777216 long) (went .passed .runs)
 
   more-lines : said .lines ≡ f .lines + putIn w
   more-lines = omega (arith, lines-counted seal file′ none said tableless, lines-more w, lines-counted seal file room f accepted)
@@ -78,11 +78,11 @@ module _ (seal : Seal) (file file′ : List ℕ) (room room′ : Option ℕ) (f 
     events = others-same (λ k. isEvent (roleOf k)) (λ k g e. ap isEvent e) (λ k g e. ap isEvent e) w;
     others = λ test i c. others-same test i c w;
     columned = λ g n h.
-        subst (λ old. AsBefore g (layoutOf g old) (layoutOf g (went .1)) (lineOf g file n) (lineOf g file′ n)) (sym (went .3 .told))
-        (pair-at (AsBefore g (layoutOf g (went .0)) (layoutOf g (went .1))) [] (linesOfFamily g (linesOf file)) (linesOfFamily g (linesOf file′)) n (went .3 .pairs g)
+        subst (λ old. AsBefore g (layoutOf g old) (layoutOf g (went .new)) (lineOf g file n) (lineOf g file′ n)) (sym (went .passed .told))
+        (pair-at (AsBefore g (layoutOf g (went .old)) (layoutOf g (went .new))) [] (linesOfFamily g (linesOf file)) (linesOfFamily g (linesOf file′)) n (went .passed .pairs g)
         (omega (arith, family-counted seal file room f accepted g, family-tallied g (linesOf file))));
-    presence = subst (λ old. MoreBits (layoutOf family.B old) (layoutOf family.B (went .1))) (sym (went .3 .told))
-        (let x = went .2 family.B in presence-more (layoutOf family.B (went .0)) (layoutOf family.B (went .1)) (x .2) (x .0) (x .1));
+    presence = subst (λ old. MoreBits (layoutOf family.B old) (layoutOf family.B (went .new))) (sym (went .passed .told))
+        (let x = went .fine family.B in presence-more (layoutOf family.B (went .old)) (layoutOf family.B (went .new)) (x .2) (x .0) (x .1));
   }
 
   pub reads-as-before : (f′ : Flight) × (verdict seal file′ room′ ≡ says f′) × ReadsAsBefore file file′ f f′ (putIn w)
