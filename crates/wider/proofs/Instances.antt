@@ -9,6 +9,7 @@ use Rattle.rules.specs.Refusals.{says, valueOr}
 use Rattle.rules.specs.Chars.{characters}
 use Rattle.rules.specs.Listed.{keepsRule}
 use Rattle.rules.specs.Layouts.{emptyLayout}
+use Rattle.rules.specs.Split.{Lines}
 use Rattle.rules.specs.Reads.{layoutSaid}
 use Rattle.rules.specs.declared.Layout.{Layout}
 use Rattle.rules.specs.declared.Layouts.{Layouts}
@@ -16,7 +17,7 @@ use Rattle.rules.specs.declared.Family.{Family}
 use Rattle.rules.specs.declared.Family.the-variants as family
 use Rattle.rules.proofs.Computed.{everything, fileOf}
 use Rattle.rules.proofs.Damaged.{fiveLines}
-use Rattle.wider.specs.Wider.{widthIn, textIn, KeepsRules, done, same, columned, all, without, changed, put, noLayouts, front, from, WiderFile}
+use Rattle.wider.specs.Wider.{widthIn, textIn, KeepsRules, AfterLayouts, done, same, columned, LayoutLines, all, without, changed, put, noLayouts, front, from, WiderFile}
 use Rattle.wider.specs.Before.{putIn}
 
 -- the layout that a line tells, the empty one where it tells none; and the layouts that an I line and a J line tell
@@ -25,6 +26,11 @@ told f l = valueOr emptyLayout (layoutSaid f (bytes l))
 
 abbrev laid : String → String → Layouts
 laid i j = record { b = told family.B i; k = told family.K j }
+
+-- the lines after the layout lines, where no further family has one
+abbrev rest : {fs : List Family} {old new : Layouts} {ls ls′ : Lines} → AfterLayouts old new ls ls′ → LayoutLines fs old new ls ls′
+rest {fs = []} b = all b
+rest {fs = f ∷ fs} b = without (rest b)
 
 -- the text of a column keeps the rules, whether the column is an added one or not
 fit : {x : ℕ} {text : List ℕ} {A : Type 0} → characters false text ≡ says tt → keepsRule x text ≡ true → A → KeepsRules x text
@@ -38,10 +44,10 @@ enlBetween = fileOf ("AXYZ001" ∷ "HFDTE150724" ∷ "I033638FXA3941ENL4243SIU" 
 pub between : WiderFile fiveLines enlBetween
 unfolding everything fileOf widthIn textIn told
 between =
-    front refl (front refl (from (changed {i = told family.B "I023638FXA3940SIU"} {i′ = told family.B "I033638FXA3941ENL4243SIU"} refl refl (refl, (refl, tt)) (without
-    (all {old = laid "I023638FXA3940SIU" ""} {new = laid "I033638FXA3941ENL4243SIU" ""}
+    front refl (front refl (from (changed {i = told family.B "I023638FXA3940SIU"} {i′ = told family.B "I033638FXA3941ENL4243SIU"} refl refl (refl, (refl, tt))
+    (rest {old = laid "I023638FXA3940SIU" ""} {new = laid "I033638FXA3941ENL4243SIU" ""}
     (columned family.B refl (record { fields = refl; long = refl; kept = (refl, (refl, tt)); added = (fit refl refl, (fit refl refl, (fit refl refl, tt))) })
-    (same refl done)))))))
+    (same refl done))))))
 
 -- an unlisted code put before FXA, and the old columns in the other order
 abbrev pub othersMoved : List ℕ
@@ -51,10 +57,10 @@ othersMoved = fileOf ("AXYZ001" ∷ "HFDTE150724" ∷ "I033637ZZZ3839SIU4042FXA"
 pub before-and-moved : WiderFile fiveLines othersMoved
 unfolding everything fileOf widthIn textIn told
 before-and-moved =
-    front refl (front refl (from (changed {i = told family.B "I023638FXA3940SIU"} {i′ = told family.B "I033637ZZZ3839SIU4042FXA"} refl refl (refl, (refl, tt)) (without
-    (all {old = laid "I023638FXA3940SIU" ""} {new = laid "I033637ZZZ3839SIU4042FXA" ""}
+    front refl (front refl (from (changed {i = told family.B "I023638FXA3940SIU"} {i′ = told family.B "I033637ZZZ3839SIU4042FXA"} refl refl (refl, (refl, tt))
+    (rest {old = laid "I023638FXA3940SIU" ""} {new = laid "I033637ZZZ3839SIU4042FXA" ""}
     (columned family.B refl (record { fields = refl; long = refl; kept = (refl, (refl, tt)); added = (fit refl refl, (fit refl refl, (fit refl refl, tt))) })
-    (same refl done)))))))
+    (same refl done))))))
 
 abbrev pub noColumns : List ℕ
 unfolding fileOf
@@ -68,11 +74,11 @@ withI = fileOf ("AXYZ001" ∷ "HFDTE150724" ∷ "HFPLTPILOT" ∷ "I013638ENL" �
 pub put-i : WiderFile noColumns withI
 unfolding everything fileOf widthIn textIn told
 put-i =
-    front refl (front refl (front refl (from (put {i′ = told family.B "I013638ENL"} refl (without
-    (all {old = noLayouts} {new = laid "I013638ENL" ""}
+    front refl (front refl (front refl (from (put {i′ = told family.B "I013638ENL"} refl
+    (rest {old = noLayouts} {new = laid "I013638ENL" ""}
     (columned family.B refl (record { fields = refl; long = refl; kept = tt; added = (fit refl refl, tt) })
     (columned family.K refl (record { fields = refl; long = refl; kept = tt; added = tt }) (same refl
-    (columned family.B refl (record { fields = refl; long = refl; kept = tt; added = (fit refl refl, tt) }) (same refl done)))))))))))
+    (columned family.B refl (record { fields = refl; long = refl; kept = tt; added = (fit refl refl, tt) }) (same refl done))))))))))
 
 -- a K column added where there was no J line: it is put in after the last H line
 abbrev pub withJ : List ℕ
@@ -83,7 +89,7 @@ pub put-j : WiderFile noColumns withJ
 unfolding everything fileOf widthIn textIn told
 put-j =
     front refl (front refl (front refl (from (without (put {i′ = told family.K "J010810HDT"} refl
-    (all {old = noLayouts} {new = laid "" "J010810HDT"}
+    (rest {old = noLayouts} {new = laid "" "J010810HDT"}
     (columned family.B refl (record { fields = refl; long = refl; kept = tt; added = tt })
     (columned family.K refl (record { fields = refl; long = refl; kept = tt; added = (fit refl refl, tt) }) (same refl
     (columned family.B refl (record { fields = refl; long = refl; kept = tt; added = tt }) (same refl done)))))))))))
@@ -97,7 +103,7 @@ pub put-both : WiderFile noColumns withBoth
 unfolding everything fileOf widthIn textIn told
 put-both =
     front refl (front refl (front refl (from (put {i′ = told family.B "I013638ENL"} refl (put {i′ = told family.K "J010810HDT"} refl
-    (all {old = noLayouts} {new = laid "I013638ENL" "J010810HDT"}
+    (rest {old = noLayouts} {new = laid "I013638ENL" "J010810HDT"}
     (columned family.B refl (record { fields = refl; long = refl; kept = tt; added = (fit refl refl, tt) })
     (columned family.K refl (record { fields = refl; long = refl; kept = tt; added = (fit refl refl, tt) }) (same refl
     (columned family.B refl (record { fields = refl; long = refl; kept = tt; added = (fit refl refl, tt) }) (same refl done)))))))))))
@@ -116,7 +122,7 @@ unfolding everything fileOf widthIn textIn told
 both =
     front refl (front refl (from (changed {i = emptyLayout} {i′ = told family.B "I023639DAE4040ZZZ"} refl refl tt
     (changed {i = told family.K "J010808TDS"} {i′ = told family.K "J020810HDT1111TDS"} refl refl (refl, tt)
-    (all {old = laid "I00" "J010808TDS"} {new = laid "I023639DAE4040ZZZ" "J020810HDT1111TDS"}
+    (rest {old = laid "I00" "J010808TDS"} {new = laid "I023639DAE4040ZZZ" "J020810HDT1111TDS"}
     (columned family.B refl (record { fields = refl; long = refl; kept = tt; added = (fit refl refl, (fit refl refl, tt)) })
     (columned family.K refl (record { fields = refl; long = refl; kept = (refl, tt); added = (fit refl refl, (fit refl refl, tt)) })
     (same refl done))))))))
