@@ -1,4 +1,5 @@
--- The columns of a layout that a line tells: each is found by its code, and they cover the line from the first start to its end. Assumes nothing.
+-- The columns of a layout that a line tells: each is found by its code, they keep their rules exactly where the line passes, and they cover the line from the first start
+-- to its end. Assumes nothing.
 use Prim.Native.Nat.{ℕ, suc, _+_, _-_, _≤_}
 use mathlib.Core.Bool.{true, false, not}
 use mathlib.Core.List.{List, [], _∷_, _++_, append-assoc}
