@@ -96,10 +96,10 @@ next-counted t ls st after f m c = record {
 
 -- what holds of both ways in which a file ends
 module _ (seal : Seal) (st : State) where
-  abbrev early : Said Flight
+  abbrev pub early : Said Flight
   early = refuses (number reason.EndsEarly) (st .flight .lines + 1) 0
 
-  finish-by : (P : Said Flight → Type 0) → P early → P (says (st .flight)) → P (finish seal st)
+  pub finish-by : (P : Said Flight → Type 0) → P early → P (says (st .flight)) → P (finish seal st)
   unfolding finish
   finish-by P a b = by-need P (eqb (st .points) 0) early _ a (by-need P (leb (endsAfter seal) (st .stage)) early (λ u. says (st .flight)) a b)
 

@@ -95,9 +95,9 @@ pub refused-parts : (n l b : ℕ) → refusedText n l b ≡ counted (bytes "REFU
 unfolding refusedText bytes
 refused-parts n l b = sym (regrouped (bytes "REFUSED") n l b lf)
 
-pub ok-parts : (f : Flight) → okText f ≡ okNumbers (f .lines) (f .bs) (f .ks) (lineLength 36 (f .fixes)) (lineLength 8 (f .extras))
+pub ok-parts : (f : Flight) → okText f ≡ okNumbers (f .lines) (f .counts .b) (f .counts .k) (lineLength 36 (f .layouts .b)) (lineLength 8 (f .layouts .k))
 unfolding okText okNumbers bytes
-ok-parts f = sym (regrouped (bytes "OK") (f .lines) (f .bs) (f .ks) (shown (lineLength 36 (f .fixes)) ++ (shown (lineLength 8 (f .extras)) ++ lf)))
+ok-parts f = sym (regrouped (bytes "OK") (f .lines) (f .counts .b) (f .counts .k) (shown (lineLength 36 (f .layouts .b)) ++ (shown (lineLength 8 (f .layouts .k)) ++ lf)))
 
 grouped : (w a b c d rest : List ℕ) → w ++ (a ++ (b ++ ((c ++ d) ++ rest))) ≡ (w ++ (a ++ (b ++ c))) ++ (d ++ rest)
 grouped w a b c d rest = simp append-assoc
@@ -128,7 +128,7 @@ pub ok-room : (f : Flight) → length (okText f) ≤ 288
 unfolding okText bytes
 ok-room f =
     simp length-append
-    (omega (arith, number-room (f .lines), number-room (f .bs), number-room (f .ks), number-room (lineLength 36 (f .fixes)), number-room (lineLength 8 (f .extras))))
+    (omega (arith, number-room (f .lines), number-room (f .counts .b), number-room (f .counts .k), number-room (lineLength 36 (f .layouts .b)), number-room (lineLength 8 (f .layouts .k))))
 
 pub fix-room : (n : ℕ) (f : Fix) → length (fixShown n f) ≤ 288
 unfolding fixShown bytes
