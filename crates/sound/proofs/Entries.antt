@@ -110,7 +110,7 @@ placed-there start before e x n h =
     let d = need-inv (widthFits (e .code) (e .last - e .first + 1)) _ (says x) _ refuses-says (c .1) in
     (record { starts = eqb-true _ _ (a .0); ends = leb-true _ _ (b .0); once = not-true _ (c .0); wide = d .0 }, cc)
 
-placed-said : (start : ℕ) (before : Layout) (e : Entry) (n : ℕ) → Fits start before e → placed start before e n ≡ says e
+pub placed-said : (start : ℕ) (before : Layout) (e : Entry) (n : ℕ) → Fits start before e → placed start before e n ≡ says e
 unfolding placed
 placed-said start before e n w = simp (eq-eqb _ _ (w .starts), le-leb _ _ (w .ends), w .once, w .wide)
 
@@ -126,24 +126,35 @@ pub entry-length : (e : Entry) → length (entryText e) ≡ 7
 unfolding entryText
 entry-length e = simp (length-append, digits-length)
 
-entry-there : (l : List ℕ) (at to start : ℕ) (before : Layout) (e : Entry) → at + 7 ≡ to → entryAt l at start before ≡ says e
-    → (drop at l ≡ entryText e ++ drop to l) × (isSpelt e ≡ true) × Fits start before e
+-- what an entry that was read says of the line
+pub record EntryThere (l : List ℕ) (at to start : ℕ) (before : Layout) (e : Entry) : Type 0 where
+  pub at-first : numberAt l at 2 ≡ some (e .first)
+  pub at-last : numberAt l (at + 2) 2 ≡ some (e .last)
+  pub at-code : codeAt l (at + 4) ≡ some (e .code)
+  pub text : drop at l ≡ entryText e ++ drop to l
+  pub spelt : isSpelt e ≡ true
+  pub fits : Fits start before e
+
+pub entry-there : (l : List ℕ) (at to start : ℕ) (before : Layout) (e : Entry) → at + 7 ≡ to → entryAt l at start before ≡ says e → EntryThere l at to start before e
 unfolding entryAt entryText isSpelt
 entry-there l at to start before e t h =
     let a = given-inv (numberAt l at 2) _ (says e) _ refuses-says h in
     let b = given-inv (numberAt l (at + 2) 2) _ (says e) _ refuses-says (a .2) in
     let c = given-inv (codeAt l (at + 4)) _ (says e) _ refuses-says (b .2) in
-    let x : Entry = record { first = a .0; last = b .0; code = c .0 } in
-    let p = placed-there start before x e (at + 1) (c .2) in
+    let p = placed-there start before (record { first = a .0; last = b .0; code = c .0 }) e (at + 1) (c .2) in
     let u = number-there l at 2 (at + 2) (a .0) refl (a .1) in
     let v = number-there l (at + 2) 2 (at + 4) (b .0) (omega arith) (b .1) in
     let w = code-there l (at + 4) to (c .0) (omega arith) (c .1) in
-    let g : drop at l ≡ entryText x ++ drop to l =
-    u .0 ∙ ap (λ y. digitsOf 2 (a .0) ++ y) (v .0 ∙ ap (λ y. digitsOf 2 (b .0) ++ y) (w .0)) ∙ simp append-assoc in
-    let s : isSpelt x ≡ true = simp (le-leb (b .0) 99 (omega (arith, v .1)), w .1) in
-    rw (← p .1) (g, s, p .0)
+    rw (← p .1) record {
+      at-first = a .1;
+      at-last = b .1;
+      at-code = c .1;
+      text = u .0 ∙ ap (λ y. digitsOf 2 (a .0) ++ y) (v .0 ∙ ap (λ y. digitsOf 2 (b .0) ++ y) (w .0)) ∙ simp append-assoc;
+      spelt = simp (le-leb (b .0) 99 (omega (arith, v .1)), w .1);
+      fits = p .0;
+    }
 
-entry-here : (l : List ℕ) (at start : ℕ) (before : Layout) (e : Entry) (r : List ℕ) → isSpelt e ≡ true → Fits start before e → drop at l ≡ entryText e ++ r
+pub entry-here : (l : List ℕ) (at start : ℕ) (before : Layout) (e : Entry) (r : List ℕ) → isSpelt e ≡ true → Fits start before e → drop at l ≡ entryText e ++ r
     → entryAt l at start before ≡ says e
 unfolding entryAt entryText isSpelt
 entry-here l at start before e r s w h =
@@ -204,8 +215,8 @@ entries-there (suc left) l at to start before layout t h =
       entries = e ∷ r .entries;
       count = ap suc (r .count);
       is = r .is;
-      tiled = (w .1, w .2, r .tiled);
-      text = w .0 ∙ ap (λ x. entryText e ++ x) (r .text) ∙ sym (append-assoc (entryText e) (entryTexts (r .entries)) (drop to l));
+      tiled = (w .spelt, w .fits, r .tiled);
+      text = w .text ∙ ap (λ x. entryText e ++ x) (r .text) ∙ sym (append-assoc (entryText e) (entryTexts (r .entries)) (drop to l));
     }
 
 pub entries-here : (es : List Entry) (l : List ℕ) (at start : ℕ) (before : Layout) (r : List ℕ) → Tiled es start before → drop at l ≡ entryTexts es ++ r
