@@ -17,7 +17,7 @@ fn args(program: &str) -> Vec<Vec<u8>> {
 
 /// Where a file of a program's `data` stands.
 fn data(program: &str, name: &[u8]) -> String {
-    format!("crates/{program}/data/{}", str::from_utf8(name).expect("a file's name"))
+    format!("crates/{program}/data/{}", std::str::from_utf8(name).expect("a file's name"))
 }
 
 /// Each expected output, and what it must be.
