@@ -1,6 +1,6 @@
 //! Makes what the programs must print, from their inputs and the reading, and never from a program:
 //!     expected [--check]
-//! Run from the repository's root. Writes each expected output; with --check says instead which committed one is not what the reading makes, and where.
+//! Run from the repository's root. Says of each expected output whether it is what the reading makes, and writes it anew where it is not; with --check fails there instead.
 
 mod igc;
 mod try_inputs;
@@ -31,37 +31,36 @@ fn outputs() -> [(&'static str, Vec<u8>); 4] {
     ]
 }
 
-/// Whether a committed output is what the reading makes; the first line that is not is told.
-fn is_same(path: &str, made: &[u8]) -> bool {
-    let committed = fs::read(path).unwrap_or_default();
-    if committed == made {
-        return true;
-    }
-    let lines = |text: &[u8]| -> Vec<String> { text.split(|&c| c == b'\n').map(|l| String::from_utf8_lossy(l).into_owned()).collect() };
-    let (theirs, ours) = (lines(&committed), lines(made));
+/// The first line in which a committed output is not what the reading makes.
+fn difference(committed: &[u8], made: &[u8]) -> String {
+    let [theirs, ours] = [committed, made].map(|text| text.split(|&c| c == b'\n').collect::<Vec<_>>());
     let at = (0..).find(|&n| theirs.get(n) != ours.get(n)).unwrap();
-    let shown = |lines: &[String]| lines.get(at).map_or("(no line)".to_string(), |l| format!("{l:?}"));
-    println!(
-        "expected: {path} is not what the reading makes, at line {}:\n  committed:   {}\n  the reading: {}",
-        at + 1,
-        shown(&theirs),
-        shown(&ours)
-    );
-    false
+    let [theirs, ours] = [theirs, ours].map(|lines| lines.get(at).map_or("(no line)".to_string(), |l| format!("\"{}\"", l.escape_ascii())));
+    format!("line {}:\n  committed:   {theirs}\n  the reading: {ours}", at + 1)
 }
 
 fn main() {
     let words: Vec<String> = std::env::args().skip(1).collect();
-    let outputs = outputs();
-    match words.iter().map(String::as_str).collect::<Vec<_>>()[..] {
-        [] => outputs.iter().for_each(|(path, made)| fs::write(path, made).expect("the output can be written")),
-        ["--check"] => {
-            let others = outputs.iter().filter(|(path, made)| !is_same(path, made)).count();
-            if others > 0 {
-                std::process::exit(1);
-            }
-            println!("expected: {} expected outputs are what the reading makes", outputs.len());
-        }
+    let only_check = match words.iter().map(String::as_str).collect::<Vec<_>>()[..] {
+        [] => false,
+        ["--check"] => true,
         _ => panic!("usage: expected [--check]"),
+    };
+    let mut others = 0;
+    for (path, made) in outputs() {
+        let committed = fs::read(path).unwrap_or_default();
+        if committed == made {
+            println!("expected: {path} is what the reading makes");
+            continue;
+        }
+        others += 1;
+        println!("expected: {path} is not what the reading makes, {}", difference(&committed, &made));
+        if !only_check {
+            fs::write(path, made).expect("the output can be written");
+            println!("expected: {path} is written anew");
+        }
+    }
+    if only_check && others > 0 {
+        std::process::exit(1);
     }
 }
