@@ -87,13 +87,13 @@ fn lengths(role: Role) -> (usize, usize) {
     }
 }
 
-/// Layouts of few and many columns; each listed code at its least and most width and one past these, and with each kind of text.
+/// Layouts of few and many columns; each listed code at every width up to one that is too wide for all, and with each kind of text.
 fn of_family(family: Family) -> Vec<Limit> {
     let mut limits = [0, 12, 13, 14].map(|count| Limit::Columns(family, count)).to_vec();
     for l in &LISTED {
         let all = |c: u8, width: usize| vec![c; width];
         let rest = l.most - 1;
-        let widths = [l.least - 1, l.least, l.most, l.most + 1].into_iter().filter(|&n| n > 0).map(|n| all(b'7', n));
+        let widths = (1..=7).map(|n| all(b'7', n));
         let firsts = [b'-', b':'].map(|c| [vec![c], all(b'7', rest)].concat());
         let lasts = [b'-', b'/', b'A'].map(|c| [all(b'7', rest), vec![c]].concat());
         let texts = widths.chain(firsts).chain(lasts).chain([all(b'-', l.most)]);
