@@ -5,6 +5,7 @@ use std::fmt::Debug;
 
 use crate::library::{self, ANSWER, FixValues, HeadValues, Told};
 use outside::files::random::Random;
+use outside::reading::layouts::FAMILIES;
 use outside::reading::refusals::BAD_VALUE;
 use outside::reading::{self, Answer, Date, Family, Fix, Head, Layout, Point, Position, Refusal};
 
@@ -64,7 +65,7 @@ pub fn check(tally: &mut Tally, file: &[u8], entries: usize) -> Held<(Answer<rea
     let answer = reading::check(file, &mut theirs);
     let values = |a: &reading::Accepted| {
         let [d, m, y] = date_values(&a.date);
-        let [b, k] = [Family::Fixes, Family::Extras].map(|family| a.layouts.of(family).length(family) as u64);
+        let [b, k] = FAMILIES.map(|family| a.layouts.of(family).length(family) as u64);
         [d, m, y, a.lines, a.b_lines, a.k_lines, b, k]
     };
     let checks: [(&str, fn(&[u8], &mut [u32]) -> Told); 4] = [

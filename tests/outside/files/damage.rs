@@ -4,7 +4,7 @@ use super::generate::{Line, Sample, clock, codes, digits, join, text};
 use super::random::Random;
 use super::rules::fields;
 use crate::reading::file::HALF_DAY;
-use crate::reading::layouts::listed;
+use crate::reading::layouts::{FAMILIES, listed};
 use crate::reading::{Family, LISTED, Layout, Refusal, Role};
 
 /// Bytes that rules turn on, to be put where they do not belong.
@@ -299,7 +299,7 @@ fn wrong_for(random: &mut Random, layout: &Layout, n: usize) -> Option<[u8; 3]> 
 
 /// A listed column with something else than its digits.
 fn column(random: &mut Random, sample: &Sample) -> Option<Aimed> {
-    let family = *random.pick(&[Family::Fixes, Family::Extras]);
+    let family = *random.pick(&FAMILIES);
     let with_rules = sample.layouts.of(family).entries.iter().filter_map(|e| Some((*e, listed(&e.code)?)));
     let choices: Vec<_> = with_rules.collect();
     if choices.is_empty() {

@@ -4,7 +4,8 @@
 
 use outside::files::Run;
 use outside::options::Options;
-use outside::reading::{Accepted, Answer, Family, check};
+use outside::reading::layouts::FAMILIES;
+use outside::reading::{Accepted, Answer, check};
 
 /// What every entry of the lent table holds.
 const LENT: u32 = 7;
@@ -43,7 +44,7 @@ same (x ∷ xs) (y ∷ ys) = eqb x y && same xs ys
 fn numbers(answer: &Answer<Accepted>) -> Vec<u64> {
     match answer {
         Ok(a) => {
-            let [b, k] = [Family::Fixes, Family::Extras].map(|family| a.layouts.of(family).length(family) as u64);
+            let [b, k] = FAMILIES.map(|family| a.layouts.of(family).length(family) as u64);
             vec![0, a.lines, a.b_lines, a.k_lines, a.date.day.into(), a.date.month.into(), a.date.year.into(), b, k]
         }
         Err(r) => vec![r.number.into(), r.line, r.byte],
