@@ -4,8 +4,10 @@ use std::collections::BTreeMap;
 use std::fmt::Debug;
 
 use crate::library::{self, ANSWER, FixValues, HeadValues, Told};
-use crate::random::Random;
-use crate::reading::{self, Answer, B_START, Date, Fix, Head, K_START, Layout, Point, Position};
+use outside::files::random::Random;
+use outside::reading::layouts::FAMILIES;
+use outside::reading::refusals::BAD_VALUE;
+use outside::reading::{self, Answer, Date, Family, Fix, Head, Layout, Point, Position, Refusal};
 
 pub type Held<T> = Result<T, String>;
 
@@ -63,8 +65,8 @@ pub fn check(tally: &mut Tally, file: &[u8], entries: usize) -> Held<(Answer<rea
     let answer = reading::check(file, &mut theirs);
     let values = |a: &reading::Accepted| {
         let [d, m, y] = date_values(&a.date);
-        let lengths = [a.fixes.length(B_START) as u64, a.notes.length(K_START) as u64];
-        [d, m, y, a.lines, a.b_lines, a.k_lines, lengths[0], lengths[1]]
+        let [b, k] = FAMILIES.map(|family| a.layouts.of(family).length(family) as u64);
+        [d, m, y, a.lines, a.b_lines, a.k_lines, b, k]
     };
     let checks: [(&str, fn(&[u8], &mut [u32]) -> Told); 4] = [
         ("hive_check", library::check_file),
@@ -133,26 +135,31 @@ pub fn by_stepping(tally: &mut Tally, random: &mut Random, file: &[u8]) -> Held<
 
 /// A file's layout lines, as texts; no text where there is none.
 #[derive(Clone, Copy)]
-pub struct Layouts<'a> {
+pub struct Given<'a> {
     pub fixes: &'a [u8],
-    pub notes: &'a [u8],
+    pub extras: &'a [u8],
 }
 
 /// The first I and J lines among the lines found, whatever they say.
-pub fn layouts<'a>(file: &'a [u8], lines: &[(usize, usize)]) -> Layouts<'a> {
+pub fn layouts<'a>(file: &'a [u8], lines: &[(usize, usize)]) -> Given<'a> {
     let first = |kind: u8| lines.iter().map(|&(a, b)| &file[a..b]).find(|l| l.first() == Some(&kind)).unwrap_or(&[]);
-    Layouts { fixes: first(b'I'), notes: first(b'J') }
+    Given { fixes: first(b'I'), extras: first(b'J') }
+}
+
+/// What the reading says by a layout given as text; 17 where that is none.
+fn by_layout<T>(layout: &Option<Layout>, read: impl Fn(&Layout) -> Answer<T>) -> Answer<T> {
+    layout.as_ref().map_or(Err(Refusal::of(BAD_VALUE)), read)
 }
 
 /// The readers of a line for the line's kind; now and then all readers, so that each meets lines of every kind.
-pub fn line(tally: &mut Tally, random: &mut Random, line: &[u8], number: usize, given: Layouts) -> Held<()> {
+pub fn line(tally: &mut Tally, random: &mut Random, line: &[u8], number: usize, given: Given) -> Held<()> {
     let all = random.once_in(40);
     let kind = line.first().copied().unwrap_or(b'?');
     if all || kind == b'B' {
         fix(tally, random, line, given.fixes)?;
     }
     if all || kind == b'K' {
-        note(tally, random, line, given.notes)?;
+        extra(tally, random, line, given.extras)?;
     }
     if all || number == 2 {
         let raw = library::date(line);
@@ -173,36 +180,37 @@ pub fn line(tally: &mut Tally, random: &mut Random, line: &[u8], number: usize, 
         layout(tally, random, line)?;
     }
     if all {
-        let other = Layouts { fixes: given.notes, notes: given.fixes };
-        fix(tally, random, line, other.fixes)?;
-        note(tally, random, line, other.notes)?;
+        // The layouts of the other family.
+        fix(tally, random, line, given.extras)?;
+        extra(tally, random, line, given.fixes)?;
     }
     Ok(())
 }
 
 /// A B line: its fix, its columns, its degrees, and the line written again.
 fn fix(tally: &mut Tally, random: &mut Random, line: &[u8], given: &[u8]) -> Held<()> {
-    let layout = reading::layout_given(given, B_START);
-    let answer = layout.as_ref().map_or(Err(reading::BAD_VALUE), |y| reading::read_fix(line, y));
+    let layout = reading::layout_given(given, Family::Fixes);
+    let answer = by_layout(&layout, |y| reading::read_fix(line, y));
     let (raw, heights) = library::fix(line, given);
     let expected = answer.map_or([0, 0], |f| [f.pressure, f.gnss]);
     tally.same("hive_fix", &(line, given), raw.number, (raw, heights), (told(&answer, fix_values), expected))?;
     columns(tally, random, line, given, layout.as_ref())?;
     if let (Ok(fix), Some(layout)) = (answer, &layout) {
         degrees(tally, random, &fix)?;
-        write_fix(tally, random, fix, &line[B_START - 1..], given, layout)?;
+        write_fix(tally, random, fix, &line[35..], given, layout)?;
     }
     Ok(())
 }
 
-fn note(tally: &mut Tally, random: &mut Random, line: &[u8], given: &[u8]) -> Held<()> {
-    let layout = reading::layout_given(given, K_START);
-    let answer = layout.as_ref().map_or(Err(reading::BAD_VALUE), |y| reading::read_note(line, y));
-    let raw = library::note(line, given);
+/// A K line: its time, its columns, and the line written again.
+fn extra(tally: &mut Tally, random: &mut Random, line: &[u8], given: &[u8]) -> Held<()> {
+    let layout = reading::layout_given(given, Family::Extras);
+    let answer = by_layout(&layout, |y| reading::read_extra(line, y));
+    let raw = library::extra(line, given);
     tally.same("hive_extra", &(line, given), raw.number, raw, told(&answer, |&t| [t.into()]))?;
     columns(tally, random, line, given, layout.as_ref())?;
     if let (Ok(time), Some(layout)) = (answer, &layout) {
-        write_note(tally, random, time, &line[K_START - 1..], given, layout)?;
+        write_extra(tally, random, time, &line[7..], given, layout)?;
     }
     Ok(())
 }
@@ -213,13 +221,13 @@ fn columns(tally: &mut Tally, random: &mut Random, line: &[u8], given: &[u8], la
     let codes = layout.iter().flat_map(|y| y.entries.iter().map(|e| e.code)).chain([some]);
     for code in codes {
         // The layout is judged for the line's kind; one for the other kind is none.
-        let start = if line.first() == Some(&b'B') { B_START } else { K_START };
-        let layout = reading::layout_given(given, start);
-        let answer = layout.as_ref().map_or(Err(reading::BAD_VALUE), |y| reading::read_column(line, y, &code));
+        let family = if line.first() == Some(&b'B') { Family::Fixes } else { Family::Extras };
+        let layout = reading::layout_given(given, family);
+        let answer = by_layout(&layout, |y| reading::read_column(line, y, &code));
         let raw = library::column(line, given, code);
         let place = told(&answer, |e| [e.first as u64 - 1, (e.last - e.first + 1) as u64]);
         tally.same("hive_column", &(line, given, code), raw.number, raw, place)?;
-        let answer = layout.as_ref().map_or(Err(reading::BAD_VALUE), |y| reading::read_number(line, y, &code));
+        let answer = by_layout(&layout, |y| reading::read_number(line, y, &code));
         let raw = library::column_number(line, given, code);
         let expected = (told(&answer, |_| []), answer.unwrap_or(0));
         tally.same("hive_column_number", &(line, given, code), raw.0.number, raw, expected)?;
@@ -229,23 +237,23 @@ fn columns(tally: &mut Tally, random: &mut Random, line: &[u8], given: &[u8], la
 
 /// An I or J line: each of its columns by its place, places that it has not, and the word of an I line.
 fn layout(tally: &mut Tally, random: &mut Random, line: &[u8]) -> Held<()> {
-    let start = if line.first() == Some(&b'J') { K_START } else { B_START };
-    let answer = reading::read_layout(line, start);
+    let family = if line.first() == Some(&b'J') { Family::Extras } else { Family::Fixes };
+    let answer = reading::read_layout(line, family);
     let count = answer.as_ref().map_or(0, |y| y.entries.len());
     for n in (0..=count + 1).chain([usize::MAX]) {
-        let entry = answer.as_ref().map_err(|r| *r).and_then(|y| y.entries.get(n.wrapping_sub(1)).ok_or(reading::BAD_VALUE));
+        let entry = answer.as_ref().map_err(|r| *r).and_then(|y| y.entries.get(n.wrapping_sub(1)).ok_or(Refusal::of(BAD_VALUE)));
         let raw = library::column_at(line, n);
         let values = told(&entry, |e| [e.code[0].into(), e.code[1].into(), e.code[2].into(), e.first as u64, e.last as u64]);
         tally.same("hive_column_at", &(line, n), raw.number, raw, values)?;
     }
-    let answer = reading::layout_given(line, B_START).ok_or(reading::BAD_VALUE);
+    let answer = reading::layout_given(line, Family::Fixes).ok_or(Refusal::of(BAD_VALUE));
     let raw = library::presence(line);
     let word = told(&answer, |y| [y.presence().0.into(), y.presence().1.into()]);
     tally.same("hive_presence", &line, raw.number, raw, word)?;
     let (out, place) = output(random, line.len());
     let (mut ours, mut theirs) = (out.clone(), out);
     let raw = library::write_layout(line, place, &mut ours);
-    let answer = reading::write_layout(line, place, &mut theirs);
+    let answer = reading::write_layout_given(line, place, &mut theirs);
     let expected = (told(&answer, |&after| [after as u64]), theirs);
     tally.same("hive_write_layout", &(line, place), raw.number, (raw, ours), expected)
 }
@@ -333,7 +341,7 @@ fn spoil_text(random: &mut Random, text: &mut Vec<u8>) {
     }
 }
 
-fn write_note(tally: &mut Tally, random: &mut Random, time: u32, columns: &[u8], given: &[u8], layout: &Layout) -> Held<()> {
+fn write_extra(tally: &mut Tally, random: &mut Random, time: u32, columns: &[u8], given: &[u8], layout: &Layout) -> Held<()> {
     let (mut time, mut columns) = (time, columns.to_vec());
     match random.below(8) {
         0 => time = *random.pick(&[86_399, 86_400, 360_000, u32::MAX]),
@@ -342,8 +350,8 @@ fn write_note(tally: &mut Tally, random: &mut Random, time: u32, columns: &[u8],
     }
     let (out, place) = output(random, 7 + columns.len());
     let (mut ours, mut theirs) = (out.clone(), out);
-    let raw = library::write_note(time, &columns, given, place, &mut ours);
-    let answer = reading::write_note(time, &columns, layout, place, &mut theirs);
+    let raw = library::write_extra(time, &columns, given, place, &mut ours);
+    let answer = reading::write_extra(time, &columns, layout, place, &mut theirs);
     let expected = (told(&answer, |&after| [after as u64]), theirs);
     tally.same("hive_write_extra", &(time, columns, given, place), raw.number, (raw, ours), expected)
 }

@@ -3,15 +3,13 @@
 //! gpsbabel makes two tracks of an IGC file, one with the pressure altitudes and one with the GNSS altitudes; an altitude of 0 it takes for unknown.
 
 #[allow(dead_code)]
-mod generate;
-#[allow(dead_code)]
+#[path = "../library.rs"]
 mod library;
-mod random;
-#[allow(dead_code)]
-mod reading;
 
-use generate::{Part, Sample};
-use random::Random;
+use outside::files::generate::{self, Sample};
+use outside::files::random::Random;
+use outside::reading::fields::days_in;
+use outside::reading::{self, Role};
 use std::path::Path;
 use std::process::Command;
 
@@ -41,14 +39,14 @@ struct Point {
 fn tamed(random: &mut Random) -> Sample {
     let body = random.within(5, 120);
     let mut sample = generate::sample(random, body);
-    sample.lines.retain(|l| l.part != Part::Other && (l.text.len() >= 3 || l.part == Part::Seal));
+    sample.lines.retain(|l| l.role != Role::Other && (l.text.len() >= 3 || l.role == Role::Seal));
     for line in &mut sample.lines {
-        match line.part {
-            Part::Recorder if !line.text[1].is_ascii_alphabetic() => line.text[1] = b'X',
-            Part::Day => move_day(&mut line.text[5..11]),
-            Part::Head => move_day(&mut line.text[1..7]),
-            Part::Header if &line.text[2..5] == b"DTE" => line.text[2] = b'G',
-            Part::Seal if line.text.len() < 3 => line.text.push(b'x'),
+        match line.role {
+            Role::Recorder if !line.text[1].is_ascii_alphabetic() => line.text[1] = b'X',
+            Role::Day => move_day(&mut line.text[5..11]),
+            Role::Head => move_day(&mut line.text[1..7]),
+            Role::Header if &line.text[2..5] == b"DTE" => line.text[2] = b'G',
+            Role::Seal if line.text.len() < 3 => line.text.push(b'x'),
             _ => {}
         }
     }
@@ -128,7 +126,7 @@ fn track(gpx: &str, name: &str) -> Vec<Point> {
 
 /// The day after: gpsbabel counts a day on at each fall of the clock from one fix to the next.
 fn next_day([day, month, year]: [u64; 3]) -> [u64; 3] {
-    if day < reading::days_in(month as u32, year as u32).into() {
+    if day < days_in(month as u32, year as u32).into() {
         [day + 1, month, year]
     } else if month < 12 {
         [1, month + 1, year]
