@@ -25,6 +25,15 @@ pub enum Reason {
     InputOver,
 }
 
+// The classes of fields, by which a field that breaks its rule is refused.
+pub enum Class {
+    Time,
+    Position,
+    Altitude,
+    Date,
+    Other,
+}
+
 // A refusal: why, in which line, at which byte of it. Lines and bytes count from 1; 0 stands for none.
 pub struct Refusal {
     pub reason: Reason,
