@@ -34,7 +34,7 @@
 extern "C" {
 #endif
 
-enum { HIVE_ANSWER = 12, HIVE_HEIGHTS = 2, HIVE_DEGREES = 2, HIVE_NUMBER = 1 };
+enum { HIVE_ANSWER = 16, HIVE_HEIGHTS = 2, HIVE_DEGREES = 2, HIVE_NUMBER = 1 };
 
 /* Refusal numbers. */
 enum {
