@@ -46,7 +46,7 @@ use Rattle.demands.specs.BothWays.{Slotted, ReadsAs, BothWays}
 use Rattle.demands.proofs.Accepted as acceptance
 use Rattle.demands.proofs.Refusing as refusing
 use Rattle.demands.proofs.FieldsThere as fields-there
-use Rattle.demands.proofs.Meaning.{meant}
+use Rattle.demands.proofs.Refusing.{meant}
 use Rattle.demands.proofs.Days.{day-exactly}
 use Rattle.demands.proofs.Rows.{width-exactly, rule-exactly}
 use Rattle.demands.proofs.Reading as reading

@@ -38,8 +38,8 @@ use Rattle.demands.proofs.Laws.{each-join, shape-there}
 use Rattle.demands.proofs.Carried.{e-inv, f-inv}
 use Rattle.demands.proofs.Valued.{columned-time}
 use Rattle.demands.proofs.Entries.{there, entry-there, entries-laid, with-laid}
-use Rattle.demands.proofs.Letters.{begins}
-use Rattle.demands.proofs.Tails.{end-of, line-end}
+use Rattle.demands.proofs.Leading.{letter-tests}
+use Rattle.demands.proofs.Columns.{end-of, line-end}
 use Rattle.demands.proofs.Standing.{open-left, Stands}
 use Rattle.demands.proofs.Ordered.{order-told}
 
@@ -406,7 +406,7 @@ module _ (ls : List (List ℕ)) (l : List ℕ) (st : State) (w : Stands ls st) w
   judge-agrees =
       let r = roleIn l in
       agree-need 4 1 (leb 1 (length l)) _ _ λ e.
-      rw (← begins l .0)
+      rw (← letter-tests l .0)
       (agree-need 5 1 (isRole r) _ _ λ i.
       subst (λ t. Agrees (given (orderOf r st) (refuses 6 0 1) λ stage. ruled r l (moved stage st)) (check 6 1 t ∷ roleChecks r ls l)) (order-told ls st w r)
       (agree-given 6 1 (orderOf r st) _ (roleChecks r ls l) λ stage e. ruled-agrees r stage i))

@@ -28,7 +28,7 @@ use Rattle.trips.proofs.Altitudes.{altitude-trip}
 use Rattle.demands.specs.Checks.{isThere}
 use Rattle.demands.specs.FieldTexts.{Stood, Field, Codes, FieldsTold}
 use Rattle.demands.proofs.Entries.{code-there, code-here}
-use Rattle.demands.proofs.Letters.{letter}
+use Rattle.demands.proofs.Leading.{letter}
 
 -- ---- a field that reads both ways
 

@@ -3,10 +3,8 @@ pub mod Days
 pub mod Carried
 pub mod Rows
 pub mod Entries
-pub mod Tails
 pub mod Valued
 pub mod LayoutLines
-pub mod Letters
 pub mod Leading
 pub mod Passing
 pub mod Sections
@@ -15,7 +13,6 @@ pub mod FieldsThere
 pub mod Standing
 pub mod Ordered
 pub mod Faulty
-pub mod Meaning
 pub mod Refusing
 pub mod Columns
 pub mod Reading

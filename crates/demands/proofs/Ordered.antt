@@ -20,7 +20,7 @@ use Rattle.rules.specs.declared.State.{State}
 use Rattle.rules.proofs.Inverse.{and-inv, bool-eq}
 use Rattle.demands.specs.Coming.{isAmong, only, without, endsWith, isOpen, isBody, lettersBefore, mayCome}
 use Rattle.demands.specs.Checks.{isThere}
-use Rattle.demands.proofs.Letters.{every}
+use Rattle.demands.proofs.Leading.{every}
 use Rattle.demands.proofs.Standing.{and-true, only-without, open-left, none-left, Stands}
 
 -- ---- tests

@@ -38,7 +38,7 @@ use Rattle.demands.specs.Readings.{ReadsColumns, ReadsColumned, ReadsLin
 use Rattle.demands.proofs.Laws.{each-map, each-join, shape-there}
 use Rattle.demands.proofs.Carried.{e-said, f-said}
 use Rattle.demands.proofs.Valued.{IsTold, start-low, fix-reads, extra-reads, columned-letter, columned-said, head-reads, point-reads, head-said, point-said}
-use Rattle.demands.proofs.Letters.{every, same-letter}
+use Rattle.demands.proofs.Leading.{every, same-letter}
 use Rattle.demands.proofs.LayoutLines.{layout-said, told}
 use Rattle.demands.proofs.Passing.{before, lines-joined}
 use Rattle.demands.proofs.Accepted.{accepted-as}

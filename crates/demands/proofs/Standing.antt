@@ -37,9 +37,8 @@ use Rattle.demands.proofs.Valued.{columned-time, head-reads}
 use Rattle.demands.proofs.Valued as valued
 use Rattle.demands.proofs.Entries.{there}
 use Rattle.demands.proofs.LayoutLines.{layout-laid}
-use Rattle.demands.proofs.Letters.{every, put-by, same-family, is-same, letter, isTelling, isTiming, isSealing, leadsTo, begins, counts-more}
+use Rattle.demands.proofs.Leading.{every, put-by, same-family, is-same, letter, isTelling, isTiming, isSealing, leadsTo, letter-tests, counts-more, Sound, sound-start, plain-fits, head-fits, order-inv, judge-leads, stays-sound}
 use Rattle.demands.proofs.Sections.{layout-stage}
-use Rattle.demands.proofs.Leading.{Sound, sound-start, plain-fits, head-fits, order-inv, judge-leads, stays-sound}
 
 -- ---- what a line tells of itself
 
@@ -96,7 +95,7 @@ module _ (l : List ℕ) where
           let i : m ≡ n = omega arith in
           bool-eq (eqb m 0) (eqb n 0 && true) (λ z. rw (← i, z)) (λ z. rw i (and-inv (eqb n 0) true z .0))
 
--- where each line begins with one of these letters, none begins with another
+-- where each line letter-tests with one of these letters, none letter-tests with another
 pub only-without : (xs : List ℕ) (x : ℕ) (ls : List (List ℕ)) → isAmong xs x ≡ false → only xs ls ≡ true → beginning x ls ≡ 0
 unfolding only beginning
 only-without xs x [] n e = refl
@@ -134,7 +133,7 @@ none-left (l ∷ ls) e = go (eqb (getD l 0 0) (code "C")) e (none-left ls)
     go false e r = r (omega arith)
 
 module _ (l : List ℕ) where
-  -- one of a declaration that came, or those of the head that begins one
+  -- one of a declaration that came, or those of the head that letter-tests one
   come-next : (ls : List (List ℕ)) → toCome (ls ++ (l ∷ [])) ≡ cond (without (code "C") ls) (cond (eqb (getD l 0 0) (code "C")) (pointsOf l) 0) (toCome ls - 1)
   unfolding toCome beginning
   come-next [] = go (eqb (getD l 0 0) (code "C"))
@@ -297,7 +296,7 @@ module _ (s c : ℕ) (ls : List (List ℕ)) (l : List ℕ) (w : Staged s ls) (v 
 
   staged-next : Staged c (ls ++ (l ∷ []))
   staged-next =
-      let b = begins l in
+      let b = letter-tests l in
       let n = length-next l ls in
       record {
         some-line = rw n (le-leb afterA c (v .least) ∙ sym (le-leb 1 (length ls + 1) (omega arith)));
@@ -395,7 +394,7 @@ module _ (ls : List (List ℕ)) (l : List ℕ) (st after : State) (w : Stands ls
   by-role = left l (moved (so .stage) st) (letter (getD l 0 0)) (λ h. w .declared ∙ ap not (begun-there ls st w h)) (so .left)
 
   declared-next : after .declared ≡ not (without (code "C") (ls ++ (l ∷ [])))
-  declared-next = by-role .declared ∙ rw (without-next l, begins l .1 .0, w .declared) (go (isDeclaring (roleIn l)) (without (code "C") ls))
+  declared-next = by-role .declared ∙ rw (without-next l, letter-tests l .1 .0, w .declared) (go (isDeclaring (roleIn l)) (without (code "C") ls))
     where
       go : (d x : Bool) → (d || not x) ≡ not (x && not d)
       go true true = refl
@@ -404,7 +403,7 @@ module _ (ls : List (List ℕ)) (l : List ℕ) (st after : State) (w : Stands ls
       go false false = refl
 
   points-next : after .points ≡ toCome (ls ++ (l ∷ []))
-  points-next = by-role .points ∙ rw (come-next l, begins l .1 .0) (go (isDeclaring (roleIn l)) refl)
+  points-next = by-role .points ∙ rw (come-next l, letter-tests l .1 .0) (go (isDeclaring (roleIn l)) refl)
     where
       go : (d : Bool) → isDeclaring (roleIn l) ≡ d
           → cond d (cond (eqb (st .points) 0) (pointsOf l) (st .points - 1)) (st .points) ≡ cond (without (code "C") ls) (cond d (pointsOf l) 0) (toCome ls - 1)
@@ -420,7 +419,7 @@ module _ (ls : List (List ℕ)) (l : List ℕ) (st after : State) (w : Stands ls
           head-or-point false z = rw (begun-there ls st w (some-points (st .points) (eqb-false _ _ z))) (ap (λ n. n - 1) (w .points))
 
   clock-next : after .clock ≡ orZero (lastTime (ls ++ (l ∷ [])))
-  clock-next = by-role .clock ∙ rw (time-next l, begins l .1 .2, w .clock) (go (cond (isTiming (roleIn l)) (timeAt l 1) none))
+  clock-next = by-role .clock ∙ rw (time-next l, letter-tests l .1 .2, w .clock) (go (cond (isTiming (roleIn l)) (timeAt l 1) none))
     where
       go : (o : Option ℕ) → given o (orZero (lastTime ls)) (λ t. t) ≡ orZero (given o (lastTime ls) (λ t. some t))
       go (some t) = refl
@@ -428,7 +427,7 @@ module _ (ls : List (List ℕ)) (l : List ℕ) (st after : State) (w : Stands ls
 
   layouts-next : (f : Family) → layoutOf f (after .flight .layouts) ≡ laid (entriesTold f (ls ++ (l ∷ [])))
   layouts-next f =
-      let b = begins l .2 f .1 in
+      let b = letter-tests l .2 f .1 in
       by-role .layouts f
       ∙ rw (w .layouts f, ← b) (go (eqb (getD l 0 0) (layoutLetter f)))
       ∙ ap laid (sym (told-next l f ls λ q. untold f ls st w (leads-on .first f (sym b ∙ q))))

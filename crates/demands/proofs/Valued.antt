@@ -37,7 +37,7 @@ use Rattle.trips.proofs.Points.{point-trip}
 use Rattle.demands.specs.Grammar.{Columns, IsBLine, IsKLine, IsColumned, IsHeadLine, IsPointLine}
 use Rattle.demands.proofs.Laws.{each-cut, valid-are, shape-there}
 use Rattle.demands.proofs.Days.{day-exactly, planned-exactly}
-use Rattle.demands.proofs.Tails.{tail-exactly}
+use Rattle.demands.proofs.Columns.{tail-exactly}
 
 -- a layout that a line can tell
 abbrev pub IsTold : Family → Layout → Type 0

@@ -32,7 +32,7 @@ use Rattle.trips.proofs.Texts.{areValid}
 use Rattle.demands.specs.Grammar.{IsText, july, AtMostOne, absent, given, Timed, columned, event, satellites, Untimed, differential, remark, other, Items, done, timed, untimed, Body, undeclared, declared, none, column, linesIn, Meets, joinLines}
 use Rattle.demands.proofs.Laws.{each-map, each-join, each-cut, are-valid}
 use Rattle.demands.proofs.Rows.{width-exactly, rule-exactly}
-use Rattle.demands.proofs.Letters.{every}
+use Rattle.demands.proofs.Leading.{every}
 use Rattle.demands.proofs.Valued.{columned-letter}
 
 -- ---- the file of five lines
