@@ -310,19 +310,8 @@ placed-agrees start before e n =
     agree-need 11 n (not (hasCode before (e .code))) _ _ λ p.
     agree-need 12 n (widthFits (e .code) (e .last - e .first + 1)) _ [] λ p. tt)
 
-entry-checks : List ℕ → ℕ → ℕ → List Entry → List Check
-entry-checks l at start before =
-    check 9 (at + 1) (isThere (numberAt l at 2))
-    ∷ check 9 (at + 3) (isThere (numberAt l (at + 2) 2))
-    ∷ check 9 (at + 5) (isThere (codeAt l (at + 4)))
-    ∷ check 10 (at + 1) (eqb (entryOf l at .first) start)
-    ∷ check 10 (at + 1) (leb (entryOf l at .first) (entryOf l at .last))
-    ∷ check 11 (at + 1) (not (hasCode before (entryOf l at .code)))
-    ∷ check 12 (at + 1) (widthFits (entryOf l at .code) (entryOf l at .last - entryOf l at .first + 1))
-    ∷ []
-
-entry-agrees : (l : List ℕ) (at start : ℕ) (before : List Entry) → Agrees (entryAt l at start (laid before)) (entry-checks l at start before)
-unfolding entryAt entry-checks number
+entry-agrees : (l : List ℕ) (at start : ℕ) (before : List Entry) → Agrees (entryAt l at start (laid before)) (entryChecks 1 l at start before)
+unfolding entryAt entryChecks number
 entry-agrees l at start before =
     agree-given 9 (at + 1) (numberAt l at 2) _ _ λ ss p.
     agree-given 9 (at + 3) (numberAt l (at + 2) 2) _ _ λ ff q.
@@ -332,10 +321,10 @@ entry-agrees l at start before =
 
 entries-agree : (left : ℕ) (l : List ℕ) (at start : ℕ) (before : List Entry) → length before + left ≤ 13
     → Agrees (entriesFrom left l at start (laid before)) (entryChecks left l at start before)
-unfolding entriesFrom entryChecks entry-checks
+unfolding entriesFrom entryChecks
 entries-agree zero l at start before n = tt
 entries-agree (suc left) l at start before n =
-    agree-then (entryAt l at start (laid before)) _ (entry-checks l at start before) (entryChecks left l (at + 7) (entryOf l at .last + 1) (before ++ (entryOf l at ∷ [])))
+    agree-then (entryAt l at start (laid before)) _ (entryChecks 1 l at start before) (entryChecks left l (at + 7) (entryOf l at .last + 1) (before ++ (entryOf l at ∷ [])))
     (entry-agrees l at start before) λ e h.
     subst (λ x. Agrees (entriesFrom left l (at + 7) (e .last + 1) (withEntry (laid before) e)) (entryChecks left l (at + 7) (x .last + 1) (before ++ (x ∷ []))))
     (sym (entry-there l at (at + 7) start (laid before) e refl h .3))
@@ -415,20 +404,11 @@ module _ (ls : List (List ℕ)) (l : List ℕ) (st : State) (w : Stands ls st) w
 
 fails-first : (cs : List Check) (n b : ℕ) → First cs n b → FailsFirst cs n b
 fails-first [] n b f = absurd f
-fails-first (c ∷ cs) n b (inl f) =
-    record { before = []; failed = c; after = cs; order = refl; passed = tt; fails = f .0; numbered = f .1; placed = f .2 }
+fails-first (c ∷ cs) n b (inl f) = record { before = []; failed = c; after = cs; order = refl; passed = tt; fails = f .0; numbered = f .1; placed = f .2 }
 fails-first (c ∷ cs) n b (inr f) =
     let r = fails-first cs n b (f .1) in
-    record {
-      before = c ∷ r .before;
-      failed = r .failed;
-      after = r .after;
-      order = ap (λ x. c ∷ x) (r .order);
-      passed = (f .0, r .passed);
-      fails = r .fails;
-      numbered = r .numbered;
-      placed = r .placed;
-    }
+    let order = ap (λ x. c ∷ x) (r .order) in
+    record { before = c ∷ r .before; failed = r .failed; after = r .after; order = order; passed = (f .0, r .passed); fails = r .fails; numbered = r .numbered; placed = r .placed }
 
 first-fails : (cs : List Check) (n b : ℕ) → FailsFirst cs n b → First cs n b
 first-fails cs n b w =

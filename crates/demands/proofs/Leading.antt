@@ -128,26 +128,6 @@ unfolding kindOf
 line-role family.B = refl
 line-role family.K = refl
 
-pub other-role : (b : ℕ) → code "M" ≤ b → b ≤ code "Z" → roleOf (kindOf b) ≡ role.Other
-other-role b p q = by (kindOf b) (letter b)
-  where
-    by : (k : Kind) → Letter (roleOf k) b → roleOf k ≡ role.Other
-    by kind.A h = absurd (omega arith)
-    by kind.B h = absurd (omega arith)
-    by kind.C h = absurd (omega arith)
-    by kind.D h = absurd (omega arith)
-    by kind.E h = absurd (omega arith)
-    by kind.F h = absurd (omega arith)
-    by kind.G h = absurd (omega arith)
-    by kind.H h = absurd (omega arith)
-    by kind.I h = absurd (omega arith)
-    by kind.J h = absurd (omega arith)
-    by kind.K h = absurd (omega arith)
-    by kind.L h = absurd (omega arith)
-    by kind.Other h = refl
-    by kind.NoKind (inl h) = absurd (omega arith)
-    by kind.NoKind (inr h) = absurd (omega arith)
-
 -- a line with a role has bytes
 pub not-empty : (l : List ℕ) → isRole (roleIn l) ≡ true → 1 ≤ length l
 unfolding kindOf
@@ -189,6 +169,12 @@ outside b n =
       (no 67 refl refl, no 71 refl refl, simp (no 66 refl refl, no 69 refl refl, no 70 refl refl, no 75 refl refl)),
       every (ByFamily role.Other b) (no 66 refl refl, no 73 refl refl, simp (no 65 refl refl, no 72 refl refl)) (no 75 refl refl, no 74 refl refl, simp (no 65 refl refl, no 72 refl refl, no 73 refl refl)),
     )
+
+other-role : (b : ℕ) → code "M" ≤ b → b ≤ code "Z" → roleOf (kindOf b) ≡ role.Other
+unfolding kindOf
+other-role b p q =
+    let no : (x : ℕ) → leb x 76 ≡ true → eqb b x ≡ false = λ x h. let i = leb-true x 76 h in ne-eqb b x (λ z. omega arith) in
+    rw (no 65 refl, no 66 refl, no 67 refl, no 68 refl, no 69 refl, no 70 refl, no 71 refl, no 72 refl, no 73 refl, no 74 refl, no 75 refl, no 76 refl, le-ltb b 65 (omega arith), le-leb b 90 q)
 
 -- a letter of its own
 row : (r : Role) (x b : ℕ) → b ≡ x → isRole r ≡ (leb (code "A") x && leb x (code "Z")) → Plainly r x → ByFamily r x family.B → ByFamily r x family.K → Tests r b
@@ -314,6 +300,9 @@ follows-time before now (inr h) = rw (lt-leb before now (omega arith), lt-ltb 43
 
 -- ---- a line that is judged good leads on
 
+pub some-points : (n : ℕ) → (n ≡ 0 → ⊥) → 1 ≤ n
+some-points n h = omega arith
+
 module _ (l : List ℕ) (st : State) where
   abbrev Led : State → Type 0
   Led m = (p : Part) × Leads st l p m
@@ -323,6 +312,10 @@ module _ (l : List ℕ) (st : State) where
       → Led (moved stage st)
   l-led stage true p w o = let s = leading-inv afterH inBody inBody (st .stage) stage o in rw (← s .2) (body, body-line (s .0) (s .1) (quiet p (remark w)))
   l-led stage false p w o = let s = leading-inv afterG afterLastG afterLastG (st .stage) stage o in rw (← s .2) (remarks, l-line (s .0) (s .1) p w)
+
+  -- and C, D, E, F, B, K and other lines, which are of the body
+  to-body : (F : ℕ → State) (stage : ℕ) → leading afterH inBody inBody (st .stage) ≡ some stage → InBody st l (F inBody) → Led (F stage)
+  to-body F stage o w = let s = leading-inv afterH inBody inBody (st .stage) stage o in rw (← s .2) (body, body-line (s .0) (s .1) w)
 
   by-role : (stage : ℕ) {r : Role} {m : State} → Sound st → Letter r (getD l 0 0) → fitsDeclaration (isDeclaring r) st ≡ true → stageAfter r (st .stage) ≡ some stage
       → Leaves l (moved stage st) r m → Led m
@@ -340,35 +333,20 @@ module _ (l : List ℕ) (st : State) where
       let s = leading-inv afterH (afterLayout x - 1) (afterLayout x) (st .stage) stage o in
       rw (← s .2) (telling x, layout-line x i (s .0) (s .1) (plain-fits st f) (layout-there x i l e (tells-letter x k)))
   by-role stage g k f o (passes.columned x t e w) =
-      let s = leading-inv afterH inBody inBody (st .stage) stage o in
       let c = columned-there x (layoutOf x (st .flight .layouts)) t l (g x) (line-letter x k) e in
-      rw (← s .2) (body, body-line (s .0) (s .1) (timed t (columned x c) (plain-fits st f) (time-follows (st .clock) t w)))
-  by-role stage g k f o (passes.head h n e) =
-      let s = leading-inv afterH inBody inBody (st .stage) stage o in
-      let d = head-fits st n f in
-      rw (← s .2) (body, body-line (s .0) (s .1) (head h n (d .0) (d .1) (head-there h l k e)))
-  by-role stage g k f o (passes.point p n e) =
-      let s = leading-inv afterH inBody inBody (st .stage) stage o in
-      rw (← s .2) (body, body-line (s .0) (s .1) (point (some-points (st .points) n) (point-there p l k e)))
-    where
-      some-points : (n : ℕ) → (n ≡ 0 → ⊥) → 1 ≤ n
-      some-points n h = omega arith
+      to-body (λ c. clocked t (counted x (moved c st))) stage o (timed t (columned x c) (plain-fits st f) (time-follows (st .clock) t w))
+  by-role stage g k f o (passes.head h n e) = let d = head-fits st n f in to-body (λ c. begun h (moved c st)) stage o (head h n (d .0) (d .1) (head-there h l k e))
+  by-role stage g k f o (passes.point p n e) = to-body (λ c. pointed (moved c st)) stage o (point (some-points (st .points) n) (point-there p l k e))
   by-role stage g k f o (passes.event t e w) =
-      let s = leading-inv afterH inBody inBody (st .stage) stage o in
-      rw (← s .2) (body, body-line (s .0) (s .1) (timed t (event (e-there l t k e)) (plain-fits st f) (time-follows (st .clock) t w)))
+      to-body (λ c. clocked t (moved c st)) stage o (timed t (event (e-there l t k e)) (plain-fits st f) (time-follows (st .clock) t w))
   by-role stage g k f o (passes.satellites t e w) =
-      let s = leading-inv afterH inBody inBody (st .stage) stage o in
-      rw (← s .2) (body, body-line (s .0) (s .1) (timed t (satellites (f-there l t k e)) (plain-fits st f) (time-follows (st .clock) t w)))
-  by-role stage g k f o (passes.differential e) =
-      let s = leading-inv afterH inBody inBody (st .stage) stage o in
-      rw (← s .2) (body, body-line (s .0) (s .1) (quiet (plain-fits st f) (differential (d-there l tt k e))))
+      to-body (λ c. clocked t (moved c st)) stage o (timed t (satellites (f-there l t k e)) (plain-fits st f) (time-follows (st .clock) t w))
+  by-role stage g k f o (passes.differential e) = to-body (λ c. moved c st) stage o (quiet (plain-fits st f) (differential (d-there l tt k e)))
   by-role stage g k f o (passes.seals e) =
       let s = leading-inv afterH afterG afterG (st .stage) stage o in
       rw (← s .2) (seal, g-line (s .0) (s .1) (plain-fits st f) (g-there l tt k e))
   by-role stage g k f o (passes.remark e) = l-led stage (leb (st .stage) inBody) (plain-fits st f) (l-there l tt k e) o
-  by-role stage g k f o (passes.other e) =
-      let s = leading-inv afterH inBody inBody (st .stage) stage o in
-      rw (← s .2) (body, body-line (s .0) (s .1) (quiet (plain-fits st f) (other (other-there l tt (k .0) (k .1) e))))
+  by-role stage g k f o (passes.other e) = to-body (λ c. moved c st) stage o (quiet (plain-fits st f) (other (other-there l tt (k .0) (k .1) e)))
 
   pub judge-leads : (m : State) → Sound st → judge l st ≡ says m → (p : Part) × Leads st l p m
   judge-leads m g e =

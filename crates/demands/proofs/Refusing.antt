@@ -40,9 +40,9 @@ use Rattle.demands.specs.FieldTexts.{Letter}
 use Rattle.demands.proofs.Laws.{each-join}
 use Rattle.demands.proofs.Valued.{head-there, head-said, point-there}
 use Rattle.demands.proofs.LayoutLines.{layout-there, layout-said}
-use Rattle.demands.proofs.Leading.{every, put-by, letter, tells-letter, isTelling, letter-tests, plain-fits, head-fits, order-inv}
+use Rattle.demands.proofs.Leading.{every, put-by, letter, tells-letter, isTelling, letter-tests, some-points, plain-fits, head-fits, order-inv}
 use Rattle.demands.proofs.Passing.{Passes, done, next, all-passed, before, text-is, is-text, begins, lines-joined, none-fit, Stops, ended, endless, faulty, full, comes, passes-run, stops-run}
-use Rattle.demands.proofs.Standing.{head-points, or-true, some-points, open-left, untold, Stands, stands-start, stands-next}
+use Rattle.demands.proofs.Standing.{head-points, or-true, open-left, untold, Stands, stands-start, stands-next}
 use Rattle.demands.proofs.Faulty.{judge-passes, passes-judge, judge-fails, fails-judge}
 
 -- ---- the declaration

@@ -37,7 +37,7 @@ use Rattle.demands.proofs.Valued.{columned-time, head-reads}
 use Rattle.demands.proofs.Valued as valued
 use Rattle.demands.proofs.Entries.{there}
 use Rattle.demands.proofs.LayoutLines.{layout-laid}
-use Rattle.demands.proofs.Leading.{every, put-by, same-family, is-same, letter, isTelling, isTiming, isSealing, leadsTo, letter-tests, counts-more, Sound, sound-start, plain-fits, head-fits, order-inv, judge-leads, stays-sound}
+use Rattle.demands.proofs.Leading.{every, put-by, same-family, is-same, letter, isTelling, isTiming, isSealing, leadsTo, letter-tests, counts-more, Sound, sound-start, some-points, plain-fits, head-fits, order-inv, judge-leads, stays-sound}
 use Rattle.demands.proofs.Sections.{layout-stage}
 
 -- ---- what a line tells of itself
@@ -58,9 +58,6 @@ and-true false = refl
 pub or-true : (t : Bool) → (t || true) ≡ true
 or-true true = refl
 or-true false = refl
-
-pub some-points : (n : ℕ) → (n ≡ 0 → ⊥) → 1 ≤ n
-some-points n h = omega arith
 
 pub and-assoc : (a b c : Bool) → (a && (b && c)) ≡ ((a && b) && c)
 and-assoc true b c = refl
