@@ -30,11 +30,11 @@ use Rattle.rules.proofs.Inverse.{false-true, need-inv, none-some, given-inv}
 use Rattle.trips.proofs.Texts.{clean-valid}
 use Rattle.trips.proofs.Laws.{byte-there}
 use Rattle.trips.proofs.Digits.{digits-length, digits-front, number-there, number-here}
-use Rattle.demands.specs.Grammar.{laid, widthOf, Columns, none, column}
+use Rattle.demands.specs.Grammar.{laid, widthOf, IsEntry, Tiles, Columns, none, column}
 use Rattle.demands.specs.Readings.{Spells, plain, minus, NumberOf, ReadsColumn, columnTexts, IsName, ReadsColumns}
 use Rattle.demands.proofs.Laws.{each-map, each-cut, each-join, are-valid, valid-are, nothing-found, none-found, nothing-given, each-both}
 use Rattle.demands.proofs.Rows.{rule-exactly}
-use Rattle.demands.proofs.Entries.{Fits, Tiled, allowed-there, unpacked, packed-back, with-laid, Coded, carries-none}
+use Rattle.demands.proofs.Entries.{Fits, Tiled, allowed-there, unpacked, packed-back, Coded, tiled-tiles}
 
 -- ---- where a line ends
 
@@ -222,55 +222,31 @@ number-of t none e = (refl, λ z s. none-some (sym e ∙ whole-here t s))
 
 -- ---- looking for a code
 
--- past entries of other codes
-past-others : (x : ℕ) (pre es : List Entry) (n : ℕ) → Each (λ e. Coded x e ≡ false) pre
-    → firstOf (Coded x) (λ k e. spanOf e) (pre ++ es) n ≡ firstOf (Coded x) (λ k e. spanOf e) es (length pre + n)
-unfolding firstOf
-past-others x [] es n h = ap (λ i. firstOf (Coded x) (λ k e. spanOf e) es i) (omega arith)
-past-others x (e ∷ pre) es n h =
-    rw (h .0) (past-others x pre es (suc n) (h .1) ∙ ap (λ i. firstOf (Coded x) (λ k e. spanOf e) es i) (omega arith))
-
 -- each entry is the first of its code
-looked : (start : ℕ) (pre es : List Entry) → length pre + length es ≤ 13 → Tiled es start (laid pre)
-    → Each (λ e. firstOf (Coded (e .code)) (λ k e. spanOf e) (pre ++ es) 0 ≡ some (spanOf e)) es
+looked : (es : List Entry) (start n : ℕ) → Tiles start es → Each (λ e. firstOf (Coded (e .code)) (λ k e. spanOf e) es n ≡ some (spanOf e)) es
 unfolding firstOf
-looked start pre [] n w = tt
-looked start pre (e ∷ es) n w =
-    let f : Fits start (laid pre) e = w .1 in
-    let r = looked (e .last + 1) (pre ++ (e ∷ [])) es (omega (arith, length-append pre (e ∷ []))) (subst (Tiled es (e .last + 1)) (with-laid pre e (omega arith)) (w .2)) in (
-      past-others (e .code) pre (e ∷ es) 0 (each-map pre (λ x. ne-eqb (x .code) (e .code)) (carries-none pre (e .code) (f .once))) ∙ rw (eq-eqb (e .code) (e .code) refl),
-      each-map es (λ x h. subst (λ l. firstOf (Coded (x .code)) (λ k e. spanOf e) l 0 ≡ some (spanOf x)) (append-assoc pre (e ∷ []) es) h) r,
-    )
+looked [] start n w = tt
+looked (e ∷ es) start n w = (
+  rw (eq-eqb (e .code) (e .code) refl),
+  each-map es (λ x h. rw (ne-eqb (e .code) (x .code) (λ i. h .0 (sym i))) (h .1))
+      (each-both es (λ x. x .code ≡ e .code → ⊥) (λ x. firstOf (Coded (x .code)) (λ k e. spanOf e) es (suc n) ≡ some (spanOf x)) (w .1) (looked es (e .last + 1) (suc n) (w .2))),
+)
 
--- ---- the columns stand one behind the other, up to the line's end
+-- ---- the columns stand one behind the other, each as wide as its entry says, up to the line's end
 
-texts-tail : (es : List Entry) (start : ℕ) (before : Layout) (l : List ℕ) → Tiled es start before → 1 ≤ start → length l ≡ end-of es start
-    → columnTexts l es ≡ drop (start - 1) l
+texts-are : (l : List ℕ) (es : List Entry) (from : ℕ) (rest : List ℕ) → Tiles from es → 1 ≤ from → drop (from - 1) l ≡ rest → Columns es rest
+    → (columnTexts l es ≡ rest) × Each (λ e. length (columnText l (spanOf e)) ≡ widthOf e) es
 unfolding columnTexts
-texts-tail [] start before l w h n = sym (ap (λ i. drop i l) (sym n) ∙ drop-length l)
-texts-tail (e ∷ es) start before l w h n =
-    let f : Fits start before e = w .1 in
-    let a : e .first - 1 ≡ start - 1 = omega (arith, f .starts) in
-    let b : start - 1 + (e .last - (start - 1)) ≡ e .last = omega (arith, f .starts, f .ends) in
-    let c : e .last + 1 - 1 ≡ e .last = omega arith in
-    let r = texts-tail es (e .last + 1) (withEntry before e) l (w .2) (omega arith) n in
-    let d : drop (e .last) l ≡ drop (e .last - (start - 1)) (drop (start - 1) l) = sym (drop-drop (e .last - (start - 1)) (start - 1) l ∙ ap (λ i. drop i l) b) in
-    ap (λ x. part (e .first - 1) (e .last) l ++ x) (r ∙ ap (λ i. drop i l) c ∙ d)
-    ∙ ap (λ i. part i (e .last) l ++ drop (e .last - (start - 1)) (drop (start - 1) l)) a
-    ∙ take-append-drop (e .last - (start - 1)) (drop (start - 1) l)
-
--- each is as wide as its entry says
-widths : (es : List Entry) (start : ℕ) (before : Layout) (l : List ℕ) → Tiled es start before → 1 ≤ start → length l ≡ end-of es start
-    → Each (λ e. length (columnText l (spanOf e)) ≡ widthOf e) es
-widths [] start before l w h n = tt
-widths (e ∷ es) start before l w h n =
-    let f : Fits start before e = w .1 in
-    let p = end-past es (e .last + 1) (withEntry before e) (w .2) (omega arith) in
-    let a : e .last ≤ length l = omega arith in
-    let k : e .last - (e .first - 1) ≤ length (drop (e .first - 1) l) = omega (arith, length-drop (e .first - 1) l, f .starts) in (
-      length-take-le (e .last - (e .first - 1)) (drop (e .first - 1) l) k ∙ omega (arith, f .starts, f .ends),
-      widths es (e .last + 1) (withEntry before e) l (w .2) (omega arith) n,
-    )
+texts-are l [] from rest w h g none = (refl, tt)
+texts-are l (e ∷ es) from rest w h g (column {t = t} c n v u x) =
+    let f : IsEntry from e = w .0 in
+    let a : e .first - 1 ≡ from - 1 = ap (λ i. i - 1) (f .starts) in
+    let b : e .last - (e .first - 1) ≡ widthOf e = omega (arith, f .starts, f .ends) in
+    let i : from - 1 + widthOf e ≡ e .last + 1 - 1 = omega (arith, f .starts, f .ends) in
+    let here : columnText l (spanOf e) ≡ c = ap (λ k. take (e .last - (e .first - 1)) (drop k l)) a ∙ ap (λ r. take (e .last - (e .first - 1)) r) g ∙ ap (λ k. take k (c ++ t)) b ∙ take-at c t (widthOf e) n in
+    let d : drop (e .last + 1 - 1) l ≡ t = ap (λ k. drop k l) (sym i) ∙ sym (drop-drop (widthOf e) (from - 1) l) ∙ ap (drop (widthOf e)) g ∙ drop-at c t (widthOf e) n in
+    let r = texts-are l es (e .last + 1) t (w .2) (omega arith) d x in
+    (ap (λ y. y ++ columnTexts l es) here ∙ ap (λ y. c ++ y) (r .0), (ap length here ∙ n, r .1))
 
 -- ---- all columns of a line
 
@@ -307,19 +283,17 @@ module _ (layout : Layout) (l : List ℕ) (said : entriesSaid l layout ≡ says 
       column-absent name (none-found (Coded (packedOf name)) (λ k e. spanOf e) (entriesOf layout) 0
       (each-map (entriesOf layout) (λ e n. ne-eqb (e .code) (packedOf name) (λ i. n (ap codeText i ∙ name-back name w))) h))
 
-pub columns-read : (f : Family) (layout : Layout) (l : List ℕ) → 1 ≤ firstStart f → allowed (firstStart f) layout ≡ true → length (layout .entries) ≡ 13
-    → length l ≡ lineLength (firstStart f) layout → entriesSaid l layout ≡ says (entriesOf layout) → ReadsColumns f layout l
+pub columns-read : (f : Family) (layout : Layout) (l tail : List ℕ) → 1 ≤ firstStart f → allowed (firstStart f) layout ≡ true → length (layout .entries) ≡ 13
+    → drop (firstStart f - 1) l ≡ tail → Columns (entriesOf layout) tail → entriesSaid l layout ≡ says (entriesOf layout) → ReadsColumns f layout l
 unfolding look number
-columns-read f layout l low good slots long said =
-    let a = allowed-there (firstStart f) layout good slots in
-    let w = a .0 in
+columns-read f layout l tail low good slots cut is said =
+    let w = allowed-there (firstStart f) layout good slots .0 in
     let es = entriesOf layout in
-    let n : length l ≡ end-of es (firstStart f) = long ∙ ap (lineLength (firstStart f)) (a .1) ∙ line-end (firstStart f) es in
+    let t = tiled-tiles es (firstStart f) (omega (arith, w .count, w .few)) (w .tiled) in
+    let r = texts-are l es (firstStart f) tail t low cut is in
     record {
       carried = each-map es (λ e h. column-read layout l said e (h .0) (h .1))
-          (each-both es (λ e. look layout (e .code) ≡ some (spanOf e)) (λ e. length (columnText l (spanOf e)) ≡ widthOf e)
-          (looked (firstStart f) [] es (omega (arith, w .count, w .few)) (w .tiled))
-          (widths es (firstStart f) emptyLayout l (w .tiled) low n));
+          (each-both es (λ e. look layout (e .code) ≡ some (spanOf e)) (λ e. length (columnText l (spanOf e)) ≡ widthOf e) (looked es (firstStart f) 0 t) (r .1));
       absent = name-absent layout l said;
-      tail = texts-tail es (firstStart f) emptyLayout l (w .tiled) low n;
+      tail = r .0 ∙ sym cut;
     }

@@ -10,12 +10,11 @@ use native.Mathlib.Nat.{zero-add}
 use native.Mathlib.Omega.{arith}
 use borrow.Author.Tests.{ne-eqb}
 use lib.Dec.{eqb}
-use lib.ListN.{length, getD, take}
+use lib.ListN.{length, getD, take, drop}
 use Rattle.rules.specs.Choice.{bytes, Each}
 use Rattle.rules.specs.Families.{firstStart, lineLetter, layoutLetter, familyOf, layoutOf}
 use Rattle.rules.specs.Refusals.{says}
-use Rattle.rules.specs.Layouts.{lineLength}
-use Rattle.rules.specs.Lines.{shapedBy, columnedLine}
+use Rattle.rules.specs.Layouts.{entriesOf}
 use Rattle.rules.specs.Split.{end, linesOf, offsets}
 use Rattle.rules.specs.Reads.{entriesSaid}
 use Rattle.rules.specs.Files.{verdict, goodLines}
@@ -30,13 +29,13 @@ use Rattle.rules.proofs.Inverse.{false-true}
 use Rattle.laws.proofs.Splitting.{textsOf, steps, lengths-total}
 use Rattle.laws.proofs.Splitting as splitting
 use Rattle.laws.proofs.Counted.{accepted-whole, goodIn, table-length, entry-put, entry-kept, line-by-number}
-use Rattle.trips.proofs.Fixes.{fix-there}
-use Rattle.trips.proofs.Extras.{extra-there}
-use Rattle.demands.specs.Grammar.{IsColumned, IsGLine, IsLLine, AtMostOne, absent, given, Timed, Untimed, differential, remark, other, Items, done, timed, untimed, Body, undeclared, Parts, linesIn, Keeps, Meets, joinLines}
+use Rattle.trips.proofs.Fixes.{fix-trip}
+use Rattle.trips.proofs.Extras.{extra-trip}
+use Rattle.demands.specs.Grammar.{Columns, IsColumned, IsGLine, IsLLine, AtMostOne, absent, given, Timed, Untimed, differential, remark, other, Items, done, timed, untimed, Body, undeclared, Parts, linesIn, Keeps, Meets, joinLines}
 use Rattle.demands.specs.Grammar as grammar
 use Rattle.demands.specs.Coming.{isAmong}
 use Rattle.demands.specs.Readings.{ReadsColumns, ReadsColumned, ReadsLine, NoC, ReadsDeclaration, nowhere, declared, total, Steps, Readable}
-use Rattle.demands.proofs.Laws.{each-map, each-join, shape-there}
+use Rattle.demands.proofs.Laws.{each-map, each-join}
 use Rattle.demands.proofs.Carried.{e-said, f-said}
 use Rattle.demands.proofs.Valued.{IsTold, start-low, fix-reads, extra-reads, columned-letter, columned-said, head-reads, point-reads, head-said, point-said}
 use Rattle.demands.proofs.Leading.{every, same-letter}
@@ -80,35 +79,27 @@ total-is (l ∷ ls) = ap (λ n. length l + 2 + n) (total-is ls)
 
 -- ---- lines with columns
 
--- the columns of a line of a family that reads as its time
-line-columns : (f : Family) (layout : Layout) (l : List ℕ) → IsTold f layout → getD l 0 0 ≡ lineLetter f → (t : ℕ) → columnedLine f layout l ≡ says t
-    → shapedBy (firstStart f) layout l ≡ says tt → ReadsColumns f layout l
-unfolding shapedBy entriesSaid familyOf
-line-columns f layout l i k t e s =
-    let h = shape-there (lineLength (firstStart f) layout) (lineLength (firstStart f) layout) false l tt s in
-    columns-read f layout l (start-low f) (i .0) (i .1) (omega (arith, h .long, h .short)) (rw (k, own-family f, i .0, e))
-  where
-    own-family : (f : Family) → familyOf (lineLetter f) ≡ some f
-    own-family family.B = refl
-    own-family family.K = refl
+-- the columns of a line of a family that passes its checks
+line-columns : (f : Family) (layout : Layout) (t : ℕ) (l tail : List ℕ) → IsTold f layout → IsColumned f layout t l → drop (firstStart f - 1) l ≡ tail → Columns (entriesOf layout) tail
+    → ReadsColumns f layout l
+unfolding entriesSaid familyOf
+line-columns f layout t l tail i w d c =
+    let k = columned-letter f layout t l w in
+    columns-read f layout l tail (start-low f) (i .0) (i .1) d c (rw (k, every (λ f. familyOf (lineLetter f) ≡ some f) refl refl f, i .0, columned-said f layout t l i w))
 
-pub reads-columned : (f : Family) (layout : Layout) (t : ℕ) (l : List ℕ) → IsTold f layout → IsColumned f layout t l → ReadsColumned f layout l
-reads-columned family.B layout t l i w =
-    let e = fix-reads layout i (w .0) l (w .2) in
-    record {
-      fix = w .0;
-      is = w .2;
-      reads = e;
-      columns = line-columns family.B layout l i (columned-letter family.B layout t l w) t (columned-said family.B layout t l i w) (fix-there layout l (w .0) e .shape);
-    }
-reads-columned family.K layout t l i w =
-    let e = extra-reads layout i t l w in
-    record {
-      time = t;
-      is = w;
-      reads = e;
-      columns = line-columns family.K layout l i (columned-letter family.K layout t l w) t (columned-said family.K layout t l i w) (extra-there layout l t e .shape);
-    }
+reads-columned : (f : Family) (layout : Layout) (t : ℕ) (l : List ℕ) → IsTold f layout → IsColumned f layout t l → ReadsColumned f layout l
+reads-columned family.B layout t l i (f, e, w) = record {
+  fix = f;
+  is = w;
+  reads = fix-reads layout i f l w;
+  columns = line-columns family.B layout t l (w .tail) i (f, e, w) (ap (drop 35) (w .text) ∙ fix-trip layout .behind f (w .tail)) (w .columns);
+}
+reads-columned family.K layout t l i w = record {
+  time = t;
+  is = w;
+  reads = extra-reads layout i t l w;
+  columns = line-columns family.K layout t l (w .tail) i w (ap (drop 7) (w .text) ∙ extra-trip layout .behind t (w .tail)) (w .columns);
+}
 
 -- ---- lines that are none of these
 
