@@ -37,17 +37,7 @@ code-range b e = go (isDigit b) refl e
     go true q e = let r = digit-range b q in omega arith
     go false q e = let r = and-inv (leb 65 b) (leb b 90) e in (omega (arith, leb-true 65 b (r .0)), leb-true b 90 (r .1))
 
-record Three (r : List ℕ) : Type 0 where
-  a : ℕ
-  b : ℕ
-  c : ℕ
-  rest : List ℕ
-  is : r ≡ a ∷ b ∷ c ∷ rest
-  is-a : isCode a ≡ true
-  is-b : isCode b ≡ true
-  is-c : isCode c ≡ true
-
-three : (r : List ℕ) → leads isCode 3 r ≡ true → Three r
+three : (r : List ℕ) → leads isCode 3 r ≡ true → (a b c : ℕ) × (rest : List ℕ) × (r ≡ a ∷ b ∷ c ∷ rest) × (isCode a ≡ true) × (isCode b ≡ true) × (isCode c ≡ true)
 unfolding leads
 three [] e = absurd (false-true e)
 three (a ∷ []) e = absurd (false-true (and-inv (isCode a) false e .1))
@@ -55,8 +45,7 @@ three (a ∷ b ∷ []) e = absurd (false-true (and-inv (isCode b) false (and-inv
 three (a ∷ b ∷ c ∷ r) e =
     let x = and-inv (isCode a) _ e in
     let y = and-inv (isCode b) _ (x .1) in
-    let z = and-inv (isCode c) true (y .1) in
-    record { a = a; b = b; c = c; rest = r; is = refl; is-a = x .0; is-b = y .0; is-c = z .0 }
+    (a, b, c, r, refl, x .0, y .0, and-inv (isCode c) true (y .1) .0)
 
 pub unpacked : (a b c : ℕ) → b < 256 → c < 256 → codeText (packed a b c) ≡ a ∷ b ∷ c ∷ []
 unpacked a b c q r =
@@ -74,18 +63,13 @@ unfolding codeAt codesAt isCodeWord
 code-there s at to x t e =
     let n = need-inv (leads isCode 3 (drop at s)) none (some x) _ none-some e in
     let w = three (drop at s) (n .0) in
-    let a = byte-here s at (w .a) _ (w .is) in
-    let d₁ = past s at 1 (at + 1) (w .a ∷ []) _ refl refl (w .is) in
-    let b = byte-here s (at + 1) (w .b) _ d₁ in
-    let d₂ = past s at 2 (at + 2) (w .a ∷ w .b ∷ []) _ refl refl (w .is) in
-    let c = byte-here s (at + 2) (w .c) _ d₂ in
-    let d₃ = past s at 3 to (w .a ∷ w .b ∷ w .c ∷ []) (w .rest) refl t (w .is) in
-    let i : packed (w .a) (w .b) (w .c) ≡ x = cc in
-    let u = unpacked (w .a) (w .b) (w .c) (omega (arith, code-range _ (w .is-b) .1)) (omega (arith, code-range _ (w .is-c) .1)) in
-    let a₂ : x / 65536 ≡ w .a = ap (λ l. getD l 0 0) (sym (ap codeText i) ∙ u) in
-    let b₂ : x / 256 % 256 ≡ w .b = ap (λ l. getD l 1 0) (sym (ap codeText i) ∙ u) in
-    let c₂ : x % 256 ≡ w .c = ap (λ l. getD l 2 0) (sym (ap codeText i) ∙ u) in
-    (w .is ∙ sym (simp (a₂, b₂, c₂, d₃)), simp (a₂, b₂, c₂, w .is-a, w .is-b, w .is-c))
+    let a = byte-here s at (w .0) _ (w .4) in
+    let b = byte-here s (at + 1) (w .1) _ (past s at 1 (at + 1) (w .0 ∷ []) _ refl refl (w .4)) in
+    let c = byte-here s (at + 2) (w .2) _ (past s at 2 (at + 2) (w .0 ∷ w .1 ∷ []) _ refl refl (w .4)) in
+    let d = past s at 3 to (w .0 ∷ w .1 ∷ w .2 ∷ []) (w .3) refl t (w .4) in
+    let i : packed (w .0) (w .1) (w .2) ≡ x = cc in
+    let u : codeText x ≡ w .0 ∷ w .1 ∷ w .2 ∷ [] = sym (ap codeText i) ∙ unpacked (w .0) (w .1) (w .2) (omega (arith, code-range _ (w .6) .1)) (omega (arith, code-range _ (w .7) .1)) in
+    (w .4 ∙ sym (ap (λ y. y ++ drop to s) u ∙ ap (λ y. w .0 ∷ w .1 ∷ w .2 ∷ y) d), simp (ap (λ l. getD l 0 0) u, ap (λ l. getD l 1 0) u, ap (λ l. getD l 2 0) u, w .5, w .6, w .7))
 
 pub code-here : (s : List ℕ) (at x : ℕ) (r : List ℕ) → isCodeWord x ≡ true → drop at s ≡ codeText x ++ r → codeAt s at ≡ some x
 unfolding codeAt codesAt isCodeWord leads

@@ -29,7 +29,7 @@ use Rattle.rules.specs.declared.Fix.{Fix}
 use Rattle.rules.specs.declared.Role.{Role}
 use Rattle.rules.specs.declared.Role.the-variants as role
 use Rattle.rules.specs.declared.State.{State}
-use Rattle.rules.proofs.Inverse.{false-true}
+use Rattle.rules.proofs.Inverse.{false-true, bool-eq}
 use Rattle.laws.proofs.Passing.{roleIn}
 use Rattle.demands.specs.Grammar.{laid}
 use Rattle.demands.specs.Coming.{orZero, isOpen, entryOf, entriesTold, endsAt, sizeOf, lastTime, isInTime}
@@ -350,19 +350,16 @@ agree-cond true u a b cs ds e h g = rw (← e) h
 agree-cond false u a b cs ds e h g = rw (← e) g
 
 second-line : (n : ℕ) → eqb (n + 1) 2 ≡ eqb n 1
-second-line n = go (eqb n 1) refl
-  where
-    go : (t : Bool) → eqb n 1 ≡ t → eqb (n + 1) 2 ≡ t
-    go true e = let i = eqb-true n 1 e in eq-eqb (n + 1) 2 (omega arith)
-    go false e = let i = eqb-false n 1 e in ne-eqb (n + 1) 2 (λ z. i (omega arith))
+second-line n =
+    bool-eq (eqb (n + 1) 2) (eqb n 1) (λ e. let i = eqb-true (n + 1) 2 e in eq-eqb n 1 (omega arith)) (λ e. let i = eqb-true n 1 e in eq-eqb (n + 1) 2 (omega arith))
 
 -- a C line is a point where the declaration is open
 open-points : (ls : List (List ℕ)) (st : State) → Stands ls st → not (eqb (st .points) 0) ≡ isOpen ls
-open-points ls st w = go (eqb (st .points) 0) refl ∙ ap (leb 1) (w .points) ∙ sym (open-left ls)
+open-points ls st w = go (st .points) ∙ ap (leb 1) (w .points) ∙ sym (open-left ls)
   where
-    go : (b : Bool) → eqb (st .points) 0 ≡ b → not b ≡ leb 1 (st .points)
-    go true e = let i = eqb-true (st .points) 0 e in rw i
-    go false e = let i = eqb-false (st .points) 0 e in sym (le-leb 1 (st .points) (omega arith))
+    go : (n : ℕ) → not (eqb n 0) ≡ leb 1 n
+    go zero = refl
+    go (suc n) = rw (ne-eqb (suc n) 0 (λ z. omega arith), le-leb 1 (suc n) (omega arith))
 
 either-way : (t u : Bool) {A : Type 0} (a b : Said A) (cs ds : List Check) → not t ≡ u → Agrees a cs → Agrees b ds → Agrees (cond t a b) (cond u ds cs)
 either-way true u a b cs ds e h g = rw (← e) h

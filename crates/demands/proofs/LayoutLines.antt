@@ -112,23 +112,18 @@ entries-length [] = refl
 entries-length (e ∷ es) = simp (length-append, entry-length, entries-length es) (omega arith)
 
 module _ (f : Family) (es : List Entry) (few : length es ≤ 13) (tiled : Tiled es (firstStart f) emptyLayout) where
-  own : List ℕ
+  abbrev own : List ℕ
   own = layoutLetter f ∷ (digitsOf 2 (length es) ++ entryTexts es)
 
-  own-is : layoutLetter f ∷ (digitsOf 2 (length es) ++ entryTexts es) ≡ own
-  unfolding own
-  own-is = refl
-
   own-length : length own ≡ 3 + 7 * length es
-  unfolding own
   own-length = simp (length-append, digits-length, entries-length) (omega arith)
 
   own-clean : areValid own ≡ true
-  unfolding own areValid
+  unfolding areValid
   own-clean = rw (letter-is f .1) (both-valid (digitsOf 2 (length es)) (entryTexts es) (digits-clean 2 (length es)) (entries-clean es _ _ tiled))
 
   own-reads : layoutLine (firstStart f) own ≡ says (laid es)
-  unfolding layoutLine layoutFields own
+  unfolding layoutLine layoutFields
   own-reads =
       let n = own-length in
       let s = shaped-here 3 99 own (omega arith) (omega arith) own-clean in
@@ -144,7 +139,6 @@ few-entries f layout l w =
     omega (arith, w .short, simp (length-append, digits-length, entries-length) at n)
 
 pub layout-said : (f : Family) (layout : Layout) (l : List ℕ) → IsLayoutLine f layout l → (getD l 0 0 ≡ layoutLetter f) × (layoutLine (firstStart f) l ≡ says layout)
-unfolding own
 layout-said f layout l w =
     let n = few-entries f layout l w in
     let t = tiles-tiled (w .entries) (firstStart f) n (w .tiles) in (
@@ -187,12 +181,11 @@ module _ (f : Family) (layout : Layout) where
       let a = allowed-there (firstStart f) layout g n in
       let x = a .0 in
       let k : length (entriesOf layout) ≤ 13 = omega (arith, x .count, x .few) in
-      let t : layoutText f layout ≡ own f (entriesOf layout) k (x .tiled) =
-      ap (λ i. layoutLetter f ∷ (digitsOf 2 i ++ entryTexts (entriesOf layout))) (sym (x .count)) ∙ own-is f (entriesOf layout) k (x .tiled) in
+      let t : layoutText f layout ≡ own f (entriesOf layout) k (x .tiled) = ap (λ i. layoutLetter f ∷ (digitsOf 2 i ++ entryTexts (entriesOf layout))) (sym (x .count)) in
       record {
         entries = entriesOf layout;
         tiles = tiled-tiles (entriesOf layout) (firstStart f) k (x .tiled);
-        text = t ∙ sym (own-is f (entriesOf layout) k (x .tiled));
+        text = t;
         short = omega (arith, ap length t, own-length f (entriesOf layout) k (x .tiled));
         slots = a .1;
       }
