@@ -22,7 +22,7 @@ use Rattle.trips.proofs.Laws.{past, byte-there}
 use Rattle.trips.proofs.Times.{time-trip}
 use Rattle.trips.proofs.Dates.{date-trip}
 use Rattle.demands.specs.Grammar.{Shaped, IsALine, IsDateLine, IsHLine, IsDLine, IsELine, IsFLine, IsLLine, IsGLine, IsOtherLine}
-use Rattle.demands.proofs.Days.{day-exactly}
+use Rattle.demands.proofs.Tables.{day-exactly}
 use Rattle.demands.proofs.Laws.{given-none, each-map, are-valid, shape-there, shape-said}
 
 -- ---- A

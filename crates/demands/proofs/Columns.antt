@@ -3,7 +3,7 @@
 use Prim.Native.Nat.{ℕ, suc, _+_, _-_, _≤_, zero, _^_, _/_, _%_, _<_}
 use Prim.Native.Char.{code}
 use mathlib.Core.Bool.{true, false, Bool, cond}
-use mathlib.Core.List.{List, [], _∷_, _++_, append-assoc, append-nil}
+use mathlib.Core.List.{List, [], _∷_, _++_, append-nil}
 use mathlib.Core.Logic.{_↔_}
 use mathlib.Core.Path.{_≡_, refl, sym, _∙_, ap, subst}
 use mathlib.Core.Option.{Option, none, some}
@@ -16,7 +16,7 @@ use lib.IntN.{pos, negℤ}
 use Rattle.rules.specs.Choice.{part, Each, given, need, on, firstOf}
 use Rattle.rules.specs.Chars.{isValid}
 use Rattle.rules.specs.Listed.{keepsRule, packedOf, codeText}
-use Rattle.rules.specs.Layouts.{unused, emptyLayout, withEntry, entriesOf, allowed, lineLength, Span, spanOf, lookIn, look, columnText}
+use Rattle.rules.specs.Layouts.{unused, emptyLayout, withEntry, entriesOf, allowed, lineLength, Span, spanOf, look, columnText}
 use Rattle.rules.specs.declared.Entry.{Entry}
 use Rattle.rules.specs.declared.Layout.{Layout}
 use Rattle.rules.specs.Limits.{isClean, badTail, goodTail}
@@ -33,8 +33,8 @@ use Rattle.trips.proofs.Digits.{digits-length, digits-front, number-there, numb
 use Rattle.demands.specs.Grammar.{laid, widthOf, IsEntry, Tiles, Columns, none, column}
 use Rattle.demands.specs.Readings.{Spells, plain, minus, NumberOf, ReadsColumn, columnTexts, IsName, ReadsColumns}
 use Rattle.demands.proofs.Laws.{each-map, each-cut, each-join, are-valid, valid-are, nothing-found, none-found, nothing-given, each-both}
-use Rattle.demands.proofs.Rows.{rule-exactly}
-use Rattle.demands.proofs.Entries.{Fits, Tiled, allowed-there, unpacked, packed-back, Coded, tiled-tiles}
+use Rattle.demands.proofs.Tables.{rule-exactly}
+use Rattle.demands.proofs.LayoutLines.{Fits, Tiled, allowed-there, unpacked, packed-back, Coded, tiled-tiles}
 
 -- ---- where a line ends
 

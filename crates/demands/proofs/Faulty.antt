@@ -1,18 +1,25 @@
--- The check of a line, where it stands behind the lines before, against the list of the line's checks: it says a state exactly where all pass, and else refuses with
--- the number and byte of the first that fails. Assumes nothing.
-use Prim.Native.Nat.{ℕ, zero, suc, _+_, _-_, _*_, _%_, _≤_}
+-- The check of a line, where it stands behind the lines before, against the list of the line's checks: it may come exactly where they tell that it may; a state is said
+-- exactly where all pass, and else the check refuses with the number and byte of the first that fails. Assumes nothing.
+use Prim.Native.Nat.{ℕ, zero, suc, _-_, _+_, _*_, _%_, _≤_}
 use Prim.Native.Char.{code}
 use mathlib.Core.Bool.{Bool, true, false, not, _&&_, _||_, cond}
 use mathlib.Core.List.{List, [], _∷_, _++_, append-assoc}
-use mathlib.Core.Logic.{_⊎_, inl, inr}
 use mathlib.Core.Option.{Option, none, some}
 use mathlib.Core.Path.{_≡_, refl, sym, _∙_, ap, subst}
+use mathlib.Core.Logic.{_⊎_, inl, inr}
 use native.Mathlib.Omega.{arith}
-use borrow.Author.Tests.{le-leb, eqb-true, eqb-false, eq-eqb, ne-eqb}
+use borrow.Author.Tests.{le-leb, lt-leb, leb-false, eqb-true, ne-eqb, eq-eqb}
 use lib.Dec.{eqb, leb, ltb}
 use lib.ListN.{length, getD, drop, length-append}
+use Rattle.rules.specs.Roles.{isDeclaring, atStart, afterA, afterH, afterLayout, inBody, afterG, afterLastG, leading, bodyAfter, stageAfter, isRole}
+use Rattle.rules.specs.Choice.{need, bytes, given, on, firstOf}
+use Rattle.rules.specs.Order.{fitsDeclaration, orderOf, moved, dated, laidOut, counted, begun, pointed, onward, nextDay, back, isBack, passing, timed, declarationLine, headerLine, ruled, judge}
+use Rattle.rules.specs.declared.Family.{Family}
+use Rattle.rules.specs.declared.Family.the-variants as family
+use Rattle.rules.specs.declared.Role.{Role}
+use Rattle.rules.specs.declared.Role.the-variants as role
+use Rattle.rules.specs.declared.State.{State}
 use Rattle.rules.specs.Families.{firstStart, layoutOf}
-use Rattle.rules.specs.Choice.{given, need, on, firstOf}
 use Rattle.rules.specs.Refusals.{number, Said, says, refuses, andThen}
 use Rattle.rules.specs.Chars.{isValid, isCode, codesAt, firstInvalid, characters}
 use Rattle.rules.specs.Numbers.{numberAt}
@@ -20,28 +27,156 @@ use Rattle.rules.specs.Fields.{timeAt, dateAt, latitudeAt, longitudeAt, altitud
 use Rattle.rules.specs.Listed.{codeAt, widthFits, keepsRule}
 use Rattle.rules.specs.Layouts.{withEntry, lineLength, spanOf, look, carries, placed, entryAt, entriesFrom, layoutFields, columnText, badColumn, columns}
 use Rattle.rules.specs.Lines.{isSized, shaped, aLine, isDateMark, dateLine, hLine, layoutLine, plannedAt, headFields, headLine, pointLine, dLine, eLine, badPair, fLine, fixFields, shapedBy, bLine, kLine, columnedLine, lLine, gLine, otherLine}
-use Rattle.rules.specs.Roles.{isRole}
-use Rattle.rules.specs.Order.{orderOf, moved, dated, laidOut, counted, begun, pointed, onward, nextDay, back, isBack, passing, timed, declarationLine, headerLine, ruled, judge}
 use Rattle.rules.specs.declared.Entry.{Entry}
-use Rattle.rules.specs.declared.Family.{Family}
-use Rattle.rules.specs.declared.Family.the-variants as family
 use Rattle.rules.specs.declared.Fix.{Fix}
-use Rattle.rules.specs.declared.Role.{Role}
-use Rattle.rules.specs.declared.Role.the-variants as role
-use Rattle.rules.specs.declared.State.{State}
 use Rattle.rules.proofs.Inverse.{false-true, bool-eq}
 use Rattle.laws.proofs.Passing.{roleIn}
+use Rattle.demands.specs.Coming.{isAmong, only, without, isOpen, isBody, lettersBefore, mayCome, orZero, entryOf, entriesTold, endsAt, sizeOf, lastTime, isInTime}
+use Rattle.demands.specs.Checks.{isThere, Check, check, AllPass, FailsFirst, oneEach, shapeChecks, columnChecks, timeCheck, pairChecks, hasCode, entryChecks, layoutChecks, dateChecks, headerChecks, headChecks, pointChecks, sizeChecks, fixChecks, fieldChecks, roleChecks, checksOf}
 use Rattle.demands.specs.Grammar.{laid}
-use Rattle.demands.specs.Coming.{orZero, isOpen, entryOf, entriesTold, endsAt, sizeOf, lastTime, isInTime}
-use Rattle.demands.specs.Checks.{Check, check, AllPass, FailsFirst, isThere, oneEach, shapeChecks, columnChecks, timeCheck, pairChecks, hasCode, entryChecks, layoutChecks, dateChecks, headerChecks, headChecks, pointChecks, sizeChecks, fixChecks, fieldChecks, roleChecks, checksOf}
+use Rattle.demands.proofs.Leading.{every, letter-tests}
+use Rattle.demands.proofs.Standing.{and-false, and-true, only-without, open-left, none-left, Stands}
 use Rattle.demands.proofs.Laws.{each-join, shape-there}
 use Rattle.demands.proofs.Carried.{e-inv, f-inv}
 use Rattle.demands.proofs.Valued.{columned-time}
-use Rattle.demands.proofs.Entries.{there, entry-there, entries-laid, with-laid}
-use Rattle.demands.proofs.Leading.{letter-tests}
+use Rattle.demands.proofs.LayoutLines.{there, entry-there, entries-laid, with-laid}
 use Rattle.demands.proofs.Columns.{end-of, line-end}
-use Rattle.demands.proofs.Standing.{open-left, Stands}
-use Rattle.demands.proofs.Ordered.{order-told}
+
+-- ---- tests
+
+twice-not : (t : Bool) → not (not t) ≡ t
+twice-not true = refl
+twice-not false = refl
+
+-- what the last test brings with it
+implied : (o x h : Bool) → (h ≡ true → o ≡ false) → (not o && (x && h)) ≡ (x && h)
+implied o x true f = rw (f refl)
+implied true true false f = refl
+implied true false false f = refl
+implied false x false f = refl
+
+there-need : (t : Bool) (o : Option ℕ) → isThere (need t none λ u. o) ≡ (t && isThere o)
+there-need true o = refl
+there-need false o = refl
+
+there-leading : (low high next stage : ℕ) → isThere (leading low high next stage) ≡ (leb low stage && leb stage high)
+there-leading low high next stage = go (leb low stage && leb stage high)
+  where
+    go : (t : Bool) → isThere (need t none λ u. some next) ≡ t
+    go true = refl
+    go false = refl
+
+-- ---- the declaration
+
+module _ (ls : List (List ℕ)) (st : State) (w : Stands ls st) where
+  open-is : leb 1 (st .points) ≡ isOpen ls
+  open-is = ap (leb 1) (w .points) ∙ sym (open-left ls)
+
+  plain-fits : fitsDeclaration false st ≡ not (isOpen ls)
+  unfolding fitsDeclaration
+  plain-fits = rw open-is (go (isOpen ls))
+    where
+      go : (o : Bool) → cond o false true ≡ not o
+      go true = refl
+      go false = refl
+
+  c-fits : fitsDeclaration true st ≡ (isOpen ls || (without (code "C") ls && without (code "B") ls))
+  unfolding fitsDeclaration
+  c-fits = rw (open-is, w .declared, w .counts family.B, twice-not) (go (isOpen ls))
+    where
+      go : (o : Bool) → cond o true (without (code "C") ls && without (code "B") ls) ≡ (o || (without (code "C") ls && without (code "B") ls))
+      go true = refl
+      go false = refl
+
+  -- among A, H, I and J lines there is no declaration
+  closed : (xs : List ℕ) → isAmong xs (code "C") ≡ false → only xs ls ≡ true → isOpen ls ≡ false
+  closed xs n e = open-left ls ∙ ap (leb 1) (none-left ls (only-without xs (code "C") ls n e))
+
+  -- ---- role by role
+
+  -- a line of another role than C, from the parts that lead on
+  fitted : (r : Role) → isThere (orderOf r st) ≡ (fitsDeclaration (isDeclaring r) st && isThere (stageAfter r (st .stage)))
+  unfolding orderOf
+  fitted r = there-need (fitsDeclaration (isDeclaring r) st) (stageAfter r (st .stage))
+
+  early : (r : Role) (low high next : ℕ) → isDeclaring r ≡ false → stageAfter r (st .stage) ≡ leading low high next (st .stage)
+      → isThere (orderOf r st) ≡ (not (isOpen ls) && (leb low (st .stage) && leb (st .stage) high))
+  early r low high next c e = fitted r ∙ rw (c, e, plain-fits) (ap (λ t. not (isOpen ls) && t) (there-leading low high next (st .stage)))
+
+  in-body : (leb afterH (st .stage) && leb (st .stage) inBody) ≡ isBody ls
+  unfolding isBody
+  in-body = rw (w .staged .two-lines, w .staged .unsealed)
+
+  plain-body : (r : Role) → isDeclaring r ≡ false → stageAfter r (st .stage) ≡ bodyAfter (st .stage) → isThere (orderOf r st) ≡ (not (isOpen ls) && isBody ls)
+  plain-body r c e = early r afterH inBody inBody c e ∙ ap (λ t. not (isOpen ls) && t) in-body
+
+  c-body : isThere (orderOf role.Declares st) ≡ mayCome role.Declares ls
+  unfolding stageAfter mayCome
+  c-body = fitted role.Declares ∙ rw (c-fits, there-leading afterH inBody inBody (st .stage), in-body)
+
+  a-first : isThere (orderOf role.Opens st) ≡ mayCome role.Opens ls
+  unfolding stageAfter mayCome isOpen
+  a-first =
+      early role.Opens atStart atStart afterA refl refl
+      ∙ rw (le-leb atStart (st .stage) (omega arith), no-more (st .stage) .0, w .staged .some-line, ← no-more (length ls) .1)
+      (implied (isOpen ls) true (eqb (length ls) 0) (λ e. nothing ls (eqb-true (length ls) 0 e)))
+    where
+      no-more : (n : ℕ) → (leb n 0 ≡ not (leb 1 n)) × (eqb n 0 ≡ not (leb 1 n))
+      no-more zero = (refl, refl)
+      no-more (suc n) = rw (lt-leb (suc n) 0 (omega arith), ne-eqb (suc n) 0 (λ z. omega arith), le-leb 1 (suc n) (omega arith)) (refl, refl)
+
+      nothing : (ls : List (List ℕ)) → length ls ≡ 0 → isOpen ls ≡ false
+      nothing [] e = refl
+      nothing (l ∷ ls) e = absurd (omega arith)
+
+  h-told : isThere (orderOf role.Heads st) ≡ mayCome role.Heads ls
+  unfolding stageAfter mayCome isAmong bytes
+  h-told =
+      early role.Heads afterA afterH afterH refl refl
+      ∙ rw (w .staged .some-line, w .staged .untold family.B) (implied (isOpen ls) (leb 1 (length ls)) (only (bytes "AH") ls) (closed (bytes "AH") refl))
+
+  layout-told : (f : Family) → isThere (orderOf (role.Tells f) st) ≡ mayCome (role.Tells f) ls
+  unfolding stageAfter mayCome isAmong bytes
+  layout-told f =
+      early (role.Tells f) afterH (afterLayout f - 1) (afterLayout f) refl refl
+      ∙ rw (w .staged .two-lines, w .staged .untold f)
+      (implied (isOpen ls) (leb 2 (length ls)) (only (lettersBefore f) ls) (closed (lettersBefore f) (every (λ f. isAmong (lettersBefore f) (code "C") ≡ false) refl refl f)))
+
+  g-told : isThere (orderOf role.Seals st) ≡ mayCome role.Seals ls
+  unfolding stageAfter mayCome
+  g-told =
+      early role.Seals afterH afterG afterG refl refl ∙ rw (w .staged .two-lines, w .staged .sealing)
+
+  l-stages : isThere (stageAfter role.Remark (st .stage)) ≡ leb 2 (length ls)
+  unfolding stageAfter
+  l-stages = go (leb (st .stage) inBody) refl ∙ w .staged .two-lines
+    where
+      go : (b : Bool) → leb (st .stage) inBody ≡ b → isThere (cond b (bodyAfter (st .stage)) (leading afterG afterLastG afterLastG (st .stage))) ≡ leb afterH (st .stage)
+      go true e = there-leading afterH inBody inBody (st .stage) ∙ rw e (and-true (leb afterH (st .stage)))
+      go false e =
+          let h = leb-false (st .stage) inBody e in
+          let m = w .staged .most in
+          there-leading afterG afterLastG afterLastG (st .stage)
+          ∙ rw (le-leb afterG (st .stage) (omega arith), le-leb (st .stage) afterLastG m, le-leb afterH (st .stage) (omega arith))
+
+  l-told : isThere (orderOf role.Remark st) ≡ mayCome role.Remark ls
+  unfolding mayCome
+  l-told = fitted role.Remark ∙ rw (plain-fits, l-stages)
+
+  pub order-told : (r : Role) → isThere (orderOf r st) ≡ mayCome r ls
+  unfolding stageAfter mayCome
+  order-told role.Opens = a-first
+  order-told role.Heads = h-told
+  order-told (role.Tells f) = layout-told f
+  order-told (role.Columned f) = plain-body (role.Columned f) refl refl
+  order-told role.Declares = c-body
+  order-told role.Event = plain-body role.Event refl refl
+  order-told role.Satellites = plain-body role.Satellites refl refl
+  order-told role.Differential = plain-body role.Differential refl refl
+  order-told role.Seals = g-told
+  order-told role.Remark = l-told
+  order-told role.Other = plain-body role.Other refl refl
+  order-told role.NoRole = fitted role.NoRole ∙ and-false (fitsDeclaration false st)
 
 -- ---- the first that fails
 

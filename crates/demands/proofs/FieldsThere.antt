@@ -1,7 +1,7 @@
 -- Each field could be read exactly where the text of a value within its limits stands. From the laws of each field both ways. Assumes nothing.
 use Prim.Native.Nat.{ℕ, zero, suc, _+_, _≤_, _^_}
 use Prim.Native.Char.{code}
-use mathlib.Core.Bool.{Bool, true, false, _&&_, _||_}
+use mathlib.Core.Bool.{Bool, true, false, _||_}
 use mathlib.Core.List.{List, [], _∷_, _++_}
 use mathlib.Core.Logic.{_↔_, _⊎_, inl, inr}
 use mathlib.Core.Option.{Option, none, some}
@@ -9,7 +9,7 @@ use mathlib.Core.Path.{_≡_, refl, _∙_, ap}
 use native.Mathlib.Omega.{arith}
 use borrow.Author.Tests.{lt-ltb, ltb-true, eqb-true, eq-eqb}
 use lib.Dec.{eqb, ltb}
-use lib.ListN.{length, getD, drop}
+use lib.ListN.{length, drop}
 use Rattle.rules.specs.Choice.{leads, Each}
 use Rattle.rules.specs.Chars.{isCode, codesAt}
 use Rattle.rules.specs.Numbers.{numberAt, digitsOf}
@@ -17,7 +17,7 @@ use Rattle.rules.specs.Listed.{codeAt, codeText, isCodeWord}
 use Rattle.rules.specs.Lines.{isDateMark}
 use Rattle.rules.specs.Fields.{isEither}
 use Rattle.rules.proofs.Inverse.{false-true, and-inv}
-use Rattle.trips.proofs.Laws.{past, byte-there, byte-here}
+use Rattle.trips.proofs.Laws.{past, byte-here}
 use Rattle.trips.proofs.Digits.{number-there, number-here}
 use Rattle.trips.proofs.Trip.{Trip}
 use Rattle.trips.proofs.Times.{time-trip}
@@ -28,7 +28,7 @@ use Rattle.trips.proofs.Altitudes.{altitude-trip}
 use Rattle.demands.specs.Checks.{isThere}
 use Rattle.demands.specs.FieldTexts.{Stood, Field, Codes, FieldsTold}
 use Rattle.demands.proofs.Carried.{mark-there}
-use Rattle.demands.proofs.Entries.{code-there, code-here}
+use Rattle.demands.proofs.LayoutLines.{code-there, code-here}
 use Rattle.demands.proofs.Leading.{letter}
 
 -- ---- a field that reads both ways

@@ -35,8 +35,7 @@ use Rattle.demands.specs.FieldTexts.{Letter}
 use Rattle.demands.proofs.Carried.{e-inv, f-inv}
 use Rattle.demands.proofs.Valued.{columned-time, head-reads}
 use Rattle.demands.proofs.Valued as valued
-use Rattle.demands.proofs.Entries.{there}
-use Rattle.demands.proofs.LayoutLines.{layout-laid}
+use Rattle.demands.proofs.LayoutLines.{there, layout-laid}
 use Rattle.demands.proofs.Leading.{every, put-by, same-family, is-same, letter, isTelling, isTiming, isSealing, leadsTo, letter-tests, counts-more, Sound, sound-start, some-points, plain-fits, head-fits, order-inv, judge-leads, stays-sound}
 use Rattle.demands.proofs.Sections.{layout-stage}
 
@@ -47,7 +46,7 @@ head-points h l w = ap (λ x. x + 4) (there (numberAt l 23 2) (head-there l h (h
 
 -- ---- one line more
 
-and-false : (t : Bool) → (t && false) ≡ false
+pub and-false : (t : Bool) → (t && false) ≡ false
 and-false true = refl
 and-false false = refl
 

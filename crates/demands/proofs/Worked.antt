@@ -15,8 +15,6 @@ use Rattle.rules.specs.Families.{lineLetter, layoutOf}
 use Rattle.rules.specs.Degrees.{isPosition}
 use Rattle.rules.specs.Layouts.{emptyLayout}
 use Rattle.rules.specs.declared.Entry.{Entry}
-use Rattle.rules.specs.declared.Layout.{Layout}
-use Rattle.rules.specs.declared.Family.{Family}
 use Rattle.rules.specs.declared.Family.the-variants as family
 use Rattle.rules.specs.declared.Layouts.{Layouts}
 use Rattle.rules.specs.declared.Fix.{Fix}
@@ -30,7 +28,7 @@ use Rattle.trips.proofs.Texts.{areValid}
 use Rattle.demands.specs.Coming.{isAmong}
 use Rattle.demands.specs.Grammar.{IsText, july, AtMostOne, absent, given, Timed, columned, event, satellites, Items, done, timed, untimed, Body, undeclared, declared, none, column, linesIn, Meets, joinLines}
 use Rattle.demands.proofs.Laws.{each-map, each-join, each-cut, are-valid}
-use Rattle.demands.proofs.Rows.{width-exactly, rule-exactly}
+use Rattle.demands.proofs.Tables.{width-exactly, rule-exactly}
 use Rattle.demands.proofs.Leading.{every}
 use Rattle.demands.proofs.Valued.{columned-letter, head-said, point-said}
 use Rattle.demands.proofs.Reading.{Aside, other-than, untimed-aside, front, back, in-three, front-aside, back-by}

@@ -95,17 +95,17 @@ mayCome role.Heads ls = leb 1 (length ls) && only (bytes "AH") ls
 -- behind line 2, and behind no later layout line
 mayCome (role.Tells f) ls = leb 2 (length ls) && only (lettersBefore f) ls
 -- the next point of the declaration, or the head of the only one, before the first B
-mayCome role.Declares ls = isBody ls && (isOpen ls || (without (code "C") ls && without (code "B") ls))
+mayCome role.Declares ls = (isOpen ls || (without (code "C") ls && without (code "B") ls)) && isBody ls
 -- "at once its point lines": no other kind comes between them
-mayCome (role.Columned f) ls = isBody ls && not (isOpen ls)
-mayCome role.Event ls = isBody ls && not (isOpen ls)
-mayCome role.Satellites ls = isBody ls && not (isOpen ls)
-mayCome role.Differential ls = isBody ls && not (isOpen ls)
-mayCome role.Other ls = isBody ls && not (isOpen ls)
+mayCome (role.Columned f) ls = not (isOpen ls) && isBody ls
+mayCome role.Event ls = not (isOpen ls) && isBody ls
+mayCome role.Satellites ls = not (isOpen ls) && isBody ls
+mayCome role.Differential ls = not (isOpen ls) && isBody ls
+mayCome role.Other ls = not (isOpen ls) && isBody ls
 -- before and after the first G
-mayCome role.Remark ls = leb 2 (length ls) && not (isOpen ls)
+mayCome role.Remark ls = not (isOpen ls) && leb 2 (length ls)
 -- the first G, or one right behind a G
-mayCome role.Seals ls = leb 2 (length ls) && not (isOpen ls) && (without (code "G") ls || endsWith (code "G") ls)
+mayCome role.Seals ls = not (isOpen ls) && (leb 2 (length ls) && (without (code "G") ls || endsWith (code "G") ls))
 mayCome role.NoRole ls = false
 
 -- ---- the columns that an I or a J line tells
