@@ -1,19 +1,19 @@
 -- The check of a line, where it stands behind the lines before, against the list of the line's checks: it may come exactly where they tell that it may; a state is said
 -- exactly where all pass, and else the check refuses with the number and byte of the first that fails. Assumes nothing.
-use Prim.Native.Nat.{ℕ, zero, suc, _-_, _+_, _*_, _%_, _≤_}
+use Prim.Native.Nat.{ℕ, zero, suc, _-_, _+_, _*_, _≤_}
 use Prim.Native.Char.{code}
 use mathlib.Core.Bool.{Bool, true, false, not, _&&_, _||_, cond}
-use mathlib.Core.List.{List, [], _∷_, _++_, append-assoc}
+use mathlib.Core.List.{List, [], _∷_, _++_}
 use mathlib.Core.Option.{Option, none, some}
 use mathlib.Core.Path.{_≡_, refl, sym, _∙_, ap, subst}
 use mathlib.Core.Logic.{_⊎_, inl, inr}
 use native.Mathlib.Omega.{arith}
 use borrow.Author.Tests.{le-leb, lt-leb, leb-false, eqb-true, ne-eqb, eq-eqb}
 use lib.Dec.{eqb, leb, ltb}
-use lib.ListN.{length, getD, drop, length-append}
+use lib.ListN.{length, length-append}
 use Rattle.rules.specs.Roles.{isDeclaring, atStart, afterA, afterH, afterLayout, inBody, afterG, afterLastG, leading, bodyAfter, stageAfter, isRole}
 use Rattle.rules.specs.Choice.{need, bytes, given, on, firstOf}
-use Rattle.rules.specs.Order.{fitsDeclaration, orderOf, moved, dated, laidOut, counted, begun, pointed, onward, nextDay, back, isBack, passing, timed, declarationLine, headerLine, ruled, judge}
+use Rattle.rules.specs.Order.{fitsDeclaration, orderOf, moved, laidOut, counted, onward, nextDay, back, isBack, passing, timed, declarationLine, headerLine, ruled, judge}
 use Rattle.rules.specs.declared.Family.{Family}
 use Rattle.rules.specs.declared.Family.the-variants as family
 use Rattle.rules.specs.declared.Role.{Role}
@@ -21,18 +21,17 @@ use Rattle.rules.specs.declared.Role.the-variants as role
 use Rattle.rules.specs.declared.State.{State}
 use Rattle.rules.specs.Families.{firstStart, layoutOf}
 use Rattle.rules.specs.Refusals.{number, Said, says, refuses, andThen}
-use Rattle.rules.specs.Chars.{isValid, isCode, codesAt, firstInvalid, characters}
+use Rattle.rules.specs.Chars.{isValid, isCode, firstInvalid, characters}
 use Rattle.rules.specs.Numbers.{numberAt}
-use Rattle.rules.specs.Fields.{timeAt, dateAt, latitudeAt, longitudeAt, altitudeAt, isEither}
+use Rattle.rules.specs.Fields.{timeAt}
 use Rattle.rules.specs.Listed.{codeAt, widthFits, keepsRule}
 use Rattle.rules.specs.Layouts.{withEntry, lineLength, spanOf, look, carries, placed, entryAt, entriesFrom, layoutFields, columnText, badColumn, columns}
-use Rattle.rules.specs.Lines.{isSized, shaped, aLine, isDateMark, dateLine, hLine, layoutLine, plannedAt, headFields, headLine, pointLine, dLine, eLine, badPair, fLine, fixFields, shapedBy, bLine, kLine, columnedLine, lLine, gLine, otherLine}
+use Rattle.rules.specs.Lines.{isSized, shaped, aLine, dateLine, hLine, layoutLine, headFields, headLine, pointLine, dLine, eLine, badPair, fLine, fixFields, shapedBy, bLine, kLine, columnedLine}
 use Rattle.rules.specs.declared.Entry.{Entry}
-use Rattle.rules.specs.declared.Fix.{Fix}
 use Rattle.rules.proofs.Inverse.{false-true, bool-eq}
 use Rattle.laws.proofs.Passing.{roleIn}
 use Rattle.demands.specs.Coming.{isAmong, only, without, isOpen, isBody, lettersBefore, mayCome, orZero, entryOf, entriesTold, endsAt, sizeOf, lastTime, isInTime}
-use Rattle.demands.specs.Checks.{isThere, Check, check, AllPass, FailsFirst, oneEach, shapeChecks, columnChecks, timeCheck, pairChecks, hasCode, entryChecks, layoutChecks, dateChecks, headerChecks, headChecks, pointChecks, sizeChecks, fixChecks, fieldChecks, roleChecks, checksOf}
+use Rattle.demands.specs.Checks.{isThere, Check, check, AllPass, FailsFirst, oneEach, shapeChecks, columnChecks, timeCheck, pairChecks, hasCode, entryChecks, layoutChecks, dateChecks, headerChecks, headChecks, pointChecks, thenTime, roleChecks, checksOf, lineChecks, eventChecks, satelliteChecks}
 use Rattle.demands.specs.Grammar.{laid}
 use Rattle.demands.proofs.Leading.{every, letter-tests}
 use Rattle.demands.proofs.Standing.{and-false, and-true, only-without, open-left, none-left, Stands}
@@ -266,81 +265,28 @@ in-time (some t) now = go (leb t now) (ltb 43200 (t - now))
     go false true = refl
     go false false = refl
 
-timed-agrees : (t : ℕ) (st : State) → Agrees (timed t st) (check 14 2 (not (isBack (passing (st .clock) t))) ∷ [])
-unfolding timed number
-timed-agrees t st = agree-need 14 2 (not (isBack (passing (st .clock) t))) _ [] λ e. tt
-
-on-time : (ls : List (List ℕ)) (l : List ℕ) (t : ℕ) (st : State) → st .clock ≡ orZero (lastTime ls) → timeAt l 1 ≡ some t → Agrees (timed t st) (timeCheck ls l ∷ [])
-on-time ls l t st c e =
-    let i : not (isBack (passing (st .clock) t)) ≡ isInTime (lastTime ls) (orZero (timeAt l 1)) =
-    ap (λ x. not (isBack (passing x t))) c ∙ in-time (lastTime ls) t ∙ ap (isInTime (lastTime ls)) (sym (there (timeAt l 1) e)) in
-    subst (λ x. Agrees (timed t st) (check 14 2 x ∷ [])) i (timed-agrees t st)
-
--- ---- role by role
-
-a-agrees : (ls : List (List ℕ)) (l : List ℕ) (st : State) → Agrees (ruled role.Opens l st) (roleChecks role.Opens ls l)
-unfolding ruled aLine number
-a-agrees ls l st =
-    agree-last (aLine l) (λ u. st) (roleChecks role.Opens ls l)
-    (agree-then (shaped 7 255 false l) _ (shapeChecks 7 255 false l) _ (shape-agrees 7 255 false l) λ u e.
-    agree-need 9 2 (codesAt l 1 3) _ _ λ e.
-    agree-need 9 5 (codesAt l 4 3) _ [] λ e. tt)
-
-d-agrees : (ls : List (List ℕ)) (l : List ℕ) (st : State) → Agrees (ruled role.Differential l st) (roleChecks role.Differential ls l)
-unfolding ruled dLine on number
-d-agrees ls l st =
-    agree-last (dLine l) (λ u. st) (roleChecks role.Differential ls l)
-    (agree-then (shaped 6 6 false l) _ (shapeChecks 6 6 false l) _ (shape-agrees 6 6 false l) λ u e.
-    agree-need 9 2 (isEither (getD l 1 0) (code "1") (code "2")) _ _ λ e.
-    agree-need 9 3 (codesAt l 2 4) _ [] λ e. tt)
-
-date-agrees : (l : List ℕ) → Agrees (dateLine l) (dateChecks l)
-unfolding dateLine number
-date-agrees l =
-    agree-then (shaped 11 11 true l) _ (shapeChecks 11 11 true l) _ (shape-agrees 11 11 true l) λ u e.
-    agree-need 9 2 (isDateMark l) _ _ λ e.
-    agree-given 9 6 (dateAt l 5) _ [] λ d e. tt
-
-header-agrees : (l : List ℕ) → Agrees (hLine l) (headerChecks l)
-unfolding hLine on number
-header-agrees l =
-    agree-then (shaped 5 255 true l) _ (shapeChecks 5 255 true l) _ (shape-agrees 5 255 true l) λ u e.
-    agree-need 9 2 (isEither (getD l 1 0) (code "F") (code "O")) _ _ λ e.
-    agree-need 9 3 (codesAt l 2 3) _ [] λ e. tt
-
-head-agrees : (l : List ℕ) → Agrees (headLine l) (headChecks l)
-unfolding headLine headFields number
-head-agrees l =
-    agree-then (shaped 25 255 false l) _ (shapeChecks 25 255 false l) _ (shape-agrees 25 255 false l) λ u e.
-    agree-given 9 2 (dateAt l 1) _ _ λ d e.
-    agree-given 9 8 (timeAt l 7) _ _ λ t e.
-    agree-given 9 14 (plannedAt l 13) _ _ λ f e.
-    agree-given 9 20 (numberAt l 19 4) _ _ λ n e.
-    agree-given 9 24 (numberAt l 23 2) _ [] λ k e. tt
-
-point-agrees : (l : List ℕ) → Agrees (pointLine l) (pointChecks l)
-unfolding pointLine number
-point-agrees l =
-    agree-then (shaped 18 255 false l) _ (shapeChecks 18 255 false l) _ (shape-agrees 18 255 false l) λ u e.
-    agree-given 9 2 (latitudeAt l 1) _ _ λ a e.
-    agree-given 9 10 (longitudeAt l 9) _ [] λ o e. tt
-
--- ---- lines with a time
-
 -- the checks of a line, and then of its time
-time-last : (s : Said State) (a b : List Check) (c : Check) → Agrees s ((a ++ b) ++ (c ∷ [])) → Agrees s (a ++ (b ++ (c ∷ [])))
-time-last s a b c h = rw append-assoc at h
+module _ (ls : List (List ℕ)) (l : List ℕ) where
+  then-time : (s : Said ℕ) (st : State) (cs : List Check) → st .clock ≡ orZero (lastTime ls) → ((t : ℕ) → s ≡ says t → timeAt l 1 ≡ some t) → Agrees s cs
+      → Agrees (andThen s (λ t. timed t st)) (thenTime cs ls l)
+  unfolding timed number
+  then-time s st cs c at-time h =
+      agree-then s (λ t. timed t st) cs (timeCheck ls l ∷ []) h λ t e.
+      let i : not (isBack (passing (st .clock) t)) ≡ isInTime (lastTime ls) (orZero (timeAt l 1)) =
+      ap (λ x. not (isBack (passing x t))) c ∙ in-time (lastTime ls) t ∙ ap (isInTime (lastTime ls)) (sym (there (timeAt l 1) (at-time t e))) in
+      subst (λ x. Agrees (timed t st) (check 14 2 x ∷ [])) i (agree-need 14 2 (not (isBack (passing (st .clock) t))) _ [] λ e. tt)
 
-e-agrees : (ls : List (List ℕ)) (l : List ℕ) (st : State) → st .clock ≡ orZero (lastTime ls) → Agrees (ruled role.Event l st) (roleChecks role.Event ls l)
-unfolding ruled eLine number
-e-agrees ls l st c =
-    let cs = check 9 2 (isThere (timeAt l 1)) ∷ check 9 8 (codesAt l 7 3) ∷ [] in
-    let h : Agrees (eLine l) (shapeChecks 10 255 false l ++ cs) =
-    agree-then (shaped 10 255 false l) _ (shapeChecks 10 255 false l) _ (shape-agrees 10 255 false l) λ u e.
-    agree-given 9 2 (timeAt l 1) _ _ λ t e.
-    agree-need 9 8 (codesAt l 7 3) _ [] λ e. tt in
-    time-last (ruled role.Event l st) (shapeChecks 10 255 false l) cs (timeCheck ls l)
-    (agree-then (eLine l) (λ t. timed t st) _ (timeCheck ls l ∷ []) h λ t e. on-time ls l t st c (e-inv l t e .1))
+-- ---- lines with columns
+
+ends-same : (es : List Entry) (start : ℕ) → end-of es start ≡ endsAt (start - 1) es
+unfolding endsAt
+ends-same [] start = refl
+ends-same (e ∷ es) start = let n : e .last + 1 - 1 ≡ e .last = omega arith in ends-same es (e .last + 1) ∙ ap (λ x. endsAt x es) n
+
+-- the length that a layout gives is where its last column ends
+length-laid : (f : Family) (es : List Entry) → lineLength (firstStart f) (laid es) ≡ sizeOf f es
+length-laid family.B es = line-end 36 es ∙ ends-same es 36
+length-laid family.K es = line-end 8 es ∙ ends-same es 8
 
 pairs-agree : {A : Type 0} (v : A) (l : List ℕ) (at : ℕ) → Agrees (given (badPair at l) (says v) λ i. refuses 9 0 (i + 1)) (pairChecks at l)
 unfolding badPair pairChecks
@@ -353,68 +299,13 @@ pairs-agree v (a ∷ b ∷ l) at = go (isCode a && isCode b) (pairs-agree v l (a
     go true h = one-more (given (badPair (at + 2) l) (says v) λ i. refuses 9 0 (i + 1)) (check 9 (at + 1) true) (pairChecks (at + 2) l) refl h
     go false h = (refl, inl (refl, refl, refl))
 
-f-agrees : (ls : List (List ℕ)) (l : List ℕ) (st : State) → st .clock ≡ orZero (lastTime ls) → Agrees (ruled role.Satellites l st) (roleChecks role.Satellites ls l)
-unfolding ruled fLine number
-f-agrees ls l st c =
-    let cs = check 9 2 (isThere (timeAt l 1)) ∷ check 9 8 (eqb ((length l - 7) % 2) 0) ∷ pairChecks 7 (drop 7 l) in
-    let h : Agrees (fLine l) (shapeChecks 7 255 false l ++ cs) =
-    agree-then (shaped 7 255 false l) _ (shapeChecks 7 255 false l) _ (shape-agrees 7 255 false l) λ u e.
-    agree-given 9 2 (timeAt l 1) _ _ λ t e.
-    agree-need 9 8 (eqb ((length l - 7) % 2) 0) _ _ λ e.
-    pairs-agree t (drop 7 l) 7 in
-    time-last (ruled role.Satellites l st) (shapeChecks 7 255 false l) cs (timeCheck ls l)
-    (agree-then (fLine l) (λ t. timed t st) _ (timeCheck ls l ∷ []) h λ t e. on-time ls l t st c (f-inv l t e .1))
+-- link by link
+ruleset agreeing = (agree-last, agree-need, agree-given, agree-then, shape-agrees, columns-agree, pairs-agree)
 
--- ---- B and K lines
-
-ends-same : (es : List Entry) (start : ℕ) → end-of es start ≡ endsAt (start - 1) es
-unfolding endsAt
-ends-same [] start = refl
-ends-same (e ∷ es) start = let n : e .last + 1 - 1 ≡ e .last = omega arith in ends-same es (e .last + 1) ∙ ap (λ x. endsAt x es) n
-
--- the length that a layout gives is where its last column ends
-length-laid : (f : Family) (es : List Entry) → lineLength (firstStart f) (laid es) ≡ sizeOf f es
-length-laid family.B es = line-end 36 es ∙ ends-same es 36
-length-laid family.K es = line-end 8 es ∙ ends-same es 8
-
-fields-agree : (l : List ℕ) → Agrees (fixFields l) (fixChecks l)
-unfolding fixFields on number
-fields-agree l =
-    agree-given 9 2 (timeAt l 1) _ _ λ t e.
-    agree-given 9 8 (latitudeAt l 7) _ _ λ a e.
-    agree-given 9 16 (longitudeAt l 15) _ _ λ o e.
-    agree-need 9 25 (isEither (getD l 24 0) (code "A") (code "V")) _ _ λ e.
-    agree-given 9 26 (altitudeAt l 25) _ _ λ p e.
-    agree-given 9 31 (altitudeAt l 30) _ [] λ g e. tt
-
-b-agrees : (es : List Entry) (l : List ℕ) → Agrees (bLine (laid es) l) (sizeChecks family.B es l ++ (fixChecks l ++ columnChecks l es))
-unfolding bLine shapedBy
-b-agrees es l =
-    rw (length-laid family.B es)
-    (agree-then (shaped (endsAt 35 es) (endsAt 35 es) false l) _ (sizeChecks family.B es l) _ (shape-agrees (endsAt 35 es) (endsAt 35 es) false l) λ u e.
-    agree-then (fixFields l) _ (fixChecks l) (columnChecks l es) (fields-agree l) λ f e.
-    agree-last (columns l (laid es)) (λ v. f) (columnChecks l es) (columns-agree l es))
-
-line-agrees : (f : Family) (es : List Entry) (l : List ℕ) → Agrees (columnedLine f (laid es) l) (sizeChecks f es l ++ (fieldChecks f l ++ columnChecks l es))
-unfolding columnedLine kLine shapedBy number
-line-agrees family.B es l = agree-last (bLine (laid es) l) (λ (f : Fix). f .time) (sizeChecks family.B es l ++ (fixChecks l ++ columnChecks l es)) (b-agrees es l)
-line-agrees family.K es l =
-    rw (length-laid family.K es)
-    (agree-then (shaped (endsAt 7 es) (endsAt 7 es) false l) _ (sizeChecks family.K es l) _ (shape-agrees (endsAt 7 es) (endsAt 7 es) false l) λ u e.
-    agree-given 9 2 (timeAt l 1) _ _ λ t e.
-    agree-last (columns l (laid es)) (λ v. t) (columnChecks l es) (columns-agree l es))
-
-columned-agrees : (f : Family) (ls : List (List ℕ)) (l : List ℕ) (st : State) → st .clock ≡ orZero (lastTime ls) → layoutOf f (st .flight .layouts) ≡ laid (entriesTold f ls)
-    → Agrees (ruled (role.Columned f) l st) (roleChecks (role.Columned f) ls l)
-unfolding ruled
-columned-agrees f ls l st c i =
-    let es = entriesTold f ls in
-    let cs = sizeChecks f es l ++ (fieldChecks f l ++ columnChecks l es) in
-    subst (Agrees (ruled (role.Columned f) l st)) (append-assoc (sizeChecks f es l) (fieldChecks f l ++ columnChecks l es) (timeCheck ls l ∷ [])
-    ∙ ap (λ x. sizeChecks f es l ++ x) (append-assoc (fieldChecks f l) (columnChecks l es) (timeCheck ls l ∷ [])))
-    (agree-then (columnedLine f (layoutOf f (st .flight .layouts)) l) (λ t. timed t (counted f st)) cs (timeCheck ls l ∷ [])
-    (subst (λ x. Agrees (columnedLine f x l) cs) (sym i) (line-agrees f es l)) λ t e.
-    on-time ls l t (counted f st) c (columned-time f (layoutOf f (st .flight .layouts)) t l e))
+line-agrees : (f : Family) (es : List Entry) (l : List ℕ) → Agrees (columnedLine f (laid es) l) (lineChecks f es l)
+unfolding columnedLine bLine kLine fixFields shapedBy on number
+line-agrees family.B es l = rw (length-laid family.B es) (search agreeing depth 20)
+line-agrees family.K es l = rw (length-laid family.K es) (search agreeing depth 20)
 
 -- ---- I and J lines
 
@@ -439,11 +330,7 @@ placed-agrees : (start : ℕ) (before : List Entry) (e : Entry) (n : ℕ) → Ag
     ∷ [])
 unfolding placed number
 placed-agrees start before e n =
-    rw (carries-has before (e .code))
-    (agree-need 10 n (eqb (e .first) start) _ _ λ p.
-    agree-need 10 n (leb (e .first) (e .last)) _ _ λ p.
-    agree-need 11 n (not (hasCode before (e .code))) _ _ λ p.
-    agree-need 12 n (widthFits (e .code) (e .last - e .first + 1)) _ [] λ p. tt)
+    rw (carries-has before (e .code)) (search agreeing depth 12)
 
 entry-agrees : (l : List ℕ) (at start : ℕ) (before : List Entry) → Agrees (entryAt l at start (laid before)) (entryChecks 1 l at start before)
 unfolding entryAt entryChecks number
@@ -502,24 +389,26 @@ either-way false u a b cs ds e h g = rw (← e) g
 
 module _ (ls : List (List ℕ)) (l : List ℕ) (st : State) (w : Stands ls st) where
   ruled-agrees : (r : Role) (stage : ℕ) → isRole r ≡ true → Agrees (ruled r l (moved stage st)) (roleChecks r ls l)
-  unfolding ruled headerLine declarationLine
-  ruled-agrees role.Opens stage i = a-agrees ls l (moved stage st)
+  unfolding ruled headerLine declarationLine aLine dateLine hLine headLine headFields pointLine dLine eLine fLine on number
+  ruled-agrees role.Opens stage i = search agreeing depth 20
   ruled-agrees role.Heads stage i =
       agree-cond (eqb (st .flight .lines + 1) 2) (eqb (length ls) 1) _ _ (dateChecks l) (headerChecks l) (second-line (st .flight .lines) ∙ ap (λ n. eqb n 1) (w .lines))
-      (agree-last (dateLine l) (λ d. dated d (moved stage st)) (dateChecks l) (date-agrees l))
-      (agree-last (hLine l) (λ u. moved stage st) (headerChecks l) (header-agrees l))
+      (search agreeing depth 20)
+      (search agreeing depth 20)
   ruled-agrees (role.Tells f) stage i = agree-last (layoutLine (firstStart f) l) (λ x. laidOut f x (moved stage st)) (layoutChecks f l) (layout-agrees f l)
-  ruled-agrees (role.Columned f) stage i = columned-agrees f ls l (moved stage st) (w .clock) (w .layouts f)
+  ruled-agrees (role.Columned f) stage i =
+      let es = entriesTold f ls in
+      let cs = lineChecks f es l in
+      let x = layoutOf f (st .flight .layouts) in
+      then-time ls l (columnedLine f x l) (counted f (moved stage st)) cs (w .clock) (λ t. columned-time f x t l) (subst (λ y. Agrees (columnedLine f y l) cs) (sym (w .layouts f)) (line-agrees f es l))
   ruled-agrees role.Declares stage i =
-      either-way (eqb (st .points) 0) (isOpen ls) _ _ (headChecks l) (pointChecks l) (open-points ls st w)
-      (agree-last (headLine l) (λ h. begun h (moved stage st)) (headChecks l) (head-agrees l))
-      (agree-last (pointLine l) (λ p. pointed (moved stage st)) (pointChecks l) (point-agrees l))
-  ruled-agrees role.Event stage i = e-agrees ls l (moved stage st) (w .clock)
-  ruled-agrees role.Satellites stage i = f-agrees ls l (moved stage st) (w .clock)
-  ruled-agrees role.Differential stage i = d-agrees ls l (moved stage st)
-  ruled-agrees role.Seals stage i = agree-last (gLine l) (λ u. moved stage st) (shapeChecks 2 255 false l) (shape-agrees 2 255 false l)
-  ruled-agrees role.Remark stage i = agree-last (lLine l) (λ u. moved stage st) (shapeChecks 1 99 false l) (shape-agrees 1 99 false l)
-  ruled-agrees role.Other stage i = agree-last (otherLine l) (λ u. moved stage st) (shapeChecks 1 255 false l) (shape-agrees 1 255 false l)
+      either-way (eqb (st .points) 0) (isOpen ls) _ _ (headChecks l) (pointChecks l) (open-points ls st w) (search agreeing depth 20) (search agreeing depth 20)
+  ruled-agrees role.Event stage i = then-time ls l (eLine l) (moved stage st) (eventChecks l) (w .clock) (λ t e. e-inv l t e .1) (search agreeing depth 20)
+  ruled-agrees role.Satellites stage i = then-time ls l (fLine l) (moved stage st) (satelliteChecks l) (w .clock) (λ t e. f-inv l t e .1) (search agreeing depth 20)
+  ruled-agrees role.Differential stage i = search agreeing depth 20
+  ruled-agrees role.Seals stage i = search agreeing depth 20
+  ruled-agrees role.Remark stage i = search agreeing depth 20
+  ruled-agrees role.Other stage i = search agreeing depth 20
   ruled-agrees role.NoRole stage i = absurd (false-true i)
 
   judge-agrees : Agrees (judge l st) (checksOf ls l)
