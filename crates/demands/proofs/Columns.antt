@@ -270,12 +270,7 @@ module _ (layout : Layout) (l : List ℕ) (said : entriesSaid l layout ≡ says 
   unfolding numberSaid columnRest number
   column-read e h n =
       let s = column-said (codeText (e .code)) (spanOf e) (ap (look layout) (packed-back (e .code)) ∙ h) in
-      record {
-        span = s;
-        text = rw s;
-        wide = n;
-        number = rw s (number-of (columnText l (spanOf e)) (wholeOf (columnText l (spanOf e))) refl);
-      }
+      record { span = s; text = rw s; wide = n; number = rw s (number-of (columnText l (spanOf e)) (wholeOf (columnText l (spanOf e))) refl) }
 
   name-absent : (name : List ℕ) → IsName name → Each (λ e. codeText (e .code) ≡ name → ⊥) (entriesOf layout) → columnSaid l layout name ≡ refuses 19 0 0
   unfolding look

@@ -360,13 +360,7 @@ module _ (l : List ℕ) (st : State) where
   role-judged : (r : Role) (stage : ℕ) {m : State} → roleIn l ≡ r → isRole r ≡ true → fitsDeclaration (isDeclaring r) st ≡ true → stageAfter r (st .stage) ≡ some stage
       → Leaves l (moved stage st) r m → judge l st ≡ says m
   unfolding orderOf
-  role-judged r stage {m} k i f o w = judged-so l st m (record {
-    long = not-empty l (rw k i);
-    known = rw k i;
-    stage = stage;
-    order = rw (k, f) o;
-    left = rw k w;
-  })
+  role-judged r stage {m} k i f o w = judged-so l st m (record { long = not-empty l (rw k i); known = rw k i; stage = stage; order = rw (k, f) o; left = rw k w })
 
   body-judge : {m : State} → Sound st → afterH ≤ st .stage → st .stage ≤ inBody → InBody st l m → judge l st ≡ says m
   unfolding stageAfter kindOf
