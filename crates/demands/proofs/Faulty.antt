@@ -34,7 +34,7 @@ use Rattle.demands.specs.Coming.{isAmong, only, without, isOpen, isBody,
 use Rattle.demands.specs.Checks.{isThere, Check, check, AllPass, FailsFirst, oneEach, shapeChecks, columnChecks, timeCheck, pairChecks, hasCode, entryChecks, layoutChecks, dateChecks, headerChecks, headChecks, pointChecks, thenTime, roleChecks, checksOf, lineChecks, eventChecks, satelliteChecks}
 use Rattle.demands.specs.Grammar.{laid}
 use Rattle.demands.proofs.Leading.{every, letter-tests}
-use Rattle.demands.proofs.Standing.{and-false, and-true, only-without, open-left, none-left, Stands}
+use Rattle.demands.proofs.Standing.{and-false, and-true, only-without, none-open, declaration-told, laid-out, Stands}
 use Rattle.demands.proofs.Laws.{each-join, shape-there}
 use Rattle.demands.proofs.Carried.{e-inv, f-inv}
 use Rattle.demands.proofs.Valued.{columned-time}
@@ -69,7 +69,7 @@ there-leading low high next stage = go (leb low stage && leb stage high)
 
 module _ (ls : List (List ℕ)) (st : State) (w : Stands ls st) where
   open-is : leb 1 (st .points) ≡ isOpen ls
-  open-is = ap (leb 1) (w .points) ∙ sym (open-left ls)
+  open-is = declaration-told ls (w .declaration) .0
 
   plain-fits : fitsDeclaration false st ≡ not (isOpen ls)
   unfolding fitsDeclaration
@@ -81,7 +81,7 @@ module _ (ls : List (List ℕ)) (st : State) (w : Stands ls st) where
 
   c-fits : fitsDeclaration true st ≡ (isOpen ls || (without (code "C") ls && without (code "B") ls))
   unfolding fitsDeclaration
-  c-fits = rw (open-is, w .declared, w .counts family.B, twice-not) (go (isOpen ls))
+  c-fits = rw (open-is, declaration-told ls (w .declaration) .1, w .counts family.B, twice-not) (go (isOpen ls))
     where
       go : (o : Bool) → cond o true (without (code "C") ls && without (code "B") ls) ≡ (o || (without (code "C") ls && without (code "B") ls))
       go true = refl
@@ -89,7 +89,7 @@ module _ (ls : List (List ℕ)) (st : State) (w : Stands ls st) where
 
   -- among A, H, I and J lines there is no declaration
   closed : (xs : List ℕ) → isAmong xs (code "C") ≡ false → only xs ls ≡ true → isOpen ls ≡ false
-  closed xs n e = open-left ls ∙ ap (leb 1) (none-left ls (only-without xs (code "C") ls n e))
+  closed xs n e = none-open ls (only-without xs (code "C") ls n e)
 
   -- ---- role by role
 
@@ -377,7 +377,7 @@ second-line n =
 
 -- a C line is a point where the declaration is open
 open-points : (ls : List (List ℕ)) (st : State) → Stands ls st → not (eqb (st .points) 0) ≡ isOpen ls
-open-points ls st w = go (st .points) ∙ ap (leb 1) (w .points) ∙ sym (open-left ls)
+open-points ls st w = go (st .points) ∙ declaration-told ls (w .declaration) .0
   where
     go : (n : ℕ) → not (eqb n 0) ≡ leb 1 n
     go zero = refl
@@ -400,7 +400,7 @@ module _ (ls : List (List ℕ)) (l : List ℕ) (st : State) (w : Stands ls st) w
       let es = entriesTold f ls in
       let cs = lineChecks f es l in
       let x = layoutOf f (st .flight .layouts) in
-      then-time ls l (columnedLine f x l) (counted f (moved stage st)) cs (w .clock) (λ t. columned-time f x t l) (subst (λ y. Agrees (columnedLine f y l) cs) (sym (w .layouts f)) (line-agrees f es l))
+      then-time ls l (columnedLine f x l) (counted f (moved stage st)) cs (w .clock) (λ t. columned-time f x t l) (subst (λ y. Agrees (columnedLine f y l) cs) (sym (laid-out f (w .told f))) (line-agrees f es l))
   ruled-agrees role.Declares stage i =
       either-way (eqb (st .points) 0) (isOpen ls) _ _ (headChecks l) (pointChecks l) (open-points ls st w) (search agreeing depth 20) (search agreeing depth 20)
   ruled-agrees role.Event stage i = then-time ls l (eLine l) (moved stage st) (eventChecks l) (w .clock) (λ t e. e-inv l t e .1) (search agreeing depth 20)

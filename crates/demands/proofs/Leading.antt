@@ -265,7 +265,7 @@ fits-plain : (st : State) → st .points ≡ 0 → fitsDeclaration false st ≡ 
 unfolding fitsDeclaration
 fits-plain st e = rw e
 
--- a C line where no point is to come letter-tests a declaration
+-- a C line where no point is to come begins a declaration
 pub head-fits : (st : State) → st .points ≡ 0 → fitsDeclaration true st ≡ true → (st .declared ≡ false) × (countOf family.B (st .flight .counts) ≡ 0)
 unfolding fitsDeclaration
 head-fits st z e = let r = and-inv (not (st .declared)) (eqb (countOf family.B (st .flight .counts)) 0) (rw z at e) in (not-inv (st .declared) (r .0), eqb-true _ _ (r .1))

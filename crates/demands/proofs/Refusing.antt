@@ -8,20 +8,16 @@ use mathlib.Core.Logic.{_⊎_, inl, inr, _↔_}
 use mathlib.Core.Option.{Option, none, some}
 use mathlib.Core.Path.{_≡_, refl, sym, _∙_, ap, subst}
 use native.Mathlib.Omega.{arith}
-use borrow.Author.Tests.{le-leb, leb-true, leb-false, eqb-true, eqb-false, ne-eqb, eq-eqb, ltb-true, lt-ltb, not-false, lt-leb}
+use borrow.Author.Tests.{le-leb, leb-true, leb-false, eqb-true, eqb-false, ne-eqb, eq-eqb, ltb-true, lt-ltb, lt-leb}
 use lib.Dec.{eqb, leb, ltb}
-use lib.ListN.{length, getD, length-append}
+use lib.ListN.{length, getD}
 use Rattle.rules.specs.Choice.{byte, bytes, Each, need}
 use Rattle.rules.specs.Choice as choice
-use Rattle.rules.specs.Families.{layoutLetter, layoutOf}
+use Rattle.rules.specs.Families.{layoutLetter}
 use Rattle.rules.specs.Fields.{timeAt}
 use Rattle.rules.specs.Refusals.{says, number, Said, refuses}
-use Rattle.rules.specs.Roles.{isDeclaring, afterH, afterLayout, stageAfter, inBody}
-use Rattle.rules.specs.Order.{start, fitsDeclaration, moved, judge}
-use Rattle.rules.specs.declared.Layout.{Layout}
-use Rattle.rules.specs.declared.Family.{Family}
-use Rattle.rules.specs.declared.Head.{Head}
-use Rattle.rules.specs.declared.Role.{Role}
+use Rattle.rules.specs.Roles.{inBody}
+use Rattle.rules.specs.Order.{start}
 use Rattle.rules.specs.declared.State.{State}
 use Rattle.rules.specs.Split.{Lines, end, broken, line, text, linesOf, afterCR}
 use Rattle.rules.specs.Files.{endsAfter, finish, hasRoom, run, verdict}
@@ -29,205 +25,50 @@ use Rattle.rules.specs.declared.Flight.{Flight}
 use Rattle.rules.specs.declared.Seal.{Seal}
 use Rattle.rules.specs.declared.Seal.the-variants as seal
 use Rattle.rules.proofs.Inverse.{false-true}
-use Rattle.laws.proofs.Passing.{roleIn, leading-inv, Leaves, judged}
 use Rattle.laws.proofs.Passing as passes
 use Rattle.laws.proofs.Splitting.{cut, none-left, lines-of-line}
 use Rattle.laws.proofs.Counted.{judged-more}
-use Rattle.demands.specs.Grammar.{IsHeadLine, IsPointLine, IsLayoutLine, Follows, AtMostOne, absent, given, beginning, IsText}
+use Rattle.demands.specs.Grammar.{Follows, AtMostOne, given, beginning, IsText}
 use Rattle.demands.specs.Coming.{isAmong, pointsOf, isOpen, Open, those, lastTime, NoTime, Latest, isInTime, Meant}
 use Rattle.demands.specs.Faults.{PassAfter, Before, NoEnd, none-comes, lf-alone, cr-alone, Unsealed, Refused, empty, too-long, line-end, in-line, table-full, ends-early}
-use Rattle.demands.specs.FieldTexts.{Letter}
-use Rattle.demands.proofs.Laws.{each-join}
-use Rattle.demands.proofs.Valued.{head-there, head-said, point-there}
-use Rattle.demands.proofs.LayoutLines.{layout-there, layout-said}
-use Rattle.demands.proofs.Leading.{every, put-by, letter, tells-letter, isTelling, letter-tests, some-points, plain-fits, head-fits, order-inv}
+use Rattle.demands.proofs.Valued.{head-said}
 use Rattle.demands.proofs.Passing.{Passes, done, next, all-passed, before, text-is, is-text, begins, lines-joined, none-fit, Stops, ended, endless, faulty, full, comes, passes-run, stops-run}
-use Rattle.demands.proofs.Standing.{head-points, or-true, open-left, untold, Stands, stands-start, stands-next}
+use Rattle.demands.proofs.Standing.{head-points, or-true, Declaration, undeclared, declared, open-behind, declaration-told, laid-out, Stands, stands-start, stands-next}
 use Rattle.demands.proofs.Faulty.{judge-passes, passes-judge, judge-fails, fails-judge}
-
--- ---- the declaration
-
--- behind lines that are no C lines
-open-behind : (before : List (List ℕ)) (l : List ℕ) (points : List (List ℕ)) → Each (λ l. getD l 0 0 ≡ code "C" → ⊥) before → getD l 0 0 ≡ code "C"
-    → isOpen (before ++ (l ∷ points)) ≡ ltb (length points) (pointsOf l)
-unfolding isOpen
-open-behind [] l points n k = rw k
-open-behind (a ∷ before) l points n k = rw (ne-eqb (getD a 0 0) (code "C") (n .0)) (open-behind before l points (n .1) k)
-
-pub open-there : (ls : List (List ℕ)) → Open ls → isOpen ls ≡ true
-open-there ls w =
-    let p = head-points (w .says) (w .head) (w .is-head) in
-    ap isOpen (w .order)
-    ∙ open-behind (w .before) (w .head) (w .points) (w .no-other) (head-said (w .says) (w .head) (w .is-head) .0)
-    ∙ lt-ltb (length (w .points)) (pointsOf (w .head)) (omega (arith, w .fewer))
-
-no-letter : (x : ℕ) (ls : List (List ℕ)) → beginning x ls ≡ 0 → Each (λ l. getD l 0 0 ≡ x → ⊥) ls
-unfolding beginning
-no-letter x [] e = tt
-no-letter x (l ∷ ls) e = go (eqb (getD l 0 0) x) refl e (no-letter x ls)
-  where
-    go : (b : Bool) → eqb (getD l 0 0) x ≡ b → cond b 1 0 + beginning x ls ≡ 0 → (beginning x ls ≡ 0 → Each (λ l. getD l 0 0 ≡ x → ⊥) ls)
-        → (getD l 0 0 ≡ x → ⊥) × Each (λ l. getD l 0 0 ≡ x → ⊥) ls
-    go true q e r = absurd (omega arith)
-    go false q e r = (eqb-false (getD l 0 0) x q, r (omega arith))
-
--- so many points of an open declaration are still to come
-record Opened (ls : List (List ℕ)) (left : ℕ) : Type 0 where
-  declaration : Open ls
-  count : length (declaration .points) + left ≡ declaration .says .turns + 4
-
-opened-head : (ls : List (List ℕ)) (l : List ℕ) (h : Head) → IsHeadLine h l → beginning (code "C") ls ≡ 0 → Opened (ls ++ (l ∷ [])) (h .turns + 4)
-opened-head ls l h w e = record {
-  declaration = record {
-    before = ls;
-    head = l;
-    points = [];
-    order = refl;
-    no-other = no-letter (code "C") ls e;
-    says = h;
-    is-head = w;
-    are-points = tt;
-    fewer = omega arith;
-  };
-  count = omega arith;
-}
-
-opened-point : (ls : List (List ℕ)) (l : List ℕ) (left : ℕ) → IsPointLine l → 2 ≤ left → Opened ls left → Opened (ls ++ (l ∷ [])) (left - 1)
-opened-point ls l left w n o =
-    let d = o .declaration in
-    let c = o .count in
-    let m : length (d .points ++ (l ∷ [])) ≡ length (d .points) + 1 = simp length-append in
-    record {
-      declaration = record {
-        before = d .before;
-        head = d .head;
-        points = d .points ++ (l ∷ []);
-        order = ap (λ x. x ++ (l ∷ [])) (d .order) ∙ append-assoc (d .before) (d .head ∷ d .points) (l ∷ []);
-        no-other = d .no-other;
-        says = d .says;
-        is-head = d .is-head;
-        are-points = each-join IsPointLine (d .points) (l ∷ []) (d .are-points) (w, tt);
-        fewer = omega arith;
-      };
-      count = omega arith;
-    }
-
--- ---- the lines that tell a layout
-
-module _ (x : ℕ) (l : List ℕ) where
-  those-next : (ls : List (List ℕ)) → those x (ls ++ (l ∷ [])) ≡ those x ls ++ cond (eqb (getD l 0 0) x) (l ∷ []) []
-  unfolding those
-  those-next [] = refl
-  those-next (a ∷ ls) = go (eqb (getD a 0 0) x) (those-next ls)
-    where
-      go : (b : Bool) → those x (ls ++ (l ∷ [])) ≡ those x ls ++ cond (eqb (getD l 0 0) x) (l ∷ []) []
-          → cond b (a ∷ those x (ls ++ (l ∷ []))) (those x (ls ++ (l ∷ []))) ≡ cond b (a ∷ those x ls) (those x ls) ++ cond (eqb (getD l 0 0) x) (l ∷ []) []
-      go true r = ap (λ y. a ∷ y) r
-      go false r = r
-
-none-those : (x : ℕ) (ls : List (List ℕ)) → Each (λ l. getD l 0 0 ≡ x → ⊥) ls → those x ls ≡ []
-unfolding those
-none-those x [] h = refl
-none-those x (l ∷ ls) h = rw (ne-eqb (getD l 0 0) x (h .0)) (none-those x ls (h .1))
-
--- ---- the state, in the grammar's words
-
-record Tells (ls : List (List ℕ)) (st : State) : Type 0 where
-  declaration : (st .points ≡ 0) ⊎ Opened ls (st .points)
-  told : (f : Family) → AtMostOne f (layoutOf f (st .flight .layouts)) (those (layoutLetter f) ls)
-
-tells-start : Tells [] start
-unfolding those
-tells-start = record { declaration = inl refl; told = every (λ f. AtMostOne f (layoutOf f (start .flight .layouts)) (those (layoutLetter f) [])) absent absent }
-
-module _ (ls : List (List ℕ)) (l : List ℕ) (st : State) (w : Stands ls st) (t : Tells ls st) where
-  -- a line that tells no layout of the family
-  told-same : (f : Family) → eqb (getD l 0 0) (layoutLetter f) ≡ false → AtMostOne f (layoutOf f (st .flight .layouts)) (those (layoutLetter f) (ls ++ (l ∷ [])))
-  told-same f n = rw (those-next (layoutLetter f) l ls, n, append-nil) (t .told f)
-
-  told-here : (f : Family) (i : Layout) → IsLayoutLine f i l → st .stage ≤ afterLayout f - 1 → AtMostOne f i (those (layoutLetter f) (ls ++ (l ∷ [])))
-  told-here f i v b =
-      rw (those-next (layoutLetter f) l ls, none-those (layoutLetter f) ls (no-letter (layoutLetter f) ls (untold f ls st w b)), layout-said f i l v .0, eq-eqb (layoutLetter f) (layoutLetter f) refl) (given v)
-
-  -- a point that is not the last, or the last
-  point-tells : IsPointLine l → 1 ≤ st .points → (st .points ≡ 0) ⊎ Opened ls (st .points) → (st .points - 1 ≡ 0) ⊎ Opened (ls ++ (l ∷ [])) (st .points - 1)
-  point-tells v h (inl z) = absurd (omega arith)
-  point-tells v h (inr o) = go (leb 2 (st .points)) refl
-    where
-      go : (b : Bool) → leb 2 (st .points) ≡ b → (st .points - 1 ≡ 0) ⊎ Opened (ls ++ (l ∷ [])) (st .points - 1)
-      go true e = inr (opened-point ls l (st .points) v (leb-true _ _ e) o)
-      go false e = let i = leb-false 2 (st .points) e in inl (omega arith)
-
-  tells-left : (stage : ℕ) {r : Role} {after : State} → Letter r (getD l 0 0) → ((f : Family) → eqb (getD l 0 0) (layoutLetter f) ≡ isTelling f r)
-      → fitsDeclaration (isDeclaring r) st ≡ true → stageAfter r (st .stage) ≡ some stage → Leaves l (moved stage st) r after → Tells (ls ++ (l ∷ [])) after
-  unfolding stageAfter
-  tells-left stage k n f o (passes.opens e) = record { declaration = inl (plain-fits st f); told = λ g. told-same g (n g) }
-  tells-left stage k n f o (passes.date d i e) = record { declaration = inl (plain-fits st f); told = λ g. told-same g (n g) }
-  tells-left stage k n f o (passes.header i e) = record { declaration = inl (plain-fits st f); told = λ g. told-same g (n g) }
-  tells-left stage k n f o (passes.layout x i e) = record {
-    declaration = inl (plain-fits st f);
-    told = put-by (λ g y. AtMostOne g y (those (layoutLetter g) (ls ++ (l ∷ [])))) x i (st .flight .layouts)
-        (told-here x i (layout-there x i l e (tells-letter x k)) (leading-inv afterH (afterLayout x - 1) (afterLayout x) (st .stage) stage o .1))
-        (λ g m. told-same g (n g ∙ m));
-  }
-  tells-left stage k n f o (passes.columned x i e q) = record { declaration = inl (plain-fits st f); told = λ g. told-same g (n g) }
-  tells-left stage k n f o (passes.head h i e) = record {
-    declaration = inr (opened-head ls l h (head-there h l k e) (eqb-true _ _ (not-false _ (sym (w .declared) ∙ head-fits st i f .0))));
-    told = λ g. told-same g (n g);
-  }
-  tells-left stage k n f o (passes.point p i e) = record { declaration = point-tells (point-there p l k e) (some-points (st .points) i) (t .declaration); told = λ g. told-same g (n g) }
-  tells-left stage k n f o (passes.event i e q) = record { declaration = inl (plain-fits st f); told = λ g. told-same g (n g) }
-  tells-left stage k n f o (passes.satellites i e q) = record { declaration = inl (plain-fits st f); told = λ g. told-same g (n g) }
-  tells-left stage k n f o (passes.differential e) = record { declaration = inl (plain-fits st f); told = λ g. told-same g (n g) }
-  tells-left stage k n f o (passes.seals e) = record { declaration = inl (plain-fits st f); told = λ g. told-same g (n g) }
-  tells-left stage k n f o (passes.remark e) = record { declaration = inl (plain-fits st f); told = λ g. told-same g (n g) }
-  tells-left stage k n f o (passes.other e) = record { declaration = inl (plain-fits st f); told = λ g. told-same g (n g) }
-
-  tells-next : (after : State) → judge l st ≡ says after → Tells (ls ++ (l ∷ [])) after
-  tells-next after e =
-      let j = judged l st after e in
-      let o = order-inv (roleIn l) st (j .stage) (j .order) in
-      tells-left (j .stage) (letter (getD l 0 0)) (λ f. letter-tests l .2 f .1) (o .0) (o .1) (j .left)
 
 -- ---- lines that pass
 
--- where the check stands behind lines, as they tell
-pub record Behind (ls : List (List ℕ)) (st : State) : Type 0 where
-  pub stands : Stands ls st
-  tells : Tells ls st
-
-behind-next : (ls : List (List ℕ)) (l : List ℕ) (st m : State) → Behind ls st → judge l st ≡ says m → Behind (ls ++ (l ∷ [])) m
-behind-next ls l st m w e = record { stands = stands-next ls l st m (w .stands) e; tells = tells-next ls l st (w .stands) (w .tells) m e }
-
-pub behind-start : Behind [] start
-behind-start = record { stands = stands-start; tells = tells-start }
-
 -- the check judges lines good one after the other exactly where each passes its checks
-pub passes-behind : {st s : State} {ls : List (List ℕ)} (ks : List (List ℕ)) → Behind ks st → Passes st ls s → PassAfter ks ls × Behind (ks ++ ls) s
-passes-behind ks w (done {st = st}) = (tt, subst (λ x. Behind x st) (sym (append-nil ks)) w)
+pub passes-behind : {st s : State} {ls : List (List ℕ)} (ks : List (List ℕ)) → Stands ks st → Passes st ls s → PassAfter ks ls × Stands (ks ++ ls) s
+passes-behind ks w (done {st = st}) = (tt, subst (λ x. Stands x st) (sym (append-nil ks)) w)
 passes-behind {s = s} ks w (next {st = st} {m = m} {l = l} {ls = ls} e p) =
-    let r = passes-behind (ks ++ (l ∷ [])) (behind-next ks l st m w e) p in
-    ((judge-passes ks l st (w .stands) m e, r .0), subst (λ x. Behind x s) (append-assoc ks (l ∷ []) ls) (r .1))
+    let r = passes-behind (ks ++ (l ∷ [])) (stands-next ks l st m w e) p in
+    ((judge-passes ks l st w m e, r .0), subst (λ x. Stands x s) (append-assoc ks (l ∷ []) ls) (r .1))
 
-pub behind-passes : (ks ls : List (List ℕ)) (st : State) → Behind ks st → PassAfter ks ls → (s : State) × Passes st ls s × Behind (ks ++ ls) s
-behind-passes ks [] st w h = (st, done, subst (λ x. Behind x st) (sym (append-nil ks)) w)
+pub behind-passes : (ks ls : List (List ℕ)) (st : State) → Stands ks st → PassAfter ks ls → (s : State) × Passes st ls s × Stands (ks ++ ls) s
+behind-passes ks [] st w h = (st, done, subst (λ x. Stands x st) (sym (append-nil ks)) w)
 behind-passes ks (l ∷ ls) st w h =
-    let j = passes-judge ks l st (w .stands) (h .0) in
-    let r = behind-passes (ks ++ (l ∷ [])) ls (j .0) (behind-next ks l st (j .0) w (j .1)) (h .1) in
-    (r .0, next (j .1) (r .1), subst (λ x. Behind x (r .0)) (append-assoc ks (l ∷ []) ls) (r .2))
+    let j = passes-judge ks l st w (h .0) in
+    let r = behind-passes (ks ++ (l ∷ [])) ls (j .0) (stands-next ks l st (j .0) w (j .1)) (h .1) in
+    (r .0, next (j .1) (r .1), subst (λ x. Stands x (r .0)) (append-assoc ks (l ∷ []) ls) (r .2))
 
 -- ---- what they tell
 
 -- points are to come exactly where the declaration is open
-pub opened : (ls : List (List ℕ)) (st : State) → Behind ls st → (1 ≤ st .points) ↔ Open ls
-opened ls st w = (go (w .tells .declaration), back)
+pub opened : (ls : List (List ℕ)) (st : State) → Stands ls st → (1 ≤ st .points) ↔ Open ls
+opened ls st w = (go (w .declaration), back)
   where
-    go : (st .points ≡ 0) ⊎ Opened ls (st .points) → 1 ≤ st .points → Open ls
-    go (inl z) h = absurd (omega arith)
-    go (inr o) h = o .declaration
+    go : {d : Bool} {points : ℕ} → Declaration ls d points → 1 ≤ points → Open ls
+    go (undeclared n) h = absurd (omega arith)
+    go (declared p before hd rest head o n v e ps) h =
+        record { before = before; head = hd; points = rest; order = o; no-other = n; says = head; is-head = v; are-points = ps h; fewer = omega arith }
 
     back : Open ls → 1 ≤ st .points
-    back o = leb-true 1 (st .points) (ap (leb 1) (w .stands .points) ∙ sym (open-left ls) ∙ open-there ls o)
+    back o =
+        let p = head-points (o .says) (o .head) (o .is-head) in
+        leb-true 1 (st .points) (declaration-told ls (w .declaration) .0 ∙ ap isOpen (o .order)
+        ∙ open-behind (o .before) (o .head) (o .points) (o .no-other) (head-said (o .says) (o .head) (o .is-head) .0) .0
+        ∙ lt-ltb (length (o .points)) (pointsOf (o .head)) (omega (arith, o .fewer)))
 
 follows : (t now : ℕ) → ((leb t now || ltb 43200 (t - now)) ≡ true) ↔ Follows t now
 follows t now = (out (leb t now) (ltb 43200 (t - now)) refl refl, back)
@@ -260,13 +101,13 @@ unfolding lastTime bytes
 timing [] = tt
 timing (l ∷ ls) = timing-more l ls (lastTime ls) _ _ refl refl (timing ls)
 
-behind-meant : (ls : List (List ℕ)) (st : State) → Behind ls st → Meant ls
+stands-meant : (ls : List (List ℕ)) (st : State) → Stands ls st → Meant ls
 unfolding isInTime
-behind-meant ls st w =
-    let v = w .stands in
+stands-meant ls st w =
+    let i = declaration-told ls (w .declaration) .0 in
     record {
-      declaration = (λ e. opened ls st w .0 (leb-true 1 (st .points) (ap (leb 1) (v .points) ∙ sym (open-left ls) ∙ e)), open-there ls);
-      told = λ f. subst (λ x. AtMostOne f x (those (layoutLetter f) ls)) (v .layouts f) (w .tells .told f);
+      declaration = (λ e. opened ls st w .0 (leb-true 1 (st .points) (i ∙ e)), λ o. sym i ∙ le-leb 1 (st .points) (opened ls st w .1 o));
+      told = λ f. subst (λ x. AtMostOne f x (those (layoutLetter f) ls)) (laid-out f (w .told f)) (w .told f);
       latest = λ t e. subst (Timing ls) e (timing ls);
       no-time = λ e. subst (Timing ls) e (timing ls);
       times = λ t now e. rw e (follows t now);
@@ -274,7 +115,7 @@ behind-meant ls st w =
 
 -- what lines that pass tell, in the grammar's words
 pub meant : (ls : List (List ℕ)) → PassAfter [] ls → Meant ls
-meant ls h = let r = behind-passes [] ls start behind-start h in behind-meant ls (r .0) (r .2)
+meant ls h = let r = behind-passes [] ls start stands-start h in stands-meant ls (r .0) (r .2)
 
 -- ---- a line with no end
 
@@ -362,7 +203,7 @@ module _ (seal : Seal) (file : List ℕ) (room : Option ℕ) where
   Means (says f) = Unit {0}
   Means (refuses n l b) = Refused seal file room n l b
 
-  early : (lines : List (List ℕ)) (st : State) → Before file room lines [] → Behind lines st → Means (finish seal st)
+  early : (lines : List (List ℕ)) (st : State) → Before file room lines [] → Stands lines st → Means (finish seal st)
   unfolding finish number
   early lines st w v = go (eqb (st .points) 0) (leb (endsAfter seal) (st .stage)) refl refl
     where
@@ -370,24 +211,24 @@ module _ (seal : Seal) (file : List ℕ) (room : Option ℕ) where
           → Means (need x (refuses 16 (st .flight .lines + 1) 0) λ u. need y (refuses 16 (st .flight .lines + 1) 0) λ v. says (st .flight))
       go true true p q = tt
       go true false p q =
-          rw (v .stands .lines) (ends-early lines w (inr (missing seal lines st (v .stands) .0 (leb-false (endsAfter seal) (st .stage) q))))
+          rw (v .lines) (ends-early lines w (inr (missing seal lines st v .0 (leb-false (endsAfter seal) (st .stage) q))))
       go false y p q =
           let i = eqb-false (st .points) 0 p in
-          rw (v .stands .lines) (ends-early lines w (inl (opened lines st v .0 (omega arith))))
+          rw (v .lines) (ends-early lines w (inl (opened lines st v .0 (omega arith))))
 
   -- where the check stops, its answer means what it says
-  stopped : (lines : List (List ℕ)) (st : State) (k : Lines) (x : Said Flight) (rest : List ℕ) → Before file room lines rest → linesOf rest ≡ k → Behind lines st
+  stopped : (lines : List (List ℕ)) (st : State) (k : Lines) (x : Said Flight) (rest : List ℕ) → Before file room lines rest → linesOf rest ≡ k → Stands lines st
       → Stops seal room st k x → Means x
   unfolding number
   stopped lines st k x rest w e v ended = early lines st (rw (none-left rest e) at w) v
-  stopped lines st k x rest w e v (endless i) = rw (v .stands .lines) (line-end lines rest i w (no-end rest i e))
+  stopped lines st k x rest w e v (endless i) = rw (v .lines) (line-end lines rest i w (no-end rest i e))
   stopped lines st k x rest w e v (faulty {l = l} {ls = ls} i j b h) =
       let c = cut rest l ls e in
-      rw (v .stands .lines) (in-line lines l (c .rest) i b (rw (c .bytes) at w) (text-is l (c .clear)) (judge-fails lines l st (v .stands) i j b h))
+      rw (v .lines) (in-line lines l (c .rest) i b (rw (c .bytes) at w) (text-is l (c .clear)) (judge-fails lines l st v i j b h))
   stopped lines st k x rest w e v (full {l = l} {ls = ls} m h g) =
       let c = cut rest l ls e in
-      let i : m .flight .lines ≡ length lines + 1 = judged-more l st m h .lines ∙ ap (λ y. y + 1) (v .stands .lines) in
-      rw i (table-full lines l (c .rest) (rw (c .bytes) at w) (text-is l (c .clear)) (judge-passes lines l st (v .stands) m h) (full-at room (length lines) (w .fits) (rw i at g)))
+      let i : m .flight .lines ≡ length lines + 1 = judged-more l st m h .lines ∙ ap (λ y. y + 1) (v .lines) in
+      rw i (table-full lines l (c .rest) (rw (c .bytes) at w) (text-is l (c .clear)) (judge-passes lines l st v m h) (full-at room (length lines) (w .fits) (rw i at g)))
 
   means : Means (verdict seal file room)
   unfolding verdict number
@@ -400,7 +241,7 @@ module _ (seal : Seal) (file : List ℕ) (room : Option ℕ) where
       go true true p q =
           let c = comes seal room (linesOf file) start (none-fit room) in
           let b = begins (c .lines) file (c .left) (c .parted) in
-          let v = passes-behind [] behind-start (c .passes) in
+          let v = passes-behind [] stands-start (c .passes) in
           let w : Before file room (c .lines) (b .rest) = record {
             least = leb-true _ _ p;
             most = leb-true _ _ q;
@@ -418,10 +259,10 @@ module _ (seal : Seal) (file : List ℕ) (room : Option ℕ) where
   record Gone (lines : List (List ℕ)) : Type 0 where
     state : State
     passes : Passes start lines state
-    behind : Behind lines state
+    behind : Stands lines state
 
   gone : (lines : List (List ℕ)) (rest : List ℕ) → Before file room lines rest → Gone lines
-  gone lines rest w = let r = behind-passes [] lines start behind-start (w .passes) in record { state = r .0; passes = r .1; behind = r .2 }
+  gone lines rest w = let r = behind-passes [] lines start stands-start (w .passes) in record { state = r .0; passes = r .1; behind = r .2 }
 
   -- it answers for what is left
   goes : (lines : List (List ℕ)) (rest : List ℕ) (k : Lines) (x : Said Flight) → Before file room lines rest → linesOf rest ≡ k → (h : Gone lines)
@@ -429,9 +270,9 @@ module _ (seal : Seal) (file : List ℕ) (room : Option ℕ) where
   unfolding verdict
   goes lines rest k x w e h s =
       let l : linesOf file ≡ before lines k = ap linesOf (w .bytes) ∙ lines-joined lines rest (w .texts) ∙ ap (before lines) e in
-      rw (le-leb _ _ (w .least), le-leb _ _ (w .most), l) (passes-run seal room k (h .passes) (rw (h .behind .stands .lines) (w .fits)) ∙ stops-run seal room (h .state) s)
+      rw (le-leb _ _ (w .least), le-leb _ _ (w .most), l) (passes-run seal room k (h .passes) (rw (h .behind .lines) (w .fits)) ∙ stops-run seal room (h .state) s)
 
-  finish-early : (lines : List (List ℕ)) (st : State) → Behind lines st → Open lines ⊎ Unsealed seal lines
+  finish-early : (lines : List (List ℕ)) (st : State) → Stands lines st → Open lines ⊎ Unsealed seal lines
       → finish seal st ≡ refuses 16 (st .flight .lines + 1) 0
   unfolding finish number
   finish-early lines st v (inl h) =
@@ -441,7 +282,7 @@ module _ (seal : Seal) (file : List ℕ) (room : Option ℕ) where
     where
       go : (x : Bool) → need x (refuses 16 (st .flight .lines + 1) 0) (λ u. need (leb (endsAfter seal) (st .stage)) (refuses 16 (st .flight .lines + 1) 0) λ v. says (st .flight))
           ≡ refuses 16 (st .flight .lines + 1) 0
-      go true = rw (lt-leb (endsAfter seal) (st .stage) (missing seal lines st (v .stands) .1 h))
+      go true = rw (lt-leb (endsAfter seal) (st .stage) (missing seal lines st v .1 h))
       go false = refl
 
   refused-here : {n l b : ℕ} → Refused seal file room n l b → verdict seal file room ≡ refuses n l b
@@ -450,20 +291,20 @@ module _ (seal : Seal) (file : List ℕ) (room : Option ℕ) where
   refused-here (too-long h) = rw (le-leb 1 (length file) (omega arith), lt-leb (length file) 16777216 h)
   refused-here (line-end lines rest i w e) =
       let h = gone lines rest w in
-      rw (← h .behind .stands .lines) (goes lines rest (broken i) _ w (end-none e) h (endless i))
+      rw (← h .behind .lines) (goes lines rest (broken i) _ w (end-none e) h (endless i))
   refused-here (in-line lines l rest i b w t f) =
       let h = gone lines (l ++ (13 ∷ 10 ∷ rest)) w in
-      rw (← h .behind .stands .lines)
+      rw (← h .behind .lines)
       (goes lines (l ++ (13 ∷ 10 ∷ rest)) (line l (linesOf rest)) _ w (lines-of-line l rest (is-text l t)) h
-      (faulty i 0 b (fails-judge lines l (h .state) (h .behind .stands) i b f)))
+      (faulty i 0 b (fails-judge lines l (h .state) (h .behind) i b f)))
   refused-here (table-full lines l rest w t p r) =
       let h = gone lines (l ++ (13 ∷ 10 ∷ rest)) w in
-      let m = passes-judge lines l (h .state) (h .behind .stands) p in
-      let i : m .0 .flight .lines ≡ length lines + 1 = judged-more l (h .state) (m .0) (m .1) .lines ∙ ap (λ y. y + 1) (h .behind .stands .lines) in
+      let m = passes-judge lines l (h .state) (h .behind) p in
+      let i : m .0 .flight .lines ≡ length lines + 1 = judged-more l (h .state) (m .0) (m .1) .lines ∙ ap (λ y. y + 1) (h .behind .lines) in
       rw (← i) (goes lines (l ++ (13 ∷ 10 ∷ rest)) (line l (linesOf rest)) _ w (lines-of-line l rest (is-text l t)) h (full (m .0) (m .1) (ap (λ x. hasRoom x (m .0 .flight .lines)) r ∙ lt-leb (m .0 .flight .lines) (length lines) (omega arith))))
   refused-here (ends-early lines w e) =
       let h = gone lines [] w in
-      goes lines [] end _ w refl h ended ∙ finish-early lines (h .state) (h .behind) e ∙ ap (λ x. refuses 16 (x + 1) 0) (h .behind .stands .lines)
+      goes lines [] end _ w refl h ended ∙ finish-early lines (h .state) (h .behind) e ∙ ap (λ x. refuses 16 (x + 1) 0) (h .behind .lines)
 
 -- what each refusal of a file means
 pub refused-first : (seal : Seal) (file : List ℕ) (room : Option ℕ) (n l b : ℕ) → (verdict seal file room ≡ refuses n l b) ↔ Refused seal file room n l b

@@ -119,16 +119,19 @@ unfoldable pub entriesIn : ℕ → List ℕ → ℕ → List Entry
 entriesIn zero l at = []
 entriesIn (suc left) l at = entryOf l at ∷ entriesIn left l (at + 7)
 
--- "NN, then NN entries": those of the I line, for B lines, or of the J line, for K lines; none where there is "no such line"
-unfoldable pub entriesTold : Family → List (List ℕ) → List Entry
-entriesTold f [] = []
-entriesTold f (l ∷ ls) =
-    cond (eqb (getD l 0 0) (layoutLetter f)) (entriesIn (orZero (numberAt l (byte 2) 2)) l (byte 4)) (entriesTold f ls)
-
 -- the lines that begin with this letter
 unfoldable pub those : ℕ → List (List ℕ) → List (List ℕ)
 those x [] = []
 those x (l ∷ ls) = cond (eqb (getD l 0 0) x) (l ∷ those x ls) (those x ls)
+
+-- "NN, then NN entries": those of the first of these lines
+abbrev pub firstEntries : List (List ℕ) → List Entry
+firstEntries [] = []
+firstEntries (l ∷ ls) = entriesIn (orZero (numberAt l (byte 2) 2)) l (byte 4)
+
+-- the entries of the I line, for B lines, or of the J line, for K lines; none where there is "no such line"
+abbrev pub entriesTold : Family → List (List ℕ) → List Entry
+entriesTold f ls = firstEntries (those (layoutLetter f) ls)
 
 -- the last FF, where there is one, else n
 unfoldable pub endsAt : ℕ → List Entry → ℕ
