@@ -26,11 +26,10 @@ use Rattle.rules.specs.declared.State.{State}
 use Rattle.laws.proofs.Passing.{front-over}
 use Rattle.demands.specs.Grammar.{IsText, OrderFrom, InOrder, IsALine, IsDateLine, AtMostOne, Parts, linesIn, SealedBy, Keeps, joinLines, Meets, beginning, flightOf}
 use Rattle.demands.proofs.Laws.{said-some}
-use Rattle.demands.proofs.Letters.{every, all-layouts, counts-more}
-use Rattle.demands.proofs.Leading.{Part, Leads, a-line, date-line, h-line, layout-line, body-line, g-line, l-line, Sound, sound-start, judge-leads, leads-judge}
+use Rattle.demands.proofs.Leading.{every, all-layouts, counts-more, Part, Leads, a-line, date-line, h-line, layout-line, body-line, g-line, l-line, Sound, sound-start, judge-leads, leads-judge}
 use Rattle.demands.proofs.Leading as part
 use Rattle.demands.proofs.Passing.{Passes, done, next, passes-join, all-passed, Accepts, accepted-passes}
-use Rattle.demands.proofs.Sections.{Fresh, passes-above, Section, split, above-end, section-passes, headers-there, headers-here, layout-stage, layout-there, layout-here, body-same, body-stage, body-there, body-here, seal-there, seal-here, seal-needed, remarks-there, remarks-here}
+use Rattle.demands.proofs.Sections.{Fresh, passes-above, Section, split, above-end, section-passes, headers-there, headers-here, layout-there, layout-here, body-same, body-stage, body-there, body-here, seal-there, seal-here, seal-needed, remarks-there, remarks-here}
 
 -- ---- the counts
 

@@ -22,7 +22,7 @@ use Rattle.trips.proofs.Laws.{past, byte-there}
 use Rattle.trips.proofs.Times.{time-trip}
 use Rattle.trips.proofs.Dates.{date-trip}
 use Rattle.demands.specs.Grammar.{Shaped, IsALine, IsDateLine, IsHLine, IsDLine, IsELine, IsFLine, IsLLine, IsGLine, IsOtherLine}
-use Rattle.demands.proofs.Days.{day-exactly}
+use Rattle.demands.proofs.Tables.{day-exactly}
 use Rattle.demands.proofs.Laws.{given-none, each-map, are-valid, shape-there, shape-said}
 
 -- ---- A
@@ -48,8 +48,19 @@ in-h b e =
     let common = leb 0x20 b && leb b 0x7D && not (eqb b 0x21) && not (eqb b 0x24) && not (eqb b 0x2A) && not (eqb b 0x5C) && not (eqb b 0x5E) in
     ap (λ t. t && true) (and-inv common (not (eqb b 0x2C)) e .0)
 
+pub mark-there : (l : List ℕ) → isDateMark l ≡ true → drop 1 l ≡ code "F" ∷ code "D" ∷ code "T" ∷ code "E" ∷ drop 5 l
+unfolding isDateMark
+mark-there l e =
+    let p₃ = and-inv (eqb (getD l 1 0) 70 && eqb (getD l 2 0) 68 && eqb (getD l 3 0) 84) _ e in
+    let p₂ = and-inv (eqb (getD l 1 0) 70 && eqb (getD l 2 0) 68) _ (p₃ .0) in
+    let p₁ = and-inv (eqb (getD l 1 0) 70) _ (p₂ .0) in
+    byte-there l 1 2 70 refl (omega arith) (eqb-true _ _ (p₁ .0))
+    ∙ ap (λ x. 70 ∷ x) (byte-there l 2 3 68 refl (omega arith) (eqb-true _ _ (p₁ .1))
+    ∙ ap (λ x. 68 ∷ x) (byte-there l 3 4 84 refl (omega arith) (eqb-true _ _ (p₂ .1))
+    ∙ ap (λ x. 84 ∷ x) (byte-there l 4 5 69 refl (omega arith) (eqb-true _ _ (p₃ .1)))))
+
 pub date-there : (l : List ℕ) (d : Date) → getD l 0 0 ≡ code "H" → dateLine l ≡ says d → IsDateLine d l
-unfolding dateLine isDateMark
+unfolding dateLine
 date-there l d k e =
     let s = then-inv (shaped 11 11 true l) d _ e in
     let m = need-inv (isDateMark l) _ (says d) _ refuses-says (s .2) in
@@ -57,17 +68,9 @@ date-there l d k e =
     let h = shape-there 11 11 true l tt (s .1) in
     let n : length l ≡ 11 = omega arith in
     let i : a .0 ≡ d = cc in
-    let p₃ = and-inv (eqb (getD l 1 0) 70 && eqb (getD l 2 0) 68 && eqb (getD l 3 0) 84) _ (m .0) in
-    let p₂ = and-inv (eqb (getD l 1 0) 70 && eqb (getD l 2 0) 68) _ (p₃ .0) in
-    let p₁ = and-inv (eqb (getD l 1 0) 70) _ (p₂ .0) in
     let r : drop 5 l ≡ dateText d = date-trip .there l 5 11 d refl (a .1 ∙ ap some i) ∙ ap (λ x. dateText d ++ drop x l) (sym n) ∙ ap (λ x. dateText d ++ x) (drop-length l) ∙ append-nil (dateText d) in
     record {
-      text = byte-there l 0 1 72 refl (omega arith) k
-          ∙ ap (λ x. 72 ∷ x) (byte-there l 1 2 70 refl (omega arith) (eqb-true _ _ (p₁ .0))
-          ∙ ap (λ x. 70 ∷ x) (byte-there l 2 3 68 refl (omega arith) (eqb-true _ _ (p₁ .1))
-          ∙ ap (λ x. 68 ∷ x) (byte-there l 3 4 84 refl (omega arith) (eqb-true _ _ (p₂ .1))
-          ∙ ap (λ x. 84 ∷ x) (byte-there l 4 5 69 refl (omega arith) (eqb-true _ _ (p₃ .1))
-          ∙ ap (λ x. 69 ∷ x) r))));
+      text = byte-there l 0 1 72 refl (omega arith) k ∙ ap (λ x. 72 ∷ x) (mark-there l (m .0) ∙ ap (λ x. 70 ∷ 68 ∷ 84 ∷ 69 ∷ x) r);
       day = day-exactly d .0 (date-trip .limits l 5 d (a .1 ∙ ap some i));
     }
 

@@ -1,7 +1,7 @@
 -- Each field could be read exactly where the text of a value within its limits stands. From the laws of each field both ways. Assumes nothing.
 use Prim.Native.Nat.{ℕ, zero, suc, _+_, _≤_, _^_}
 use Prim.Native.Char.{code}
-use mathlib.Core.Bool.{Bool, true, false, _&&_, _||_}
+use mathlib.Core.Bool.{Bool, true, false, _||_}
 use mathlib.Core.List.{List, [], _∷_, _++_}
 use mathlib.Core.Logic.{_↔_, _⊎_, inl, inr}
 use mathlib.Core.Option.{Option, none, some}
@@ -9,7 +9,7 @@ use mathlib.Core.Path.{_≡_, refl, _∙_, ap}
 use native.Mathlib.Omega.{arith}
 use borrow.Author.Tests.{lt-ltb, ltb-true, eqb-true, eq-eqb}
 use lib.Dec.{eqb, ltb}
-use lib.ListN.{length, getD, drop}
+use lib.ListN.{length, drop}
 use Rattle.rules.specs.Choice.{leads, Each}
 use Rattle.rules.specs.Chars.{isCode, codesAt}
 use Rattle.rules.specs.Numbers.{numberAt, digitsOf}
@@ -17,7 +17,7 @@ use Rattle.rules.specs.Listed.{codeAt, codeText, isCodeWord}
 use Rattle.rules.specs.Lines.{isDateMark}
 use Rattle.rules.specs.Fields.{isEither}
 use Rattle.rules.proofs.Inverse.{false-true, and-inv}
-use Rattle.trips.proofs.Laws.{past, byte-there, byte-here}
+use Rattle.trips.proofs.Laws.{past, byte-here}
 use Rattle.trips.proofs.Digits.{number-there, number-here}
 use Rattle.trips.proofs.Trip.{Trip}
 use Rattle.trips.proofs.Times.{time-trip}
@@ -27,8 +27,9 @@ use Rattle.trips.proofs.Positions.{latitude-trip, longitude-trip}
 use Rattle.trips.proofs.Altitudes.{altitude-trip}
 use Rattle.demands.specs.Checks.{isThere}
 use Rattle.demands.specs.FieldTexts.{Stood, Field, Codes, FieldsTold}
-use Rattle.demands.proofs.Entries.{code-there, code-here}
-use Rattle.demands.proofs.Letters.{letter}
+use Rattle.demands.proofs.Carried.{mark-there}
+use Rattle.demands.proofs.LayoutLines.{code-there, code-here}
+use Rattle.demands.proofs.Leading.{letter}
 
 -- ---- a field that reads both ways
 
@@ -36,17 +37,14 @@ module _ {A : Type 0} (read : List ℕ → ℕ → Option A) (text : A → List 
   is-field : ((l : List ℕ) (at : ℕ) (v : A) → read l at ≡ some v → (within v ≡ true) × Stood l at (text v))
       → ((l : List ℕ) (at : ℕ) (v : A) → (within v ≡ true) × Stood l at (text v) → read l at ≡ some v)
       → Field read text within
-  is-field out in-again = record { reads = λ l at v. (out l at v, in-again l at v); there = λ l at. (read-there l at, there-read l at) }
+  is-field out in-again = record {
+    reads = λ l at v. (out l at v, in-again l at v);
+    there = λ l at. (read-there l at (read l at) refl, λ w. ap isThere (in-again l at (w .0) (w .1, w .2)));
+  }
     where
-      read-there : (l : List ℕ) (at : ℕ) → isThere (read l at) ≡ true → (v : A) × (within v ≡ true) × Stood l at (text v)
-      read-there l at e = go (read l at) refl e
-        where
-          go : (o : Option A) → read l at ≡ o → isThere o ≡ true → (v : A) × (within v ≡ true) × Stood l at (text v)
-          go (some v) q h = let r = out l at v q in (v, r .0, r .1)
-          go none q h = absurd (false-true h)
-
-      there-read : (l : List ℕ) (at : ℕ) → (v : A) × (within v ≡ true) × Stood l at (text v) → isThere (read l at) ≡ true
-      there-read l at w = ap isThere (in-again l at (w .0) (w .1, w .2))
+      read-there : (l : List ℕ) (at : ℕ) (o : Option A) → read l at ≡ o → isThere o ≡ true → (v : A) × (within v ≡ true) × Stood l at (text v)
+      read-there l at (some v) q h = let r = out l at v q in (v, r .0, r .1)
+      read-there l at none q h = absurd (false-true h)
 
   trip-field : (width : ℕ) → Trip read text width within → Field read text within
   trip-field width t =
@@ -106,21 +104,8 @@ codes-field l at n = (
 
 mark-field : (l : List ℕ) → (isDateMark l ≡ true) ↔ Stood l 1 (code "F" ∷ code "D" ∷ code "T" ∷ code "E" ∷ [])
 unfolding isDateMark
-mark-field l = (out, in-again)
+mark-field l = (λ e. record { rest = drop 5 l; bytes = mark-there l e }, in-again)
   where
-    out : isDateMark l ≡ true → Stood l 1 (70 ∷ 68 ∷ 84 ∷ 69 ∷ [])
-    out e =
-        let p₃ = and-inv (eqb (getD l 1 0) 70 && eqb (getD l 2 0) 68 && eqb (getD l 3 0) 84) _ e in
-        let p₂ = and-inv (eqb (getD l 1 0) 70 && eqb (getD l 2 0) 68) _ (p₃ .0) in
-        let p₁ = and-inv (eqb (getD l 1 0) 70) _ (p₂ .0) in
-        record {
-          rest = drop 5 l;
-          bytes = byte-there l 1 2 70 refl (omega arith) (eqb-true _ _ (p₁ .0))
-              ∙ ap (λ x. 70 ∷ x) (byte-there l 2 3 68 refl (omega arith) (eqb-true _ _ (p₁ .1))
-              ∙ ap (λ x. 68 ∷ x) (byte-there l 3 4 84 refl (omega arith) (eqb-true _ _ (p₂ .1))
-              ∙ ap (λ x. 84 ∷ x) (byte-there l 4 5 69 refl (omega arith) (eqb-true _ _ (p₃ .1)))));
-        }
-
     in-again : Stood l 1 (70 ∷ 68 ∷ 84 ∷ 69 ∷ []) → isDateMark l ≡ true
     in-again w =
         let a = byte-here l 1 70 _ (w .bytes) in

@@ -1,40 +1,210 @@
--- One line after those before it: the check of a line says a state exactly when the line is one that may come there, and leads to that state. Assumes nothing.
-use Prim.Native.Nat.{ℕ, _+_, _-_, _≤_}
-use mathlib.Core.Bool.{Bool, true, false, not, _&&_, cond}
-use mathlib.Core.List.{List}
-use mathlib.Core.Logic.{_⊎_, inl, inr}
+-- One line after those before it: the check of a line says a state exactly when the line is one that may come there, and leads to that state. First its letter: which
+-- role it tells, and what the tests of a first byte say of that role. Assumes nothing.
+use Prim.Native.Nat.{ℕ, suc, _+_, _-_, _≤_}
+use Prim.Native.Char.{code}
+use mathlib.Core.Bool.{Bool, true, false, _&&_, cond, not}
+use mathlib.Core.List.{List, [], _∷_}
+use mathlib.Core.Logic.{inl, inr}
+use mathlib.Core.Path.{_≡_, refl, sym, _∙_}
 use mathlib.Core.Option.{none, some}
-use mathlib.Core.Path.{_≡_, refl, sym}
 use native.Mathlib.Omega.{arith}
-use borrow.Author.Tests.{le-leb, lt-leb, leb-true, leb-false, eqb-true, ltb-true, lt-ltb}
+use borrow.Author.Tests.{le-leb, lt-leb, leb-true, leb-false, eqb-true, eqb-false, ne-eqb, ltb-true, ltb-false, le-ltb, lt-ltb}
 use lib.Dec.{leb, eqb, ltb}
 use lib.ListN.{length, getD}
-use Rattle.rules.specs.Choice.{leads}
-use Rattle.rules.specs.Families.{firstStart, layoutOf, countOf, oneMore}
+use Rattle.rules.specs.Choice.{bytes, leads}
+use Rattle.rules.specs.Families.{lineLetter, layoutLetter, layoutOf, withLayout, countOf, oneMore}
 use Rattle.rules.specs.Refusals.{says}
-use Rattle.rules.specs.Layouts.{isUnused, allPlaced, allowed}
-use Rattle.rules.specs.Lines.{kindOf, columnedLine}
-use Rattle.rules.specs.Roles.{isRole, isDeclaring, atStart, afterA, afterH, afterLayout, inBody, afterG, afterLastG, leading, stageAfter}
-use Rattle.rules.specs.Order.{start, fitsDeclaration, orderOf, withFlight, moved, dated, laidOut, counted, begun, pointed, clocked, onward, nextDay, back, passing, isBack, judge}
-use Rattle.rules.specs.declared.Date.{Date}
+use Rattle.rules.specs.Lines.{kindOf}
+use Rattle.rules.specs.Roles.{roleOf, isRole, isDeclaring, isOf, sameFamily, afterA, afterH, afterLayout, inBody, afterG, atStart, afterLastG, leading, stageAfter}
+use Rattle.rules.specs.Order.{judge, start, fitsDeclaration, orderOf, withFlight, moved, dated, laidOut, counted, begun, pointed, clocked, onward, nextDay, back, passing, isBack}
 use Rattle.rules.specs.declared.Layout.{Layout}
 use Rattle.rules.specs.declared.Layouts.{Layouts}
-use Rattle.rules.specs.declared.Counts.{Counts}
 use Rattle.rules.specs.declared.Family.{Family}
 use Rattle.rules.specs.declared.Family.the-variants as family
-use Rattle.rules.specs.declared.Head.{Head}
+use Rattle.rules.specs.declared.Kind.{Kind}
+use Rattle.rules.specs.declared.Kind.the-variants as kind
 use Rattle.rules.specs.declared.Role.{Role}
 use Rattle.rules.specs.declared.Role.the-variants as role
 use Rattle.rules.specs.declared.State.{State}
-use Rattle.rules.proofs.Inverse.{none-some, false-true, need-inv, and-inv, not-inv}
+use Rattle.rules.specs.Layouts.{isUnused, allPlaced, allowed}
+use Rattle.rules.specs.declared.Date.{Date}
+use Rattle.rules.specs.declared.Counts.{Counts}
+use Rattle.rules.specs.declared.Head.{Head}
+use Rattle.rules.proofs.Inverse.{false-true, none-some, need-inv, and-inv, not-inv}
 use Rattle.laws.proofs.Passing.{roleIn, leading-so, leading-inv, Onward, Leaves, judged, judged-so}
+use Rattle.laws.proofs.Counted.{judged-more}
 use Rattle.laws.proofs.Passing as passes
-use Rattle.demands.specs.Grammar.{Follows, IsALine, IsDateLine, IsHLine, IsLayoutLine, IsHeadLine, IsPointLine, IsLLine, IsGLine, Timed, columned, event, satellites, Untimed, differential, remark, other}
+use Rattle.demands.specs.Coming.{isAmong, lettersBefore}
 use Rattle.demands.specs.FieldTexts.{Letter}
+use Rattle.demands.specs.Grammar.{Follows, IsALine, IsDateLine, IsHLine, IsLayoutLine, IsHeadLine, IsPointLine, IsLLine, IsGLine, Timed, columned, event, satellites, Untimed, differential, remark, other}
 use Rattle.demands.proofs.Carried.{a-there, a-said, date-there, date-said, h-there, h-said, d-there, d-said, e-there, e-said, f-there, f-said, l-there, l-said, g-there, g-said, other-there, other-said}
-use Rattle.demands.proofs.Valued.{IsTold, columned-letter, columned-there, columned-said, head-there, head-said, point-there, point-said}
-use Rattle.demands.proofs.LayoutLines.{layout-there, layout-said, layout-allowed}
-use Rattle.demands.proofs.Letters.{put-by, letter, tells-letter, line-letter, tells-role, line-role, other-role, not-empty}
+use Rattle.demands.proofs.Valued.{columned-letter, columned-there, columned-said, head-there, head-said, point-there, point-said}
+use Rattle.demands.proofs.LayoutLines.{IsTold, layout-there, layout-said, layout-allowed}
+
+-- ---- the families, one by one
+
+-- what holds of each family
+abbrev pub every : (P : Family → Type 0) → P family.B → P family.K → (f : Family) → P f
+every P b k family.B = b
+every P b k family.K = k
+
+pub all-layouts : (a b : Layouts) → ((f : Family) → layoutOf f a ≡ layoutOf f b) → a ≡ b
+all-layouts a b h = λ i. record { b = h family.B i; k = h family.K i }
+
+-- what holds of the layout that is put in, and of each that stays
+pub put-by : (P : Family → Layout → Type 0) (f : Family) (i : Layout) (ls : Layouts) → P f i → ((g : Family) → sameFamily g f ≡ false → P g (layoutOf g ls))
+    → (g : Family) → P g (layoutOf g (withLayout f i ls))
+put-by P family.B i ls h k = every (λ g. P g (layoutOf g (withLayout family.B i ls))) h (k family.K refl)
+put-by P family.K i ls h k = every (λ g. P g (layoutOf g (withLayout family.K i ls))) (k family.B refl) h
+
+pub put-own : (f : Family) (i : Layout) (ls : Layouts) → layoutOf f (withLayout f i ls) ≡ i
+put-own family.B i ls = refl
+put-own family.K i ls = refl
+
+pub same-family : (f : Family) → sameFamily f f ≡ true
+same-family family.B = refl
+same-family family.K = refl
+
+pub is-same : (f g : Family) → sameFamily g f ≡ true → g ≡ f
+is-same family.B = every (λ g. sameFamily g family.B ≡ true → g ≡ family.B) (λ e. refl) (λ e. absurd (false-true e))
+is-same family.K = every (λ g. sameFamily g family.K ≡ true → g ≡ family.K) (λ e. absurd (false-true e)) (λ e. refl)
+
+pub put-others : (f : Family) (i : Layout) (ls : Layouts) (g : Family) → sameFamily g f ≡ false → layoutOf g (withLayout f i ls) ≡ layoutOf g ls
+put-others f i ls = put-by (λ g x. sameFamily g f ≡ false → x ≡ layoutOf g ls) f i ls (λ n. absurd (false-true (sym n ∙ same-family f))) (λ g n m. refl)
+
+pub same-letter : (f g : Family) → lineLetter f ≡ lineLetter g → f ≡ g
+same-letter family.B = every (λ g. lineLetter family.B ≡ lineLetter g → family.B ≡ g) (λ e. refl) (λ e. absurd (omega arith))
+same-letter family.K = every (λ g. lineLetter family.K ≡ lineLetter g → family.K ≡ g) (λ e. absurd (omega arith)) (λ e. refl)
+
+-- ---- the role of a letter
+
+-- no byte is between two letters that follow one another
+past : (n b : ℕ) → n ≤ b → eqb b n ≡ false → suc n ≤ b
+past n b h e = let z = eqb-false b n e in omega arith
+
+tell : (P : Role → Type 0) (t : Bool) (k r : Kind) → (t ≡ true → P (roleOf k)) → (t ≡ false → P (roleOf r)) → P (roleOf (cond t k r))
+tell P true k r f g = f refl
+tell P false k r f g = g refl
+
+pub letter : (b : ℕ) → Letter (roleOf (kindOf b)) b
+unfolding kindOf
+letter b =
+    let P : Role → Type 0 = λ r. Letter r b in
+    tell P (eqb b 65) kind.A _ (eqb-true b 65) λ a.
+    tell P (eqb b 66) kind.B _ (eqb-true b 66) λ b₁.
+    tell P (eqb b 67) kind.C _ (eqb-true b 67) λ c.
+    tell P (eqb b 68) kind.D _ (eqb-true b 68) λ d.
+    tell P (eqb b 69) kind.E _ (eqb-true b 69) λ e.
+    tell P (eqb b 70) kind.F _ (eqb-true b 70) λ f.
+    tell P (eqb b 71) kind.G _ (eqb-true b 71) λ g.
+    tell P (eqb b 72) kind.H _ (eqb-true b 72) λ h.
+    tell P (eqb b 73) kind.I _ (eqb-true b 73) λ i.
+    tell P (eqb b 74) kind.J _ (eqb-true b 74) λ j.
+    tell P (eqb b 75) kind.K _ (eqb-true b 75) λ k.
+    tell P (eqb b 76) kind.L _ (eqb-true b 76) λ l.
+    tell P (ltb b 65) kind.NoKind _ (λ q. inl (ltb-true b 65 q)) λ q.
+    tell P (leb b 90) kind.Other kind.NoKind
+    (λ r. (
+      past 76 b (past 75 b (past 74 b (past 73 b (past 72 b (past 71 b (past 70 b (past 69 b (past 68 b (past 67 b (past 66 b (past 65 b (ltb-false b 65 q) a) b₁) c) d) e) f) g) h) i) j) k) l,
+      leb-true b 90 r,
+    ))
+    (λ r. inr (leb-false b 90 r))
+
+pub tells-letter : (f : Family) {b : ℕ} → Letter (role.Tells f) b → b ≡ layoutLetter f
+tells-letter family.B e = e
+tells-letter family.K e = e
+
+pub line-letter : (f : Family) {b : ℕ} → Letter (role.Columned f) b → b ≡ lineLetter f
+line-letter family.B e = e
+line-letter family.K e = e
+
+pub tells-role : (f : Family) → roleOf (kindOf (layoutLetter f)) ≡ role.Tells f
+unfolding kindOf
+tells-role family.B = refl
+tells-role family.K = refl
+
+pub line-role : (f : Family) → roleOf (kindOf (lineLetter f)) ≡ role.Columned f
+unfolding kindOf
+line-role family.B = refl
+line-role family.K = refl
+
+-- a line with a role has bytes
+pub not-empty : (l : List ℕ) → isRole (roleIn l) ≡ true → 1 ≤ length l
+unfolding kindOf
+not-empty [] h = absurd (false-true h)
+not-empty (b ∷ l) h = omega arith
+
+-- ---- tests of a role
+
+-- tells the layout of a family
+abbrev pub isTelling : Family → Role → Bool
+isTelling g = elim [ role.Opens ↦ false | role.Heads ↦ false | role.Tells f ↦ sameFamily g f | role.Columned f ↦ false | role.Declares ↦ false | role.Event ↦ false | role.Satellites ↦ false | role.Differential ↦ false | role.Seals ↦ false | role.Remark ↦ false | role.Other ↦ false | role.NoRole ↦ false ]
+
+-- has a time
+abbrev pub isTiming : Role → Bool
+isTiming = elim [ role.Opens ↦ false | role.Heads ↦ false | role.Tells f ↦ false | role.Columned f ↦ true | role.Declares ↦ false | role.Event ↦ true | role.Satellites ↦ true | role.Differential ↦ false | role.Seals ↦ false | role.Remark ↦ false | role.Other ↦ false | role.NoRole ↦ false ]
+
+abbrev pub isSealing : Role → Bool
+isSealing = elim [ role.Opens ↦ false | role.Heads ↦ false | role.Tells f ↦ false | role.Columned f ↦ false | role.Declares ↦ false | role.Event ↦ false | role.Satellites ↦ false | role.Differential ↦ false | role.Seals ↦ true | role.Remark ↦ false | role.Other ↦ false | role.NoRole ↦ false ]
+
+-- the first part of a file that a line of this role leads to
+abbrev pub leadsTo : Role → ℕ
+leadsTo = elim [ role.Opens ↦ afterA | role.Heads ↦ afterH | role.Tells f ↦ afterLayout f | role.Columned f ↦ inBody | role.Declares ↦ inBody | role.Event ↦ inBody | role.Satellites ↦ inBody | role.Differential ↦ inBody | role.Seals ↦ afterG | role.Remark ↦ inBody | role.Other ↦ inBody | role.NoRole ↦ inBody ]
+
+-- the tests of a first byte by the role, and those that ask for a family
+abbrev Plainly : Role → ℕ → Type 0
+Plainly r b = (eqb b (code "C") ≡ isDeclaring r) × (eqb b (code "G") ≡ isSealing r) × (isAmong (bytes "BEFK") b ≡ isTiming r)
+
+abbrev ByFamily : Role → ℕ → Family → Type 0
+ByFamily r b f = (eqb b (lineLetter f) ≡ isOf f r) × (eqb b (layoutLetter f) ≡ isTelling f r) × (isAmong (lettersBefore f) b ≡ leb (leadsTo r) (afterLayout f - 1))
+
+abbrev pub Tests : Role → ℕ → Type 0
+Tests r b = (isRole r ≡ (leb (code "A") b && leb b (code "Z"))) × Plainly r b × ((f : Family) → ByFamily r b f)
+
+-- another byte than A to L
+outside : (b : ℕ) → ((x : ℕ) → code "A" ≤ x → x ≤ code "L" → eqb b x ≡ false) → Plainly role.Other b × ((f : Family) → ByFamily role.Other b f)
+unfolding isAmong bytes
+outside b n =
+    let no : (x : ℕ) → leb 65 x ≡ true → leb x 76 ≡ true → eqb b x ≡ false = λ x p q. n x (leb-true 65 x p) (leb-true x 76 q) in (
+      (no 67 refl refl, no 71 refl refl, simp (no 66 refl refl, no 69 refl refl, no 70 refl refl, no 75 refl refl)),
+      every (ByFamily role.Other b) (no 66 refl refl, no 73 refl refl, simp (no 65 refl refl, no 72 refl refl)) (no 75 refl refl, no 74 refl refl, simp (no 65 refl refl, no 72 refl refl, no 73 refl refl)),
+    )
+
+other-role : (b : ℕ) → code "M" ≤ b → b ≤ code "Z" → roleOf (kindOf b) ≡ role.Other
+unfolding kindOf
+other-role b p q =
+    let no : (x : ℕ) → leb x 76 ≡ true → eqb b x ≡ false = λ x h. let i = leb-true x 76 h in ne-eqb b x (λ z. omega arith) in
+    rw (no 65 refl, no 66 refl, no 67 refl, no 68 refl, no 69 refl, no 70 refl, no 71 refl, no 72 refl, no 73 refl, no 74 refl, no 75 refl, no 76 refl, le-ltb b 65 (omega arith), le-leb b 90 q)
+
+-- a letter of its own
+row : (r : Role) (x b : ℕ) → b ≡ x → isRole r ≡ (leb (code "A") x && leb x (code "Z")) → Plainly r x → ByFamily r x family.B → ByFamily r x family.K → Tests r b
+row r x b h known plain at-b at-k = rw h (known, plain, every (ByFamily r x) at-b at-k)
+
+tests-by : (r : Role) (b : ℕ) → Letter r b → Tests r b
+unfolding isAmong bytes
+tests-by role.Opens b h = row role.Opens _ b h refl (refl, refl, refl) (refl, refl, refl) (refl, refl, refl)
+tests-by role.Heads b h = row role.Heads _ b h refl (refl, refl, refl) (refl, refl, refl) (refl, refl, refl)
+tests-by (role.Tells family.B) b h = row (role.Tells family.B) _ b h refl (refl, refl, refl) (refl, refl, refl) (refl, refl, refl)
+tests-by (role.Tells family.K) b h = row (role.Tells family.K) _ b h refl (refl, refl, refl) (refl, refl, refl) (refl, refl, refl)
+tests-by (role.Columned family.B) b h = row (role.Columned family.B) _ b h refl (refl, refl, refl) (refl, refl, refl) (refl, refl, refl)
+tests-by (role.Columned family.K) b h = row (role.Columned family.K) _ b h refl (refl, refl, refl) (refl, refl, refl) (refl, refl, refl)
+tests-by role.Declares b h = row role.Declares _ b h refl (refl, refl, refl) (refl, refl, refl) (refl, refl, refl)
+tests-by role.Event b h = row role.Event _ b h refl (refl, refl, refl) (refl, refl, refl) (refl, refl, refl)
+tests-by role.Satellites b h = row role.Satellites _ b h refl (refl, refl, refl) (refl, refl, refl) (refl, refl, refl)
+tests-by role.Differential b h = row role.Differential _ b h refl (refl, refl, refl) (refl, refl, refl) (refl, refl, refl)
+tests-by role.Seals b h = row role.Seals _ b h refl (refl, refl, refl) (refl, refl, refl) (refl, refl, refl)
+tests-by role.Remark b h = row role.Remark _ b h refl (refl, refl, refl) (refl, refl, refl) (refl, refl, refl)
+tests-by role.Other b h = let o = outside b λ x p q. ne-eqb b x (λ z. omega arith) in (rw (le-leb 65 b (omega arith), le-leb b 90 (h .1)), o .0, o .1)
+tests-by role.NoRole b (inl h) = let o = outside b λ x p q. ne-eqb b x (λ z. omega arith) in (rw (lt-leb 65 b h), o .0, o .1)
+tests-by role.NoRole b (inr h) = let o = outside b λ x p q. ne-eqb b x (λ z. omega arith) in (rw (le-leb 65 b (omega arith), lt-leb b 90 h), o .0, o .1)
+
+pub letter-tests : (l : List ℕ) → Tests (roleIn l) (getD l 0 0)
+letter-tests l = tests-by (roleIn l) (getD l 0 0) (letter (getD l 0 0))
+
+-- a line that passes is one line of its family more
+pub counts-more : (l : List ℕ) (st after : State) → judge l st ≡ says after → (f : Family)
+    → countOf f (after .flight .counts) ≡ countOf f (st .flight .counts) + cond (eqb (getD l 0 0) (lineLetter f)) 1 0
+counts-more l st after e f = rw (letter-tests l .2 f .0) (judged-more l st after e .count f)
 
 -- ---- what is claimed
 
@@ -130,6 +300,9 @@ follows-time before now (inr h) = rw (lt-leb before now (omega arith), lt-ltb 43
 
 -- ---- a line that is judged good leads on
 
+pub some-points : (n : ℕ) → (n ≡ 0 → ⊥) → 1 ≤ n
+some-points n h = omega arith
+
 module _ (l : List ℕ) (st : State) where
   abbrev Led : State → Type 0
   Led m = (p : Part) × Leads st l p m
@@ -139,6 +312,10 @@ module _ (l : List ℕ) (st : State) where
       → Led (moved stage st)
   l-led stage true p w o = let s = leading-inv afterH inBody inBody (st .stage) stage o in rw (← s .2) (body, body-line (s .0) (s .1) (quiet p (remark w)))
   l-led stage false p w o = let s = leading-inv afterG afterLastG afterLastG (st .stage) stage o in rw (← s .2) (remarks, l-line (s .0) (s .1) p w)
+
+  -- and C, D, E, F, B, K and other lines, which are of the body
+  to-body : (F : ℕ → State) (stage : ℕ) → leading afterH inBody inBody (st .stage) ≡ some stage → InBody st l (F inBody) → Led (F stage)
+  to-body F stage o w = let s = leading-inv afterH inBody inBody (st .stage) stage o in rw (← s .2) (body, body-line (s .0) (s .1) w)
 
   by-role : (stage : ℕ) {r : Role} {m : State} → Sound st → Letter r (getD l 0 0) → fitsDeclaration (isDeclaring r) st ≡ true → stageAfter r (st .stage) ≡ some stage
       → Leaves l (moved stage st) r m → Led m
@@ -156,35 +333,20 @@ module _ (l : List ℕ) (st : State) where
       let s = leading-inv afterH (afterLayout x - 1) (afterLayout x) (st .stage) stage o in
       rw (← s .2) (telling x, layout-line x i (s .0) (s .1) (plain-fits st f) (layout-there x i l e (tells-letter x k)))
   by-role stage g k f o (passes.columned x t e w) =
-      let s = leading-inv afterH inBody inBody (st .stage) stage o in
       let c = columned-there x (layoutOf x (st .flight .layouts)) t l (g x) (line-letter x k) e in
-      rw (← s .2) (body, body-line (s .0) (s .1) (timed t (columned x c) (plain-fits st f) (time-follows (st .clock) t w)))
-  by-role stage g k f o (passes.head h n e) =
-      let s = leading-inv afterH inBody inBody (st .stage) stage o in
-      let d = head-fits st n f in
-      rw (← s .2) (body, body-line (s .0) (s .1) (head h n (d .0) (d .1) (head-there h l k e)))
-  by-role stage g k f o (passes.point p n e) =
-      let s = leading-inv afterH inBody inBody (st .stage) stage o in
-      rw (← s .2) (body, body-line (s .0) (s .1) (point (some-points (st .points) n) (point-there p l k e)))
-    where
-      some-points : (n : ℕ) → (n ≡ 0 → ⊥) → 1 ≤ n
-      some-points n h = omega arith
+      to-body (λ c. clocked t (counted x (moved c st))) stage o (timed t (columned x c) (plain-fits st f) (time-follows (st .clock) t w))
+  by-role stage g k f o (passes.head h n e) = let d = head-fits st n f in to-body (λ c. begun h (moved c st)) stage o (head h n (d .0) (d .1) (head-there h l k e))
+  by-role stage g k f o (passes.point p n e) = to-body (λ c. pointed (moved c st)) stage o (point (some-points (st .points) n) (point-there p l k e))
   by-role stage g k f o (passes.event t e w) =
-      let s = leading-inv afterH inBody inBody (st .stage) stage o in
-      rw (← s .2) (body, body-line (s .0) (s .1) (timed t (event (e-there l t k e)) (plain-fits st f) (time-follows (st .clock) t w)))
+      to-body (λ c. clocked t (moved c st)) stage o (timed t (event (e-there l t k e)) (plain-fits st f) (time-follows (st .clock) t w))
   by-role stage g k f o (passes.satellites t e w) =
-      let s = leading-inv afterH inBody inBody (st .stage) stage o in
-      rw (← s .2) (body, body-line (s .0) (s .1) (timed t (satellites (f-there l t k e)) (plain-fits st f) (time-follows (st .clock) t w)))
-  by-role stage g k f o (passes.differential e) =
-      let s = leading-inv afterH inBody inBody (st .stage) stage o in
-      rw (← s .2) (body, body-line (s .0) (s .1) (quiet (plain-fits st f) (differential (d-there l tt k e))))
+      to-body (λ c. clocked t (moved c st)) stage o (timed t (satellites (f-there l t k e)) (plain-fits st f) (time-follows (st .clock) t w))
+  by-role stage g k f o (passes.differential e) = to-body (λ c. moved c st) stage o (quiet (plain-fits st f) (differential (d-there l tt k e)))
   by-role stage g k f o (passes.seals e) =
       let s = leading-inv afterH afterG afterG (st .stage) stage o in
       rw (← s .2) (seal, g-line (s .0) (s .1) (plain-fits st f) (g-there l tt k e))
   by-role stage g k f o (passes.remark e) = l-led stage (leb (st .stage) inBody) (plain-fits st f) (l-there l tt k e) o
-  by-role stage g k f o (passes.other e) =
-      let s = leading-inv afterH inBody inBody (st .stage) stage o in
-      rw (← s .2) (body, body-line (s .0) (s .1) (quiet (plain-fits st f) (other (other-there l tt (k .0) (k .1) e))))
+  by-role stage g k f o (passes.other e) = to-body (λ c. moved c st) stage o (quiet (plain-fits st f) (other (other-there l tt (k .0) (k .1) e)))
 
   pub judge-leads : (m : State) → Sound st → judge l st ≡ says m → (p : Part) × Leads st l p m
   judge-leads m g e =
@@ -198,13 +360,7 @@ module _ (l : List ℕ) (st : State) where
   role-judged : (r : Role) (stage : ℕ) {m : State} → roleIn l ≡ r → isRole r ≡ true → fitsDeclaration (isDeclaring r) st ≡ true → stageAfter r (st .stage) ≡ some stage
       → Leaves l (moved stage st) r m → judge l st ≡ says m
   unfolding orderOf
-  role-judged r stage {m} k i f o w = judged-so l st m (record {
-    long = not-empty l (rw k i);
-    known = rw k i;
-    stage = stage;
-    order = rw (k, f) o;
-    left = rw k w;
-  })
+  role-judged r stage {m} k i f o w = judged-so l st m (record { long = not-empty l (rw k i); known = rw k i; stage = stage; order = rw (k, f) o; left = rw k w })
 
   body-judge : {m : State} → Sound st → afterH ≤ st .stage → st .stage ≤ inBody → InBody st l m → judge l st ≡ says m
   unfolding stageAfter kindOf

@@ -1,6 +1,6 @@
 -- The check goes through the lines of a file, each judged good after those before it, to where it stops: at the end, at a line with no end, at a faulty line, or
 -- where the table is full. What it answers is told by where it stops. Assumes nothing.
-use Prim.Native.Nat.{ℕ, _+_, _≤_, _<_}
+use Prim.Native.Nat.{ℕ, _+_, _≤_}
 use mathlib.Core.Bool.{Bool, true, false}
 use mathlib.Core.List.{List, [], _∷_, _++_, append-assoc, append-nil}
 use mathlib.Core.Path.{_≡_, refl, sym, _∙_, ap}

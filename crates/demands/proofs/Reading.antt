@@ -9,12 +9,12 @@ use mathlib.Core.Path.{_≡_, refl, sym, _∙_, ap, subst}
 use native.Mathlib.Nat.{zero-add}
 use native.Mathlib.Omega.{arith}
 use borrow.Author.Tests.{ne-eqb}
-use lib.ListN.{length, getD, take}
+use lib.Dec.{eqb}
+use lib.ListN.{length, getD, take, drop}
 use Rattle.rules.specs.Choice.{bytes, Each}
 use Rattle.rules.specs.Families.{firstStart, lineLetter, layoutLetter, familyOf, layoutOf}
 use Rattle.rules.specs.Refusals.{says}
-use Rattle.rules.specs.Layouts.{lineLength}
-use Rattle.rules.specs.Lines.{shapedBy, columnedLine}
+use Rattle.rules.specs.Layouts.{entriesOf}
 use Rattle.rules.specs.Split.{end, linesOf, offsets}
 use Rattle.rules.specs.Reads.{entriesSaid}
 use Rattle.rules.specs.Files.{verdict, goodLines}
@@ -29,17 +29,17 @@ use Rattle.rules.proofs.Inverse.{false-true}
 use Rattle.laws.proofs.Splitting.{textsOf, steps, lengths-total}
 use Rattle.laws.proofs.Splitting as splitting
 use Rattle.laws.proofs.Counted.{accepted-whole, goodIn, table-length, entry-put, entry-kept, line-by-number}
-use Rattle.trips.proofs.Fixes.{fix-there}
-use Rattle.trips.proofs.Extras.{extra-there}
-use Rattle.demands.specs.Grammar.{IsColumned, AtMostOne, absent, given, Timed, Untimed, differential, remark, other, Items, done, timed, untimed, Body, undeclared, Parts, linesIn, Keeps, Meets, joinLines}
+use Rattle.trips.proofs.Fixes.{fix-trip}
+use Rattle.trips.proofs.Extras.{extra-trip}
+use Rattle.demands.specs.Grammar.{Columns, IsColumned, IsGLine, IsLLine, AtMostOne, absent, given, Timed, Untimed, differential, remark, other, Items, done, timed, untimed, Body, undeclared, Parts, linesIn, Keeps, Meets, joinLines}
 use Rattle.demands.specs.Grammar as grammar
 use Rattle.demands.specs.Coming.{isAmong}
 use Rattle.demands.specs.Readings.{ReadsColumns, ReadsColumned, ReadsLine, NoC, ReadsDeclaration, nowhere, declared, total, Steps, Readable}
-use Rattle.demands.proofs.Laws.{each-map, each-join, shape-there}
+use Rattle.demands.proofs.Laws.{each-map, each-join}
 use Rattle.demands.proofs.Carried.{e-said, f-said}
-use Rattle.demands.proofs.Valued.{IsTold, start-low, fix-reads, extra-reads, columned-letter, columned-said, head-reads, point-reads, head-said, point-said}
-use Rattle.demands.proofs.Letters.{every, same-letter}
-use Rattle.demands.proofs.LayoutLines.{layout-said, told}
+use Rattle.demands.proofs.Valued.{start-low, fix-reads, extra-reads, columned-letter, columned-said, head-reads, point-reads, head-said, point-said}
+use Rattle.demands.proofs.LayoutLines.{IsTold, layout-said, told}
+use Rattle.demands.proofs.Leading.{every, same-letter}
 use Rattle.demands.proofs.Passing.{before, lines-joined}
 use Rattle.demands.proofs.Accepted.{accepted-as}
 use Rattle.demands.proofs.Columns.{columns-read}
@@ -79,61 +79,61 @@ total-is (l ∷ ls) = ap (λ n. length l + 2 + n) (total-is ls)
 
 -- ---- lines with columns
 
--- the columns of a line of a family that reads as its time
-line-columns : (f : Family) (layout : Layout) (l : List ℕ) → IsTold f layout → getD l 0 0 ≡ lineLetter f → (t : ℕ) → columnedLine f layout l ≡ says t
-    → shapedBy (firstStart f) layout l ≡ says tt → ReadsColumns f layout l
-unfolding shapedBy entriesSaid familyOf
-line-columns f layout l i k t e s =
-    let h = shape-there (lineLength (firstStart f) layout) (lineLength (firstStart f) layout) false l tt s in
-    columns-read f layout l (start-low f) (i .0) (i .1) (omega (arith, h .long, h .short)) (rw (k, own-family f, i .0, e))
-  where
-    own-family : (f : Family) → familyOf (lineLetter f) ≡ some f
-    own-family family.B = refl
-    own-family family.K = refl
+-- the columns of a line of a family that passes its checks
+line-columns : (f : Family) (layout : Layout) (t : ℕ) (l tail : List ℕ) → IsTold f layout → IsColumned f layout t l → drop (firstStart f - 1) l ≡ tail → Columns (entriesOf layout) tail
+    → ReadsColumns f layout l
+unfolding entriesSaid familyOf
+line-columns f layout t l tail i w d c =
+    let k = columned-letter f layout t l w in
+    columns-read f layout l tail (start-low f) (i .0) (i .1) d c (rw (k, every (λ f. familyOf (lineLetter f) ≡ some f) refl refl f, i .0, columned-said f layout t l i w))
 
-pub reads-columned : (f : Family) (layout : Layout) (t : ℕ) (l : List ℕ) → IsTold f layout → IsColumned f layout t l → ReadsColumned f layout l
-reads-columned family.B layout t l i w =
-    let e = fix-reads layout i (w .0) l (w .2) in
-    record {
-      fix = w .0;
-      is = w .2;
-      reads = e;
-      columns = line-columns family.B layout l i (columned-letter family.B layout t l w) t (columned-said family.B layout t l i w) (fix-there layout l (w .0) e .shape);
-    }
-reads-columned family.K layout t l i w =
-    let e = extra-reads layout i t l w in
-    record {
-      time = t;
-      is = w;
-      reads = e;
-      columns = line-columns family.K layout l i (columned-letter family.K layout t l w) t (columned-said family.K layout t l i w) (extra-there layout l t e .shape);
-    }
+reads-columned : (f : Family) (layout : Layout) (t : ℕ) (l : List ℕ) → IsTold f layout → IsColumned f layout t l → ReadsColumned f layout l
+reads-columned family.B layout t l i (f, e, w) = record {
+  fix = f;
+  is = w;
+  reads = fix-reads layout i f l w;
+  columns = line-columns family.B layout t l (w .tail) i (f, e, w) (ap (drop 35) (w .text) ∙ fix-trip layout .behind f (w .tail)) (w .columns);
+}
+reads-columned family.K layout t l i w = record {
+  time = t;
+  is = w;
+  reads = extra-reads layout i t l w;
+  columns = line-columns family.K layout t l (w .tail) i w (ap (drop 7) (w .text) ∙ extra-trip layout .behind t (w .tail)) (w .columns);
+}
 
 -- ---- lines that are none of these
 
--- a line of no family, and no C line
-abbrev Aside : List ℕ → Type 0
-Aside l = ((f : Family) → getD l 0 0 ≡ lineLetter f → ⊥) × NoC l
+-- a line of no family, no C line and no G line
+abbrev pub Aside : List ℕ → Type 0
+Aside l = isAmong (bytes "BCGK") (getD l 0 0) ≡ false
 
-aside : (x : ℕ) (l : List ℕ) → getD l 0 0 ≡ x → isAmong (bytes "BCK") x ≡ false → Aside l
-unfolding isAmong bytes
-aside x l e n = ((λ f z. false-true (sym n ∙ ap (isAmong (bytes "BCK")) (sym e ∙ z) ∙ every (λ f. isAmong (bytes "BCK") (lineLetter f) ≡ true) refl refl f)), λ z. false-true (sym n ∙ ap (isAmong (bytes "BCK")) (sym e ∙ z)))
+pub other-than : (xs : List ℕ) (l : List ℕ) (x : ℕ) → isAmong xs x ≡ true → isAmong xs (getD l 0 0) ≡ false → getD l 0 0 ≡ x → ⊥
+other-than xs l x y n e = false-true (sym n ∙ ap (isAmong xs) e ∙ y)
 
-untimed-aside : {l : List ℕ} → Untimed l → Aside l
+pub untimed-aside : {l : List ℕ} → Untimed l → Aside l
 unfolding isAmong bytes
-untimed-aside {l} (differential w) = aside 68 l (w .letter) refl
-untimed-aside {l} (remark w) = aside 76 l (w .letter) refl
-untimed-aside {l} (other w) = aside (getD l 0 0) l refl (simp (ne-eqb (getD l 0 0) 66 (λ z. omega (arith, w .from)), ne-eqb (getD l 0 0) 67 (λ z. omega (arith, w .from)), ne-eqb (getD l 0 0) 75 (λ z. omega (arith, w .from))))
+untimed-aside (differential w) = rw (w .letter)
+untimed-aside (remark w) = rw (w .letter)
+untimed-aside {l} (other w) = let no : (x : ℕ) → x < 77 → eqb (getD l 0 0) x ≡ false = λ x h. ne-eqb _ x (λ z. omega (arith, w .from)) in simp (no 66 (omega arith), no 67 (omega arith), no 71 (omega arith), no 75 (omega arith))
 
 one-aside : (f : Family) {layout : Layout} {ls : List (List ℕ)} → AtMostOne f layout ls → Each Aside ls
 unfolding isAmong bytes
 one-aside f absent = tt
-one-aside f (given {layout = i} {l = l} w) = (aside (layoutLetter f) l (layout-said f i l w .0) (every (λ f. isAmong (bytes "BCK") (layoutLetter f) ≡ false) refl refl f), tt)
+one-aside f (given {layout = i} {l = l} w) = (rw (layout-said f i l w .0) (every (λ f. isAmong (bytes "BCGK") (layoutLetter f) ≡ false) refl refl f), tt)
 
 -- ---- the lines of a body
 
+no-family : (l : List ℕ) → isAmong (bytes "BK") (getD l 0 0) ≡ false → (layouts : Layouts) → ReadsLine layouts l
+unfolding isAmong bytes
+no-family l n layouts f z = absurd (other-than (bytes "BK") l (lineLetter f) (every (λ f. isAmong (bytes "BK") (lineLetter f) ≡ true) refl refl f) n z)
+
 aside-reads : (layouts : Layouts) (l : List ℕ) → Aside l → ReadsLine layouts l
-aside-reads layouts l h f z = absurd (h .0 f z)
+unfolding isAmong bytes
+aside-reads layouts l n f z = absurd (other-than (bytes "BCGK") l (lineLetter f) (every (λ f. isAmong (bytes "BCGK") (lineLetter f) ≡ true) refl refl f) n z)
+
+aside-no-c : (l : List ℕ) → Aside l → NoC l
+unfolding isAmong bytes
+aside-no-c l n = other-than (bytes "BCGK") l (code "C") refl n
 
 module _ (layouts : Layouts) (can-tell : (f : Family) → IsTold f (layoutOf f layouts)) where
   -- each line is read as it may be, and is no C line
@@ -147,27 +147,24 @@ module _ (layouts : Layouts) (can-tell : (f : Family) → IsTold f (layoutOf f l
         (λ g z. subst (λ x. ReadsColumned x (layoutOf x layouts) l) (same-letter f g (sym k ∙ z)) (reads-columned f (layoutOf f layouts) t l (can-tell f) w)),
         λ z. every (λ f. lineLetter f ≡ code "C" → ⊥) (λ e. omega arith) (λ e. omega arith) f (sym k ∙ z),
       )
-  timed-item {t} l (grammar.event w) = let h = aside 69 l (e-said l t w .0) refl in (aside-reads layouts l h, h .1)
-  timed-item {t} l (grammar.satellites w) = let h = aside 70 l (f-said l t w .0) refl in (aside-reads layouts l h, h .1)
+  timed-item {t} l (grammar.event w) = let h : Aside l = rw (e-said l t w .0) in (aside-reads layouts l h, aside-no-c l h)
+  timed-item {t} l (grammar.satellites w) = let h : Aside l = rw (f-said l t w .0) in (aside-reads layouts l h, aside-no-c l h)
 
   items-read : {ls : List (List ℕ)} {ts : List ℕ} → Items layouts ls ts → Each Item ls
   items-read done = tt
   items-read (timed {l = l} w r) = (timed-item l w, items-read r)
-  items-read (untimed {l = l} w r) = let h = untimed-aside w in ((aside-reads layouts l h, h .1), items-read r)
-
-  -- C lines are of no family
-  c-reads : (l : List ℕ) → getD l 0 0 ≡ code "C" → ReadsLine layouts l
-  c-reads l e f z = absurd (every (λ f. code "C" ≡ lineLetter f → ⊥) (λ e. omega arith) (λ e. omega arith) f (sym e ∙ z))
+  items-read (untimed {l = l} w r) = let h = untimed-aside w in ((aside-reads layouts l h, aside-no-c l h), items-read r)
 
   lines-of : (ls : List (List ℕ)) → Each Item ls → Each (ReadsLine layouts) ls
   lines-of ls h = each-map ls (λ l x. x .0) h
 
   body-reads : {ls : List (List ℕ)} {ts : List ℕ} → Body layouts ls ts → Each (ReadsLine layouts) ls
+  unfolding isAmong bytes
   body-reads (undeclared {ls = ls} i) = lines-of ls (items-read i)
   body-reads (grammar.declared pre hd points after h i no-b w ps c j) =
       each-join (ReadsLine layouts) pre (hd ∷ (points ++ after)) (lines-of pre (items-read i)) (
-        c-reads hd (head-said h hd w .0),
-        each-join (ReadsLine layouts) points after (each-map points (λ l v. c-reads l (point-said l v .0)) ps) (lines-of after (items-read j)),
+        no-family hd (rw (head-said h hd w .0)) layouts,
+        each-join (ReadsLine layouts) points after (each-map points (λ l v. no-family l (rw (point-said l v .0)) layouts) ps) (lines-of after (items-read j)),
       )
 
   -- the declaration of a body, between lines that are no C lines
@@ -186,44 +183,43 @@ module _ (layouts : Layouts) (can-tell : (f : Family) → IsTold f (layoutOf f l
 -- ---- the lines before the body, and those behind it
 
 module _ {seal : Seal} {p : Parts} {date : Date} {layouts : Layouts} {times : List ℕ} (w : Keeps seal p date layouts times) where
-  abbrev front : List (List ℕ)
+  abbrev pub front : List (List ℕ)
   front = p .recorder ∷ p .day ∷ (p .headers ++ (p .told family.B ++ p .told family.K))
 
-  abbrev back : List (List ℕ)
+  abbrev pub back : List (List ℕ)
   back = p .seal ++ p .remarks
 
-  in-three : linesIn p ≡ front ++ (p .body ++ back)
+  pub in-three : linesIn p ≡ front ++ (p .body ++ back)
   in-three = simp append-assoc
 
-  front-aside : Each Aside front
+  pub front-aside : Each Aside front
   unfolding isAmong bytes
   front-aside = (
-    aside 65 (p .recorder) (w .recorder .letter) refl,
+    rw (w .recorder .letter),
     (
-      aside 72 (p .day) (ap (λ x. getD x 0 0) (w .day .text)) refl,
-      each-join Aside (p .headers) (p .told family.B ++ p .told family.K)
-          (each-map (p .headers) (λ l h. aside 72 l (h .letter) refl) (w .headers))
+      rw (w .day .text),
+      each-join Aside (p .headers) (p .told family.B ++ p .told family.K) (each-map (p .headers) (λ l h. rw (h .letter)) (w .headers))
           (each-join Aside (p .told family.B) (p .told family.K) (one-aside family.B (w .told family.B)) (one-aside family.K (w .told family.K))),
     ),
   )
 
-  back-aside : Each Aside back
-  unfolding isAmong bytes
-  back-aside =
-      each-join Aside (p .seal) (p .remarks)
-      (each-map (p .seal) (λ l h. aside 71 l (h .letter) refl) (w .seals))
-      (each-map (p .remarks) (λ l h. aside 76 l (h .letter) refl) (w .remarks))
+  -- G and L lines
+  pub back-by : (P : List ℕ → Type 0) → ((l : List ℕ) → IsGLine l → P l) → ((l : List ℕ) → IsLLine l → P l) → Each P back
+  back-by P g r = each-join P (p .seal) (p .remarks) (each-map (p .seal) g (w .seals)) (each-map (p .remarks) r (w .remarks))
 
   keeps-reads : Each (ReadsLine layouts) (linesIn p)
+  unfolding isAmong bytes
   keeps-reads =
       subst (Each (ReadsLine layouts)) (sym in-three)
       (each-join (ReadsLine layouts) front (p .body ++ back) (each-map front (aside-reads layouts) front-aside)
-      (each-join (ReadsLine layouts) (p .body) back (body-reads layouts (λ f. told f (w .told f)) (w .body)) (each-map back (aside-reads layouts) back-aside)))
+      (each-join (ReadsLine layouts) (p .body) back (body-reads layouts (λ f. told f (w .told f)) (w .body))
+      (back-by (ReadsLine layouts) (λ l h. no-family l (rw (h .letter)) layouts) (λ l h. no-family l (rw (h .letter)) layouts))))
 
   keeps-declares : ReadsDeclaration (linesIn p)
   keeps-declares =
       subst ReadsDeclaration (sym in-three)
-      (body-declares layouts (λ f. told f (w .told f)) front back (each-map front (λ l h. h .1) front-aside) (each-map back (λ l h. h .1) back-aside) (w .body))
+      (body-declares layouts (λ f. told f (w .told f)) front back (each-map front aside-no-c front-aside)
+      (back-by NoC (λ l h e. omega (arith, h .letter)) (λ l h e. omega (arith, h .letter))) (w .body))
 
 -- ---- the theorem
 

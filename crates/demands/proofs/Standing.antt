@@ -3,22 +3,21 @@
 use Prim.Native.Nat.{ℕ, _+_, _-_, _≤_}
 use Prim.Native.Char.{code}
 use mathlib.Core.Bool.{Bool, true, false, not, _&&_, _||_, cond}
-use mathlib.Core.List.{List, [], _∷_, _++_}
+use mathlib.Core.List.{List, [], _∷_, _++_, append-assoc, append-nil}
 use mathlib.Core.Option.{Option, none, some}
 use mathlib.Core.Path.{_≡_, refl, sym, _∙_, ap}
-use native.Mathlib.Nat.{zero-add}
 use native.Mathlib.Omega.{arith}
-use borrow.Author.Tests.{le-leb, leb-true, eqb-true, eqb-false, eq-eqb, ne-eqb, ltb-true, lt-ltb, not-false}
+use borrow.Author.Tests.{le-leb, leb-true, eqb-true, eqb-false, ne-eqb, ltb-true, lt-ltb}
 use lib.Dec.{eqb, leb, ltb}
 use lib.ListN.{length, getD, length-append}
-use Rattle.rules.specs.Choice.{given, bytes}
+use Rattle.rules.specs.Choice.{given, bytes, Each}
 use Rattle.rules.specs.Families.{lineLetter, layoutLetter, layoutOf, countOf}
 use Rattle.rules.specs.Refusals.{says}
 use Rattle.rules.specs.Numbers.{numberAt}
 use Rattle.rules.specs.Fields.{timeAt}
 use Rattle.rules.specs.Roles.{isDeclaring, sameFamily, atStart, afterA, afterH, afterLayout, inBody, afterG, afterLastG, leading, stageAfter}
 use Rattle.rules.specs.Order.{start, fitsDeclaration, moved, judge}
-use Rattle.rules.specs.declared.Entry.{Entry}
+use Rattle.rules.specs.declared.Layout.{Layout}
 use Rattle.rules.specs.declared.Family.{Family}
 use Rattle.rules.specs.declared.Head.{Head}
 use Rattle.rules.specs.declared.Role.{Role}
@@ -28,27 +27,26 @@ use Rattle.rules.proofs.Inverse.{none-some, false-true, and-inv, bool-eq}
 use Rattle.laws.proofs.Passing.{roleIn, leading-inv, Leaves, Judged, judged}
 use Rattle.laws.proofs.Passing as passes
 use Rattle.laws.proofs.Counted.{judged-more}
-use Rattle.trips.proofs.Heads.{head-there}
-use Rattle.demands.specs.Grammar.{IsHeadLine, laid, beginning}
-use Rattle.demands.specs.Coming.{orZero, isAmong, only, without, endsWith, pointsOf, isOpen, lettersBefore, entriesIn, entriesTold, lastTime}
+use Rattle.trips.proofs.Heads as heads
+use Rattle.demands.specs.Grammar.{IsHeadLine, IsPointLine, AtMostOne, absent, laid, beginning}
+use Rattle.demands.specs.Grammar as grammar
+use Rattle.demands.specs.Coming.{orZero, isAmong, only, without, endsWith, pointsOf, isOpen, lettersBefore, those, firstEntries, lastTime}
 use Rattle.demands.specs.FieldTexts.{Letter}
+use Rattle.demands.proofs.Laws.{each-join}
 use Rattle.demands.proofs.Carried.{e-inv, f-inv}
-use Rattle.demands.proofs.Valued.{columned-time, head-reads}
-use Rattle.demands.proofs.Valued as valued
-use Rattle.demands.proofs.Entries.{there}
-use Rattle.demands.proofs.LayoutLines.{layout-laid}
-use Rattle.demands.proofs.Letters.{every, put-by, same-family, is-same, letter, isTelling, isTiming, isSealing, leadsTo, begins, counts-more}
+use Rattle.demands.proofs.Valued.{columned-time, head-reads, head-said, head-there, point-there}
+use Rattle.demands.proofs.LayoutLines.{there, layout-laid, layout-there, layout-said}
+use Rattle.demands.proofs.Leading.{every, put-by, same-family, is-same, letter, tells-letter, isTelling, isTiming, isSealing, leadsTo, letter-tests, counts-more, Sound, sound-start, some-points, plain-fits, head-fits, order-inv, judge-leads, stays-sound}
 use Rattle.demands.proofs.Sections.{layout-stage}
-use Rattle.demands.proofs.Leading.{Sound, sound-start, plain-fits, head-fits, order-inv, judge-leads, stays-sound}
 
 -- ---- what a line tells of itself
 
 pub head-points : (h : Head) (l : List ℕ) → IsHeadLine h l → pointsOf l ≡ h .turns + 4
-head-points h l w = ap (λ x. x + 4) (there (numberAt l 23 2) (head-there l h (head-reads h l w) .at-turns))
+head-points h l w = ap (λ x. x + 4) (there (numberAt l 23 2) (heads.head-there l h (head-reads h l w) .at-turns))
 
 -- ---- one line more
 
-and-false : (t : Bool) → (t && false) ≡ false
+pub and-false : (t : Bool) → (t && false) ≡ false
 and-false true = refl
 and-false false = refl
 
@@ -59,9 +57,6 @@ and-true false = refl
 pub or-true : (t : Bool) → (t || true) ≡ true
 or-true true = refl
 or-true false = refl
-
-pub some-points : (n : ℕ) → (n ≡ 0 → ⊥) → 1 ≤ n
-some-points n h = omega arith
 
 pub and-assoc : (a b c : Bool) → (a && (b && c)) ≡ ((a && b) && c)
 and-assoc true b c = refl
@@ -96,79 +91,41 @@ module _ (l : List ℕ) where
           let i : m ≡ n = omega arith in
           bool-eq (eqb m 0) (eqb n 0 && true) (λ z. rw (← i, z)) (λ z. rw i (and-inv (eqb n 0) true z .0))
 
+-- ---- letters
+
+-- no line begins with this letter
+abbrev pub Without : ℕ → List (List ℕ) → Type 0
+Without x ls = Each (λ l. getD l 0 0 ≡ x → ⊥) ls
+
 -- where each line begins with one of these letters, none begins with another
-pub only-without : (xs : List ℕ) (x : ℕ) (ls : List (List ℕ)) → isAmong xs x ≡ false → only xs ls ≡ true → beginning x ls ≡ 0
-unfolding only beginning
-only-without xs x [] n e = refl
+pub only-without : (xs : List ℕ) (x : ℕ) (ls : List (List ℕ)) → isAmong xs x ≡ false → only xs ls ≡ true → Without x ls
+unfolding only
+only-without xs x [] n e = tt
 only-without xs x (l ∷ ls) n e =
     let a = and-inv (isAmong xs (getD l 0 0)) (only xs ls) e in
-    let b : eqb (getD l 0 0) x ≡ false = ne-eqb (getD l 0 0) x (λ z. false-true (sym n ∙ ap (isAmong xs) (sym z) ∙ a .0)) in
-    rw b (omega (arith, only-without xs x ls n (a .1)))
+    ((λ z. false-true (sym n ∙ ap (isAmong xs) (sym z) ∙ a .0)), only-without xs x ls n (a .1))
 
--- ---- points of a declaration
+none-begin : (x : ℕ) (ls : List (List ℕ)) → Without x ls → beginning x ls ≡ 0
+unfolding beginning
+none-begin x [] h = refl
+none-begin x (l ∷ ls) h = rw (ne-eqb (getD l 0 0) x (h .0)) (omega (arith, none-begin x ls (h .1)))
 
--- how many are still to come
-pub toCome : List (List ℕ) → ℕ
-toCome [] = 0
-toCome (l ∷ ls) = cond (eqb (getD l 0 0) (code "C")) (pointsOf l - length ls) (toCome ls)
+none-those : (x : ℕ) (ls : List (List ℕ)) → Without x ls → those x ls ≡ []
+unfolding those
+none-those x [] h = refl
+none-those x (l ∷ ls) h = rw (ne-eqb (getD l 0 0) x (h .0)) (none-those x ls (h .1))
 
-pub open-left : (ls : List (List ℕ)) → isOpen ls ≡ leb 1 (toCome ls)
-unfolding isOpen toCome
-open-left [] = refl
-open-left (l ∷ ls) = go (eqb (getD l 0 0) (code "C")) (open-left ls)
+those-next : (x : ℕ) (l : List ℕ) (ls : List (List ℕ)) → those x (ls ++ (l ∷ [])) ≡ those x ls ++ cond (eqb (getD l 0 0) x) (l ∷ []) []
+unfolding those
+those-next x l [] = refl
+those-next x l (a ∷ ls) = go (eqb (getD a 0 0) x) (those-next x l ls)
   where
-    go : (b : Bool) → isOpen ls ≡ leb 1 (toCome ls) → cond b (ltb (length ls) (pointsOf l)) (isOpen ls) ≡ leb 1 (cond b (pointsOf l - length ls) (toCome ls))
-    go true r =
-        bool-eq (ltb (length ls) (pointsOf l)) (leb 1 (pointsOf l - length ls))
-        (λ e. let i = ltb-true (length ls) (pointsOf l) e in le-leb 1 (pointsOf l - length ls) (omega arith))
-        (λ e. let i = leb-true 1 (pointsOf l - length ls) e in lt-ltb (length ls) (pointsOf l) (omega arith))
+    go : (b : Bool) → those x (ls ++ (l ∷ [])) ≡ those x ls ++ cond (eqb (getD l 0 0) x) (l ∷ []) []
+        → cond b (a ∷ those x (ls ++ (l ∷ []))) (those x (ls ++ (l ∷ []))) ≡ cond b (a ∷ those x ls) (those x ls) ++ cond (eqb (getD l 0 0) x) (l ∷ []) []
+    go true r = ap (λ y. a ∷ y) r
     go false r = r
 
-pub none-left : (ls : List (List ℕ)) → beginning (code "C") ls ≡ 0 → toCome ls ≡ 0
-unfolding toCome beginning
-none-left [] e = refl
-none-left (l ∷ ls) e = go (eqb (getD l 0 0) (code "C")) e (none-left ls)
-  where
-    go : (b : Bool) → cond b 1 0 + beginning (code "C") ls ≡ 0 → (beginning (code "C") ls ≡ 0 → toCome ls ≡ 0) → cond b (pointsOf l - length ls) (toCome ls) ≡ 0
-    go true e r = absurd (omega arith)
-    go false e r = r (omega arith)
-
 module _ (l : List ℕ) where
-  -- one of a declaration that came, or those of the head that begins one
-  come-next : (ls : List (List ℕ)) → toCome (ls ++ (l ∷ [])) ≡ cond (without (code "C") ls) (cond (eqb (getD l 0 0) (code "C")) (pointsOf l) 0) (toCome ls - 1)
-  unfolding toCome beginning
-  come-next [] = go (eqb (getD l 0 0) (code "C"))
-    where
-      go : (b : Bool) → cond b (pointsOf l - 0) 0 ≡ cond b (pointsOf l) 0
-      go true = omega arith
-      go false = refl
-  come-next (a ∷ ls) = go (eqb (getD a 0 0) (code "C")) (come-next ls)
-    where
-      go : (b : Bool) → toCome (ls ++ (l ∷ [])) ≡ cond (without (code "C") ls) (cond (eqb (getD l 0 0) (code "C")) (pointsOf l) 0) (toCome ls - 1)
-          → cond b (pointsOf a - length (ls ++ (l ∷ []))) (toCome (ls ++ (l ∷ [])))
-          ≡ cond (eqb (cond b 1 0 + beginning (code "C") ls) 0) (cond (eqb (getD l 0 0) (code "C")) (pointsOf l) 0) (cond b (pointsOf a - length ls) (toCome ls) - 1)
-      go true r = rw (ne-eqb (1 + beginning (code "C") ls) 0 (λ z. omega arith)) (omega (arith, length-next l ls))
-      go false r = rw zero-add r
-
-  -- ---- columns and times
-
-  told-next : (f : Family) (ls : List (List ℕ)) → (eqb (getD l 0 0) (layoutLetter f) ≡ true → beginning (layoutLetter f) ls ≡ 0)
-      → entriesTold f (ls ++ (l ∷ [])) ≡ cond (eqb (getD l 0 0) (layoutLetter f)) (entriesIn (orZero (numberAt l 1 2)) l 3) (entriesTold f ls)
-  unfolding entriesTold beginning
-  told-next f [] n = refl
-  told-next f (a ∷ ls) n = go (eqb (getD a 0 0) (layoutLetter f)) (eqb (getD l 0 0) (layoutLetter f)) n (told-next f ls) refl
-    where
-      here : List Entry
-      here = entriesIn (orZero (numberAt l 1 2)) l 3
-
-      go : (b c : Bool) → (c ≡ true → cond b 1 0 + beginning (layoutLetter f) ls ≡ 0)
-          → ((eqb (getD l 0 0) (layoutLetter f) ≡ true → beginning (layoutLetter f) ls ≡ 0) → entriesTold f (ls ++ (l ∷ [])) ≡ cond (eqb (getD l 0 0) (layoutLetter f)) here (entriesTold f ls))
-          → eqb (getD l 0 0) (layoutLetter f) ≡ c
-          → cond b (entriesIn (orZero (numberAt a 1 2)) a 3) (entriesTold f (ls ++ (l ∷ []))) ≡ cond c here (cond b (entriesIn (orZero (numberAt a 1 2)) a 3) (entriesTold f ls))
-      go true true n r e = absurd (omega (arith, n refl))
-      go true false n r e = refl
-      go false c n r e = r (λ q. omega (arith, n (sym e ∙ q))) ∙ ap (λ t. cond t here (entriesTold f ls)) e
-
   -- the last line's time, where it has one
   time-next : (ls : List (List ℕ)) → lastTime (ls ++ (l ∷ [])) ≡ given (cond (isAmong (bytes "BEFK") (getD l 0 0)) (timeAt l 1) none) (lastTime ls) (λ t. some t)
   unfolding lastTime bytes
@@ -183,6 +140,54 @@ module _ (l : List ℕ) where
           ≡ given o (given (lastTime ls) (cond (isAmong (bytes "BEFK") (getD a 0 0)) (timeAt a 1) none) (λ t. some t)) (λ t. some t)
       go (some t) = refl
       go none = refl
+
+-- ---- the declaration
+
+-- whether there is one, and how many of its points are still to come
+pub data Declaration (ls : List (List ℕ)) : Bool → ℕ → Type 0 where
+  undeclared : Without (code "C") ls → Declaration ls false 0
+  declared : (points : ℕ) (before : List (List ℕ)) (head : List ℕ) (rest : List (List ℕ)) (h : Head) → ls ≡ before ++ (head ∷ rest) → Without (code "C") before → IsHeadLine h head
+      → points ≡ h .turns + 4 - length rest → (1 ≤ points → Each IsPointLine rest) → Declaration ls true points
+
+-- behind lines that are no C lines
+pub open-behind : (before : List (List ℕ)) (l : List ℕ) (points : List (List ℕ)) → Without (code "C") before → getD l 0 0 ≡ code "C"
+    → (isOpen (before ++ (l ∷ points)) ≡ ltb (length points) (pointsOf l)) × (1 ≤ beginning (code "C") (before ++ (l ∷ points)))
+unfolding isOpen beginning
+open-behind [] l points n k = rw k (refl, omega arith)
+open-behind (a ∷ before) l points n k = let r = open-behind before l points (n .1) k in rw (ne-eqb (getD a 0 0) (code "C") (n .0)) (r .0, omega (arith, r .1))
+
+pub none-open : (ls : List (List ℕ)) → Without (code "C") ls → isOpen ls ≡ false
+unfolding isOpen
+none-open [] h = refl
+none-open (l ∷ ls) h = rw (ne-eqb (getD l 0 0) (code "C") (h .0)) (none-open ls (h .1))
+
+-- it is open exactly while points are to come, and there is one exactly where a C line came
+pub declaration-told : (ls : List (List ℕ)) {d : Bool} {points : ℕ} → Declaration ls d points → (leb 1 points ≡ isOpen ls) × (d ≡ not (without (code "C") ls))
+declaration-told ls (undeclared n) = rw (none-open ls n, none-begin (code "C") ls n) (refl, refl)
+declaration-told ls (declared points before hd rest h o n w e ps) =
+    let b = open-behind before hd rest n (head-said h hd w .0) in
+    let t = head-points h hd w in
+    let i : leb 1 points ≡ ltb (length rest) (pointsOf hd) =
+    bool-eq (leb 1 points) (ltb (length rest) (pointsOf hd)) (λ q. let j = leb-true 1 points q in lt-ltb (length rest) (pointsOf hd) (omega arith))
+    (λ q. let j = ltb-true (length rest) (pointsOf hd) q in le-leb 1 points (omega arith)) in
+    (i ∙ sym (ap isOpen o ∙ b .0), sym (ap (λ x. not (without (code "C") x)) o ∙ ap not (ne-eqb (beginning (code "C") (before ++ (hd ∷ rest))) 0 (λ z. omega (arith, b .1)))))
+
+module _ (ls : List (List ℕ)) (l : List ℕ) where
+  -- a line of another role
+  silent : {d : Bool} {points : ℕ} → eqb (getD l 0 0) (code "C") ≡ false → points ≡ 0 → Declaration ls d points → Declaration (ls ++ (l ∷ [])) d points
+  silent n z (undeclared w) = undeclared (each-join (λ l. getD l 0 0 ≡ code "C" → ⊥) ls (l ∷ []) w (eqb-false _ _ n, tt))
+  silent n z (declared p before hd rest h o w v e ps) =
+      declared p before hd (rest ++ (l ∷ [])) h (ap (λ x. x ++ (l ∷ [])) o ∙ append-assoc before (hd ∷ rest) (l ∷ [])) w v (omega (arith, length-next l rest)) (λ q. absurd (omega arith))
+
+  begins-one : {d : Bool} {points : ℕ} (h : Head) → IsHeadLine h l → d ≡ false → Declaration ls d points → Declaration (ls ++ (l ∷ [])) true (h .turns + 4)
+  begins-one h w f (undeclared n) = declared (h .turns + 4) ls l [] h refl n w (omega arith) (λ q. tt)
+  begins-one h w f (declared p before hd rest g o n v e ps) = absurd (false-true (sym f))
+
+  goes-on : {d : Bool} {points : ℕ} → IsPointLine l → 1 ≤ points → Declaration ls d points → Declaration (ls ++ (l ∷ [])) d (points - 1)
+  goes-on w p (undeclared n) = absurd (omega arith)
+  goes-on w p (declared k before hd rest h o n v e ps) =
+      declared (k - 1) before hd (rest ++ (l ∷ [])) h (ap (λ x. x ++ (l ∷ [])) o ∙ append-assoc before (hd ∷ rest) (l ∷ [])) n v (omega (arith, length-next l rest))
+      (λ q. each-join IsPointLine rest (l ∷ []) (ps p) (w, tt))
 
 -- ---- how far the file has come
 
@@ -297,7 +302,7 @@ module _ (s c : ℕ) (ls : List (List ℕ)) (l : List ℕ) (w : Staged s ls) (v 
 
   staged-next : Staged c (ls ++ (l ∷ []))
   staged-next =
-      let b = begins l in
+      let b = letter-tests l in
       let n = length-next l ls in
       record {
         some-line = rw n (le-leb afterA c (v .least) ∙ sym (le-leb 1 (length ls + 1) (omega arith)));
@@ -318,66 +323,62 @@ pub record Stands (ls : List (List ℕ)) (st : State) : Type 0 where
   pub staged : Staged (st .stage) ls
   pub lines : st .flight .lines ≡ length ls
   pub counts : (f : Family) → countOf f (st .flight .counts) ≡ beginning (lineLetter f) ls
-  pub declared : st .declared ≡ not (without (code "C") ls)
-  pub points : st .points ≡ toCome ls
+  pub declaration : Declaration ls (st .declared) (st .points)
   pub clock : st .clock ≡ orZero (lastTime ls)
-  pub layouts : (f : Family) → layoutOf f (st .flight .layouts) ≡ laid (entriesTold f ls)
+  pub told : (f : Family) → AtMostOne f (layoutOf f (st .flight .layouts)) (those (layoutLetter f) ls)
 
 pub stands-start : Stands [] start
-unfolding beginning toCome lastTime entriesTold
+unfolding beginning lastTime those
 stands-start = record {
   sound = sound-start;
   staged = staged-start;
   lines = refl;
   counts = every (λ f. countOf f (start .flight .counts) ≡ beginning (lineLetter f) []) refl refl;
-  declared = refl;
-  points = refl;
+  declaration = undeclared tt;
   clock = refl;
-  layouts = every (λ f. layoutOf f (start .flight .layouts) ≡ laid (entriesTold f [])) refl refl;
+  told = every (λ f. AtMostOne f (layoutOf f (start .flight .layouts)) (those (layoutLetter f) [])) absent absent;
 }
 
--- a family's layout is told once
-pub untold : (f : Family) (ls : List (List ℕ)) (st : State) → Stands ls st → st .stage ≤ afterLayout f - 1 → beginning (layoutLetter f) ls ≡ 0
-unfolding isAmong bytes
-untold f ls st w h = only-without (lettersBefore f) (layoutLetter f) ls (every (λ f. isAmong (lettersBefore f) (layoutLetter f) ≡ false) refl refl f) (sym (w .staged .untold f) ∙ le-leb _ _ h)
+-- a family's layout is that of the entries that were told
+pub laid-out : (f : Family) {layout : Layout} {ls : List (List ℕ)} → AtMostOne f layout ls → layout ≡ laid (firstEntries ls)
+laid-out f absent = refl
+laid-out f (grammar.given {layout = i} {l = l} w) = layout-laid f i l (layout-said f i l w .1)
 
--- a declaration whose points are still to come was begun
-pub begun-there : (ls : List (List ℕ)) (st : State) → Stands ls st → 1 ≤ st .points → without (code "C") ls ≡ false
-begun-there ls st w h = ne-eqb (beginning (code "C") ls) 0 (λ z. omega (arith, none-left ls z, w .points))
-
--- what a line that passes leaves of the state m, by its role
-record Left (l : List ℕ) (m : State) (r : Role) (after : State) : Type 0 where
+-- what a line that passes leaves of the state m, behind the lines ls, by its role
+record Left (ls : List (List ℕ)) (l : List ℕ) (m : State) (r : Role) (after : State) : Type 0 where
   stage : after .stage ≡ m .stage
-  declared : after .declared ≡ (isDeclaring r || m .declared)
-  points : after .points ≡ cond (isDeclaring r) (cond (eqb (m .points) 0) (pointsOf l) (m .points - 1)) (m .points)
+  declaration : Declaration (ls ++ (l ∷ [])) (after .declared) (after .points)
   clock : after .clock ≡ given (cond (isTiming r) (timeAt l 1) none) (m .clock) (λ t. t)
-  layouts : (g : Family) → layoutOf g (after .flight .layouts) ≡ cond (isTelling g r) (laid (entriesIn (orZero (numberAt l 1 2)) l 3)) (layoutOf g (m .flight .layouts))
+  told : (g : Family) (ks : List (List ℕ)) → (isTelling g r ≡ true → ks ≡ []) → AtMostOne g (layoutOf g (m .flight .layouts)) ks
+      → AtMostOne g (layoutOf g (after .flight .layouts)) (ks ++ cond (isTelling g r) (l ∷ []) [])
 
-left : (l : List ℕ) (m : State) {r : Role} {after : State} → Letter r (getD l 0 0) → (1 ≤ m .points → m .declared ≡ true) → Leaves l m r after → Left l m r after
-left l m k d (passes.opens e) = record { stage = refl; declared = refl; points = refl; clock = refl; layouts = λ g. refl }
-left l m k d (passes.date x n e) = record { stage = refl; declared = refl; points = refl; clock = refl; layouts = λ g. refl }
-left l m k d (passes.header n e) = record { stage = refl; declared = refl; points = refl; clock = refl; layouts = λ g. refl }
-left l m k d (passes.layout f i e) = record {
-  stage = refl;
-  declared = refl;
-  points = refl;
-  clock = refl;
-  layouts = put-by (λ g x. x ≡ cond (sameFamily g f) (laid (entriesIn (orZero (numberAt l 1 2)) l 3)) (layoutOf g (m .flight .layouts))) f i (m .flight .layouts)
-      (rw (same-family f) (layout-laid f i l e))
-      (λ g n. rw n);
-}
-left l m k d (passes.columned f t e o) =
-    record { stage = refl; declared = refl; points = refl; clock = rw (columned-time f _ t l e); layouts = λ g. refl }
-left l m k d (passes.head h n e) =
-    record { stage = refl; declared = refl; points = rw (eq-eqb _ _ n) (sym (head-points h l (valued.head-there h l k e))); clock = refl; layouts = λ g. refl }
-left l m k d (passes.point p n e) =
-    record { stage = refl; declared = d (some-points (m .points) n); points = rw (ne-eqb _ _ n); clock = refl; layouts = λ g. refl }
-left l m k d (passes.event t e o) = record { stage = refl; declared = refl; points = refl; clock = rw (e-inv l t e .1); layouts = λ g. refl }
-left l m k d (passes.satellites t e o) = record { stage = refl; declared = refl; points = refl; clock = rw (f-inv l t e .1); layouts = λ g. refl }
-left l m k d (passes.differential e) = record { stage = refl; declared = refl; points = refl; clock = refl; layouts = λ g. refl }
-left l m k d (passes.seals e) = record { stage = refl; declared = refl; points = refl; clock = refl; layouts = λ g. refl }
-left l m k d (passes.remark e) = record { stage = refl; declared = refl; points = refl; clock = refl; layouts = λ g. refl }
-left l m k d (passes.other e) = record { stage = refl; declared = refl; points = refl; clock = refl; layouts = λ g. refl }
+as-told : {f : Family} {layout : Layout} (ks : List (List ℕ)) → AtMostOne f layout ks → AtMostOne f layout (ks ++ [])
+as-told ks a = rw append-nil a
+
+module _ (ls : List (List ℕ)) (l : List ℕ) (m : State) (d : Declaration ls (m .declared) (m .points)) where
+  left : {r : Role} {after : State} → Letter r (getD l 0 0) → eqb (getD l 0 0) (code "C") ≡ isDeclaring r → fitsDeclaration (isDeclaring r) m ≡ true → Leaves l m r after → Left ls l m r after
+  left k c f (passes.opens e) = record { stage = refl; declaration = silent ls l c (plain-fits m f) d; clock = refl; told = λ g ks n. as-told ks }
+  left k c f (passes.date x n e) = record { stage = refl; declaration = silent ls l c (plain-fits m f) d; clock = refl; told = λ g ks n. as-told ks }
+  left k c f (passes.header n e) = record { stage = refl; declaration = silent ls l c (plain-fits m f) d; clock = refl; told = λ g ks n. as-told ks }
+  left k c f (passes.layout x i e) = record {
+    stage = refl;
+    declaration = silent ls l c (plain-fits m f) d;
+    clock = refl;
+    told = put-by (λ g y. (ks : List (List ℕ)) → (sameFamily g x ≡ true → ks ≡ []) → AtMostOne g (layoutOf g (m .flight .layouts)) ks → AtMostOne g y (ks ++ cond (sameFamily g x) (l ∷ []) []))
+        x i (m .flight .layouts)
+        (λ ks n a. rw (n (same-family x), same-family x) (grammar.given (layout-there x i l e (tells-letter x k))))
+        (λ g n ks q a. rw (n, append-nil) a);
+  }
+  left k c f (passes.columned x t e o) =
+      record { stage = refl; declaration = silent ls l c (plain-fits m f) d; clock = rw (columned-time x _ t l e); told = λ g ks n. as-told ks }
+  left k c f (passes.head h n e) = record { stage = refl; declaration = begins-one ls l h (head-there h l k e) (head-fits m n f .0) d; clock = refl; told = λ g ks n. as-told ks }
+  left k c f (passes.point p n e) = record { stage = refl; declaration = goes-on ls l (point-there p l k e) (some-points (m .points) n) d; clock = refl; told = λ g ks n. as-told ks }
+  left k c f (passes.event t e o) = record { stage = refl; declaration = silent ls l c (plain-fits m f) d; clock = rw (e-inv l t e .1); told = λ g ks n. as-told ks }
+  left k c f (passes.satellites t e o) = record { stage = refl; declaration = silent ls l c (plain-fits m f) d; clock = rw (f-inv l t e .1); told = λ g ks n. as-told ks }
+  left k c f (passes.differential e) = record { stage = refl; declaration = silent ls l c (plain-fits m f) d; clock = refl; told = λ g ks n. as-told ks }
+  left k c f (passes.seals e) = record { stage = refl; declaration = silent ls l c (plain-fits m f) d; clock = refl; told = λ g ks n. as-told ks }
+  left k c f (passes.remark e) = record { stage = refl; declaration = silent ls l c (plain-fits m f) d; clock = refl; told = λ g ks n. as-told ks }
+  left k c f (passes.other e) = record { stage = refl; declaration = silent ls l c (plain-fits m f) d; clock = refl; told = λ g ks n. as-told ks }
 
 -- ---- and they tell it of the state after the next line
 
@@ -385,57 +386,29 @@ module _ (ls : List (List ℕ)) (l : List ℕ) (st after : State) (w : Stands ls
   so : Judged l st after
   so = judged l st after e
 
-  fits : fitsDeclaration (isDeclaring (roleIn l)) st ≡ true
-  fits = order-inv (roleIn l) st (so .stage) (so .order) .0
+  order : (fitsDeclaration (isDeclaring (roleIn l)) st ≡ true) × (stageAfter (roleIn l) (st .stage) ≡ some (so .stage))
+  order = order-inv (roleIn l) st (so .stage) (so .order)
 
   leads-on : Moves (roleIn l) (st .stage) (so .stage)
-  leads-on = moves (st .stage) (so .stage) (roleIn l) (order-inv (roleIn l) st (so .stage) (so .order) .1)
+  leads-on = moves (st .stage) (so .stage) (roleIn l) (order .1)
 
-  by-role : Left l (moved (so .stage) st) (roleIn l) after
-  by-role = left l (moved (so .stage) st) (letter (getD l 0 0)) (λ h. w .declared ∙ ap not (begun-there ls st w h)) (so .left)
-
-  declared-next : after .declared ≡ not (without (code "C") (ls ++ (l ∷ [])))
-  declared-next = by-role .declared ∙ rw (without-next l, begins l .1 .0, w .declared) (go (isDeclaring (roleIn l)) (without (code "C") ls))
-    where
-      go : (d x : Bool) → (d || not x) ≡ not (x && not d)
-      go true true = refl
-      go true false = refl
-      go false true = refl
-      go false false = refl
-
-  points-next : after .points ≡ toCome (ls ++ (l ∷ []))
-  points-next = by-role .points ∙ rw (come-next l, begins l .1 .0) (go (isDeclaring (roleIn l)) refl)
-    where
-      go : (d : Bool) → isDeclaring (roleIn l) ≡ d
-          → cond d (cond (eqb (st .points) 0) (pointsOf l) (st .points - 1)) (st .points) ≡ cond (without (code "C") ls) (cond d (pointsOf l) 0) (toCome ls - 1)
-      go false q = let z = plain-fits st (rw q at fits) in rw (sym (w .points) ∙ z) (z ∙ either (without (code "C") ls))
-        where
-          either : (t : Bool) → _≡_ {A = ℕ} 0 (cond t 0 0)
-          either true = refl
-          either false = refl
-      go true q = head-or-point (eqb (st .points) 0) refl
-        where
-          head-or-point : (b : Bool) → eqb (st .points) 0 ≡ b → cond b (pointsOf l) (st .points - 1) ≡ cond (without (code "C") ls) (pointsOf l) (toCome ls - 1)
-          head-or-point true z = rw (not-false (without (code "C") ls) (sym (w .declared) ∙ head-fits st (eqb-true _ _ z) (rw q at fits) .0))
-          head-or-point false z = rw (begun-there ls st w (some-points (st .points) (eqb-false _ _ z))) (ap (λ n. n - 1) (w .points))
+  by-role : Left ls l (moved (so .stage) st) (roleIn l) after
+  unfolding fitsDeclaration
+  by-role = left ls l (moved (so .stage) st) (w .declaration) (letter (getD l 0 0)) (letter-tests l .1 .0) (order .0) (so .left)
 
   clock-next : after .clock ≡ orZero (lastTime (ls ++ (l ∷ [])))
-  clock-next = by-role .clock ∙ rw (time-next l, begins l .1 .2, w .clock) (go (cond (isTiming (roleIn l)) (timeAt l 1) none))
+  clock-next = by-role .clock ∙ rw (time-next l, letter-tests l .1 .2, w .clock) (go (cond (isTiming (roleIn l)) (timeAt l 1) none))
     where
       go : (o : Option ℕ) → given o (orZero (lastTime ls)) (λ t. t) ≡ orZero (given o (lastTime ls) (λ t. some t))
       go (some t) = refl
       go none = refl
 
-  layouts-next : (f : Family) → layoutOf f (after .flight .layouts) ≡ laid (entriesTold f (ls ++ (l ∷ [])))
-  layouts-next f =
-      let b = begins l .2 f .1 in
-      by-role .layouts f
-      ∙ rw (w .layouts f, ← b) (go (eqb (getD l 0 0) (layoutLetter f)))
-      ∙ ap laid (sym (told-next l f ls λ q. untold f ls st w (leads-on .first f (sym b ∙ q))))
-    where
-      go : (t : Bool) → cond t (laid (entriesIn (orZero (numberAt l 1 2)) l 3)) (laid (entriesTold f ls)) ≡ laid (cond t (entriesIn (orZero (numberAt l 1 2)) l 3) (entriesTold f ls))
-      go true = refl
-      go false = refl
+  -- a family's layout is told once
+  untold : (f : Family) → isTelling f (roleIn l) ≡ true → those (layoutLetter f) ls ≡ []
+  unfolding isAmong bytes
+  untold f q =
+      none-those (layoutLetter f) ls (only-without (lettersBefore f) (layoutLetter f) ls (every (λ f. isAmong (lettersBefore f) (layoutLetter f) ≡ false) refl refl f)
+      (sym (w .staged .untold f) ∙ le-leb _ _ (leads-on .first f q)))
 
   pub stands-next : Stands (ls ++ (l ∷ [])) after
   stands-next = record {
@@ -443,8 +416,7 @@ module _ (ls : List (List ℕ)) (l : List ℕ) (st after : State) (w : Stands ls
     staged = rw (by-role .stage) (staged-next (st .stage) (so .stage) ls l (w .staged) leads-on);
     lines = omega (arith, judged-more l st after e .lines, w .lines, length-next l ls);
     counts = λ f. omega (arith, counts-more l st after e f, w .counts f, beginning-next l (lineLetter f) ls);
-    declared = declared-next;
-    points = points-next;
+    declaration = by-role .declaration;
     clock = clock-next;
-    layouts = layouts-next;
+    told = λ f. rw (those-next (layoutLetter f) l ls, letter-tests l .2 f .1) (by-role .told f (those (layoutLetter f) ls) (untold f) (w .told f));
   }

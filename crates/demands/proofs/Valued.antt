@@ -35,13 +35,10 @@ use Rattle.trips.proofs.Heads.{head-trip, head-within}
 use Rattle.trips.proofs.Heads as heads
 use Rattle.trips.proofs.Points.{point-trip}
 use Rattle.demands.specs.Grammar.{Columns, IsBLine, IsKLine, IsColumned, IsHeadLine, IsPointLine}
+use Rattle.demands.proofs.LayoutLines.{IsTold}
 use Rattle.demands.proofs.Laws.{each-cut, valid-are, shape-there}
-use Rattle.demands.proofs.Days.{day-exactly, planned-exactly}
-use Rattle.demands.proofs.Tails.{tail-exactly}
-
--- a layout that a line can tell
-abbrev pub IsTold : Family → Layout → Type 0
-IsTold f layout = (allowed (firstStart f) layout ≡ true) × (length (layout .entries) ≡ 13)
+use Rattle.demands.proofs.Tables.{day-exactly, planned-exactly}
+use Rattle.demands.proofs.Columns.{tail-exactly}
 
 -- ---- the limits, by such a layout
 

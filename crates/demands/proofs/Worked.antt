@@ -4,7 +4,6 @@ use Prim.Native.Nat.{ℕ}
 use Prim.Native.Char.{code}
 use mathlib.Core.Bool.{Bool, true, not, _&&_}
 use mathlib.Core.List.{List, [], _∷_, _++_, append-assoc}
-use mathlib.Core.Logic.{_⊎_, inl, inr}
 use mathlib.Core.Path.{_≡_, refl, sym, _∙_, ap, subst}
 use native.Mathlib.Omega.{arith}
 use borrow.Author.Tests.{eqb-false, not-true}
@@ -12,13 +11,10 @@ use lib.Dec.{eqb, lit≤}
 use lib.IntN.{pos}
 use lib.ListN.{getD, drop}
 use Rattle.rules.specs.Choice.{bytes, Each}
-use Rattle.rules.specs.Families.{lineLetter, layoutLetter, layoutOf}
+use Rattle.rules.specs.Families.{lineLetter, layoutOf}
 use Rattle.rules.specs.Degrees.{isPosition}
 use Rattle.rules.specs.Layouts.{emptyLayout}
-use Rattle.rules.specs.Writes.{headText, pointText}
 use Rattle.rules.specs.declared.Entry.{Entry}
-use Rattle.rules.specs.declared.Layout.{Layout}
-use Rattle.rules.specs.declared.Family.{Family}
 use Rattle.rules.specs.declared.Family.the-variants as family
 use Rattle.rules.specs.declared.Layouts.{Layouts}
 use Rattle.rules.specs.declared.Fix.{Fix}
@@ -29,11 +25,13 @@ use Rattle.rules.proofs.Damaged.{fiveLines, fiveLayout}
 use Rattle.rules.specs.Limits.{isAltitude, goodFixFields}
 use Rattle.rules.proofs.Inverse.{and-inv}
 use Rattle.trips.proofs.Texts.{areValid}
-use Rattle.demands.specs.Grammar.{IsText, july, AtMostOne, absent, given, Timed, columned, event, satellites, Untimed, differential, remark, other, Items, done, timed, untimed, Body, undeclared, declared, none, column, linesIn, Meets, joinLines}
+use Rattle.demands.specs.Coming.{isAmong}
+use Rattle.demands.specs.Grammar.{IsText, july, AtMostOne, absent, given, Timed, columned, event, satellites, Items, done, timed, untimed, Body, undeclared, declared, none, column, linesIn, Meets, joinLines}
 use Rattle.demands.proofs.Laws.{each-map, each-join, each-cut, are-valid}
-use Rattle.demands.proofs.Rows.{width-exactly, rule-exactly}
-use Rattle.demands.proofs.Letters.{every}
-use Rattle.demands.proofs.Valued.{columned-letter}
+use Rattle.demands.proofs.Tables.{width-exactly, rule-exactly}
+use Rattle.demands.proofs.Leading.{every}
+use Rattle.demands.proofs.Valued.{columned-letter, head-said, point-said}
+use Rattle.demands.proofs.Reading.{Aside, other-than, untimed-aside, front, back, in-three, front-aside, back-by}
 
 -- ---- the file of five lines
 
@@ -138,18 +136,9 @@ five-meet = record {
 abbrev NoG : List ℕ → Type 0
 NoG l = getD l 0 0 ≡ code "G" → ⊥
 
--- a G line or an L line
-abbrev SealOrRemark : List ℕ → Type 0
-SealOrRemark l = (getD l 0 0 ≡ code "G") ⊎ (getD l 0 0 ≡ code "L")
-
-layout-no-g : (f : Family) {layout : Layout} {ls : List (List ℕ)} → AtMostOne f layout ls → Each NoG ls
-layout-no-g f absent = tt
-layout-no-g f (given w) = ((λ g. every (λ f. layoutLetter f ≡ code "G" → ⊥) (λ e. omega arith) (λ e. omega arith) f (sym (ap (λ x. getD x 0 0) (w .text)) ∙ g)), tt)
-
-untimed-no-g : (l : List ℕ) → Untimed l → NoG l
-untimed-no-g l (differential w) g = omega (arith, w .letter)
-untimed-no-g l (remark w) g = omega (arith, w .letter)
-untimed-no-g l (other w) g = omega (arith, w .from)
+aside-no-g : (l : List ℕ) → Aside l → NoG l
+unfolding isAmong bytes
+aside-no-g l n = other-than (bytes "BCGK") l (code "G") refl n
 
 module _ {layouts : Layouts} where
   timed-no-g : {t : ℕ} (l : List ℕ) → Timed layouts t l → NoG l
@@ -160,15 +149,14 @@ module _ {layouts : Layouts} where
   items-no-g : {ls : List (List ℕ)} {ts : List ℕ} → Items layouts ls ts → Each NoG ls
   items-no-g done = tt
   items-no-g (timed {l = l} w r) = (timed-no-g l w, items-no-g r)
-  items-no-g (untimed {l = l} w r) = (untimed-no-g l w, items-no-g r)
+  items-no-g (untimed {l = l} w r) = (aside-no-g l (untimed-aside w), items-no-g r)
 
   body-no-g : {ls : List (List ℕ)} {ts : List ℕ} → Body layouts ls ts → Each NoG ls
-  unfolding headText pointText
   body-no-g (undeclared i) = items-no-g i
   body-no-g (declared before hd points after h i no-b w ps c j) =
       each-join NoG before (hd ∷ (points ++ after)) (items-no-g i) (
-        (λ g. let e = ap (λ x. getD x 0 0) (w .text) in omega arith),
-        each-join NoG points after (each-map points (λ l v g. let e = ap (λ x. getD x 0 0) (v .text) in omega arith) ps) (items-no-g j),
+        (λ g. omega (arith, head-said h hd w .0)),
+        each-join NoG points after (each-map points (λ l v g. omega (arith, point-said l v .0)) ps) (items-no-g j),
       )
 
 -- where no line of the front is a G line, what stands behind a G line stands behind the front
@@ -178,33 +166,13 @@ behind-front [] back before g after n k e = (before, e)
 behind-front (l ∷ front) back [] g after n k e = absurd (n .0 (ap (λ x. getD (getD x 0 []) 0 0) e ∙ k))
 behind-front (l ∷ front) back (b ∷ before) g after n k e = behind-front front back before g after (n .1) k (ap (drop 1) e)
 
--- behind a G line only G and L lines come
-after-g : {seal : Seal} {file : List ℕ} (m : Meets seal file) (before : List (List ℕ)) (g : List ℕ) (after : List (List ℕ)) → linesIn (m .parts) ≡ before ++ (g ∷ after)
-    → getD g 0 0 ≡ code "G" → Each SealOrRemark after
-after-g m before g after e k =
-    let p = m .parts in
-    let w = m .keeps in
-    let front : List (List ℕ) = p .recorder ∷ p .day ∷ (p .headers ++ (p .told family.B ++ (p .told family.K ++ p .body))) in
-    let back : List (List ℕ) = p .seal ++ p .remarks in
-    let n : Each NoG front = (
-      (λ z. omega (arith, w .recorder .letter)),
-      (
-        (λ z. let i = ap (λ x. getD x 0 0) (w .day .text) in omega arith),
-        each-join NoG (p .headers) _ (each-map (p .headers) (λ l h z. omega (arith, h .letter)) (w .headers))
-            (each-join NoG (p .told family.B) _ (layout-no-g family.B (w .told family.B))
-            (each-join NoG (p .told family.K) (p .body) (layout-no-g family.K (w .told family.K)) (body-no-g (w .body)))),
-      ),
-    ) in
-    let i : front ++ back ≡ linesIn p = simp append-assoc in
-    let s = behind-front front back before g after n k (i ∙ e) in
-    let b : Each SealOrRemark back =
-    each-join SealOrRemark (p .seal) (p .remarks) (each-map (p .seal) (λ l h. inl (h .letter)) (w .seals)) (each-map (p .remarks) (λ l h. inr (h .letter)) (w .remarks)) in
-    each-cut SealOrRemark (s .0) (g ∷ after) (subst (Each SealOrRemark) (s .1) b) .1 .1
-
 pub no-b-after-g : {seal : Seal} {file : List ℕ} (m : Meets seal file) (before : List (List ℕ)) (g : List ℕ) (after : List (List ℕ)) → linesIn (m .parts) ≡ before ++ (g ∷ after)
     → getD g 0 0 ≡ code "G" → Each (λ l. getD l 0 0 ≡ code "B" → ⊥) after
-no-b-after-g m before g after e k = each-map after no-b (after-g m before g after e k)
-  where
-    no-b : (l : List ℕ) → SealOrRemark l → getD l 0 0 ≡ code "B" → ⊥
-    no-b l (inl i) b = omega arith
-    no-b l (inr i) b = omega arith
+no-b-after-g m before g after e k =
+    let p = m .parts in
+    let w = m .keeps in
+    let n : Each NoG (front w ++ p .body) = each-join NoG (front w) (p .body) (each-map (front w) aside-no-g (front-aside w)) (body-no-g (w .body)) in
+    let s = behind-front (front w ++ p .body) (back w) before g after n k (append-assoc (front w) (p .body) (back w) ∙ sym (in-three w) ∙ e) in
+    let NoB : List ℕ → Type 0 = λ l. getD l 0 0 ≡ code "B" → ⊥ in
+    let b : Each NoB (back w) = back-by w NoB (λ l h e. omega (arith, h .letter)) (λ l h e. omega (arith, h .letter)) in
+    each-cut NoB (s .0) (g ∷ after) (subst (Each NoB) (s .1) b) .1 .1

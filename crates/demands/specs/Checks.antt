@@ -157,6 +157,26 @@ abbrev pub fieldChecks : Family → List ℕ → List Check
 fieldChecks family.B l = fixChecks l
 fieldChecks family.K l = check 9 2 (isThere (timeAt l (byte 2))) ∷ []
 
+-- "B and K exactly what their layout gives"; "columns from 36", "columns from 8"
+abbrev pub lineChecks : Family → List Entry → List ℕ → List Check
+lineChecks f es l = sizeChecks f es l ++ (fieldChecks f l ++ columnChecks l es)
+
+-- "E 10 to 255"; "E: time, 3 code characters, text."
+abbrev pub eventChecks : List ℕ → List Check
+eventChecks l = shapeChecks 10 255 false l ++ (check 9 2 (isThere (timeAt l (byte 2))) ∷ check 9 8 (codesAt l (byte 8) 3) ∷ [])
+
+-- "F 7 to 255"; "F with an odd half pair is 9 at byte 8, after its time and before its pairs."
+abbrev pub satelliteChecks : List ℕ → List Check
+satelliteChecks l =
+    shapeChecks 7 255 false l ++ (
+    check 9 2 (isThere (timeAt l (byte 2)))
+    ∷ check 9 8 (eqb ((length l - 7) % 2) 0)
+    ∷ pairChecks (byte 8) (drop (byte 8) l))
+
+-- 7 to 13 of a line with a time, and then 14
+abbrev pub thenTime : List Check → List (List ℕ) → List ℕ → List Check
+thenTime cs ls l = cs ++ (timeCheck ls l ∷ [])
+
 -- 7 to 14 of a line of this role that comes after the lines ls
 abbrev pub roleChecks : Role → List (List ℕ) → List ℕ → List Check
 -- "A 7 to 255"; "A: 3 code characters for the maker, 3 for the serial, then text."
@@ -164,20 +184,12 @@ roleChecks role.Opens ls l = shapeChecks 7 255 false l ++ (check 9 2 (codesAt l 
 -- "line 2 is H, then further H lines"
 roleChecks role.Heads ls l = cond (eqb (length ls) 1) (dateChecks l) (headerChecks l)
 roleChecks (role.Tells f) ls l = layoutChecks f l
--- "columns from 36", by the I line before; "columns from 8", by the J line before
-roleChecks (role.Columned f) ls l =
-    sizeChecks f (entriesTold f ls) l ++ (fieldChecks f l ++ (columnChecks l (entriesTold f ls) ++ (timeCheck ls l ∷ [])))
+-- by the I line before, or by the J line before
+roleChecks (role.Columned f) ls l = thenTime (lineChecks f (entriesTold f ls) l) ls l
 -- "a C head, then at once its point lines"
 roleChecks role.Declares ls l = cond (isOpen ls) (pointChecks l) (headChecks l)
--- "E 10 to 255"; "E: time, 3 code characters, text."
-roleChecks role.Event ls l =
-    shapeChecks 10 255 false l ++ (check 9 2 (isThere (timeAt l (byte 2))) ∷ check 9 8 (codesAt l (byte 8) 3) ∷ timeCheck ls l ∷ [])
--- "F 7 to 255"; "F with an odd half pair is 9 at byte 8, after its time and before its pairs."
-roleChecks role.Satellites ls l =
-    shapeChecks 7 255 false l ++ (
-    check 9 2 (isThere (timeAt l (byte 2)))
-    ∷ check 9 8 (eqb ((length l - 7) % 2) 0)
-    ∷ (pairChecks (byte 8) (drop (byte 8) l) ++ (timeCheck ls l ∷ [])))
+roleChecks role.Event ls l = thenTime (eventChecks l) ls l
+roleChecks role.Satellites ls l = thenTime (satelliteChecks l) ls l
 -- "D 6"; "D: 1 or 2, then 4 code characters."
 roleChecks role.Differential ls l =
     shapeChecks 6 6 false l ++ (check 9 2 (isEither (getD l (byte 2) 0) (code "1") (code "2")) ∷ check 9 3 (codesAt l (byte 3) 4) ∷ [])

@@ -95,17 +95,17 @@ mayCome role.Heads ls = leb 1 (length ls) && only (bytes "AH") ls
 -- behind line 2, and behind no later layout line
 mayCome (role.Tells f) ls = leb 2 (length ls) && only (lettersBefore f) ls
 -- the next point of the declaration, or the head of the only one, before the first B
-mayCome role.Declares ls = isBody ls && (isOpen ls || (without (code "C") ls && without (code "B") ls))
+mayCome role.Declares ls = (isOpen ls || (without (code "C") ls && without (code "B") ls)) && isBody ls
 -- "at once its point lines": no other kind comes between them
-mayCome (role.Columned f) ls = isBody ls && not (isOpen ls)
-mayCome role.Event ls = isBody ls && not (isOpen ls)
-mayCome role.Satellites ls = isBody ls && not (isOpen ls)
-mayCome role.Differential ls = isBody ls && not (isOpen ls)
-mayCome role.Other ls = isBody ls && not (isOpen ls)
+mayCome (role.Columned f) ls = not (isOpen ls) && isBody ls
+mayCome role.Event ls = not (isOpen ls) && isBody ls
+mayCome role.Satellites ls = not (isOpen ls) && isBody ls
+mayCome role.Differential ls = not (isOpen ls) && isBody ls
+mayCome role.Other ls = not (isOpen ls) && isBody ls
 -- before and after the first G
-mayCome role.Remark ls = leb 2 (length ls) && not (isOpen ls)
+mayCome role.Remark ls = not (isOpen ls) && leb 2 (length ls)
 -- the first G, or one right behind a G
-mayCome role.Seals ls = leb 2 (length ls) && not (isOpen ls) && (without (code "G") ls || endsWith (code "G") ls)
+mayCome role.Seals ls = not (isOpen ls) && (leb 2 (length ls) && (without (code "G") ls || endsWith (code "G") ls))
 mayCome role.NoRole ls = false
 
 -- ---- the columns that an I or a J line tells
@@ -119,16 +119,19 @@ unfoldable pub entriesIn : ℕ → List ℕ → ℕ → List Entry
 entriesIn zero l at = []
 entriesIn (suc left) l at = entryOf l at ∷ entriesIn left l (at + 7)
 
--- "NN, then NN entries": those of the I line, for B lines, or of the J line, for K lines; none where there is "no such line"
-unfoldable pub entriesTold : Family → List (List ℕ) → List Entry
-entriesTold f [] = []
-entriesTold f (l ∷ ls) =
-    cond (eqb (getD l 0 0) (layoutLetter f)) (entriesIn (orZero (numberAt l (byte 2) 2)) l (byte 4)) (entriesTold f ls)
-
 -- the lines that begin with this letter
 unfoldable pub those : ℕ → List (List ℕ) → List (List ℕ)
 those x [] = []
 those x (l ∷ ls) = cond (eqb (getD l 0 0) x) (l ∷ those x ls) (those x ls)
+
+-- "NN, then NN entries": those of the first of these lines
+abbrev pub firstEntries : List (List ℕ) → List Entry
+firstEntries [] = []
+firstEntries (l ∷ ls) = entriesIn (orZero (numberAt l (byte 2) 2)) l (byte 4)
+
+-- the entries of the I line, for B lines, or of the J line, for K lines; none where there is "no such line"
+abbrev pub entriesTold : Family → List (List ℕ) → List Entry
+entriesTold f ls = firstEntries (those (layoutLetter f) ls)
 
 -- the last FF, where there is one, else n
 unfoldable pub endsAt : ℕ → List Entry → ℕ
