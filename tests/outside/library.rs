@@ -1,6 +1,6 @@
 //! The library as C has it (c/hivebasket.h), with nothing added: the number returned and everything that was lent, as it stands afterwards.
 
-pub const ANSWER: usize = 12;
+pub const ANSWER: usize = 16;
 
 /// What stands in lent memory before a call, so that an entry left unset shows.
 pub const BEFORE: u64 = 0x5A5A_5A5A_5A5A_5A5A;
