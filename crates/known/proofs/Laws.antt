@@ -92,6 +92,19 @@ module _ {A : Type 0} (l : List ℕ) (letter : ℕ) (layout : Layout) (f : Famil
   with-not-allowed : allowed (firstStart f) layout ≡ false → no BadValue 0 ≡ ofKind letter l λ _. byLayout f layout g
   with-not-allowed h = rw h (both (eqb (getD l 0 0) letter) (no BadValue 0))
 
+-- the same of a line of any family
+module _ {A B : Type 0} (test : Family → Bool) (line : Family → Said A) (v : B) where
+  abbrev tested : Option Family → Said B
+  tested o = given o (no BadValue 0) λ f. need (test f) (no BadValue 0) λ _. andThen (line f) λ _. says v
+
+  any-allowed : {C : Type 0} (o : Option Family) (g : B → Said C) → given o false test ≡ true → andThen (given o (no BadValue 0) line) (λ _. g v) ≡ andThen (tested o) g
+  any-allowed none g h = refl
+  any-allowed (some f) g h = rw h (then-then (line f) v g)
+
+  none-allowed : (o : Option Family) → given o false test ≡ false → no BadValue 0 ≡ tested o
+  none-allowed none h = refl
+  none-allowed (some f) h = rw h
+
 module _ (l : List ℕ) (layout : Layout) where
   pub fix-allowed : allowed (firstStart family.B) layout ≡ true → fixKnown l layout ≡ fixSaid l layout
   unfolding fixKnown fixSaid
@@ -111,22 +124,16 @@ module _ (l : List ℕ) (layout : Layout) where
 
   pub column-allowed : (name : List ℕ) → allowedFor l layout ≡ true → columnKnown l layout name ≡ columnSaid l layout name
   unfolding allowedFor columnKnown lineKnown columnSaid entriesSaid look
-  column-allowed name = go (familyOf (getD l 0 0))
-    where
-      go : (o : Option Family) → given o false (λ f. allowed (firstStart f) layout) ≡ true
-          → andThen (given o (no BadValue 0) λ f. columnedLine f layout l) (λ _. given (lookIn (entriesOf layout) (packedOf name)) (no Absent 0) λ s. says s)
-          ≡ andThen (given o (no BadValue 0) λ f. byLayout f layout λ _. andThen (columnedLine f layout l) λ _. says (entriesOf layout)) (λ es. given (lookIn es (packedOf name)) (no Absent 0) λ s. says s)
-      go none h = refl
-      go (some f) h = rw h (then-then (columnedLine f layout l) _ _)
+  column-allowed name =
+      any-allowed (λ f. allowed (firstStart f) layout) (λ f. columnedLine f layout l) (entriesOf layout) (familyOf (getD l 0 0)) (λ es. given (lookIn es (packedOf name)) (no Absent 0) says)
+
+  entries-not-allowed : allowedFor l layout ≡ false → no BadValue 0 ≡ entriesSaid l layout
+  unfolding allowedFor entriesSaid
+  entries-not-allowed = none-allowed (λ f. allowed (firstStart f) layout) (λ f. columnedLine f layout l) (entriesOf layout) (familyOf (getD l 0 0))
 
   pub column-not-allowed : (name : List ℕ) → allowedFor l layout ≡ false → no BadValue 0 ≡ columnSaid l layout name
-  unfolding allowedFor columnSaid entriesSaid
-  column-not-allowed name = go (familyOf (getD l 0 0))
-    where
-      go : (o : Option Family) → given o false (λ f. allowed (firstStart f) layout) ≡ false
-          → no BadValue 0 ≡ andThen (given o (no BadValue 0) λ f. byLayout f layout λ _. andThen (columnedLine f layout l) λ _. says (entriesOf layout)) (λ es. given (lookIn es (packedOf name)) (no Absent 0) λ s. says s)
-      go none h = refl
-      go (some f) h = rw h
+  unfolding columnSaid
+  column-not-allowed name h = rw (← entries-not-allowed h)
 
   pub number-allowed : (name : List ℕ) → allowedFor l layout ≡ true → numberKnown l layout name ≡ numberSaid l layout name
   unfolding numberKnown numberSaid
