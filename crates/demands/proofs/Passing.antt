@@ -2,26 +2,24 @@
 -- where the table is full. What it answers is told by where it stops. Assumes nothing.
 use Prim.Native.Nat.{ℕ, _+_, _≤_}
 use mathlib.Core.Bool.{Bool, true, false}
-use mathlib.Core.List.{List, [], _∷_, _++_, append-assoc, append-nil}
+use mathlib.Core.List.{List, [], _∷_, _++_, append-assoc}
 use mathlib.Core.Path.{_≡_, refl, sym, _∙_, ap}
-use mathlib.Core.Logic.{_↔_}
 use mathlib.Core.Option.{Option, none, some}
 use native.Mathlib.Omega.{arith}
-use borrow.Author.Tests.{le-leb, leb-true, eqb-true}
-use lib.Dec.{eqb, leb}
+use borrow.Author.Tests.{le-leb, leb-true}
 use lib.ListN.{length}
 use Rattle.rules.specs.Choice.{need, Each}
 use Rattle.rules.specs.Refusals.{number, Said, says, refuses, inLine, andThen}
 use Rattle.rules.specs.Split.{Lines, end, broken, line, linesOf}
 use Rattle.rules.specs.Order.{start, judge}
-use Rattle.rules.specs.Files.{endsAfter, finish, hasRoom, run, verdict}
+use Rattle.rules.specs.Files.{finish, hasRoom, run}
 use Rattle.rules.specs.declared.Reason.the-variants as reason
 use Rattle.rules.specs.declared.Flight.{Flight}
 use Rattle.rules.specs.declared.Seal.{Seal}
 use Rattle.rules.specs.declared.State.{State}
-use Rattle.laws.proofs.Splitting.{Text, cut, none-left, lines-of-line}
+use Rattle.laws.proofs.Splitting.{Text, cut, lines-of-line}
 use Rattle.laws.proofs.Counted.{judged-more}
-use Rattle.rules.proofs.Inverse.{refuses-says, need-inv}
+use Rattle.rules.proofs.Inverse.{refuses-says}
 use Rattle.demands.specs.Grammar.{IsText, joinLines}
 
 -- ---- a run of good lines
@@ -148,61 +146,9 @@ module _ (seal : Seal) (room : Option ℕ) where
   stops-run st (faulty n k b e) = rw e
   stops-run st (full m e h) = rw (e, h)
 
--- ---- the accepted file
-
--- all lines pass, as many as the table has room for, and the file may end
-pub record Accepts (seal : Seal) (file : List ℕ) (room : Option ℕ) (f : Flight) : Type 0 where
-  pub least : 1 ≤ length file
-  pub most : length file ≤ 16777216
-  pub lines : List (List ℕ)
-  pub bytes : file ≡ joinLines lines
-  pub texts : Each IsText lines
-  pub state : State
-  pub passes : Passes start lines state
-  pub fits : hasRoom room (length lines) ≡ true
-  pub whole : state .points ≡ 0
-  pub sealed : endsAfter seal ≤ state .stage
-  pub flight : state .flight ≡ f
-
-module _ (seal : Seal) (file : List ℕ) (room : Option ℕ) (f : Flight) where
-  -- a value is said only at the end
-  at-end : (st : State) (k : Lines) (x : Said Flight) → Stops seal room st k x → x ≡ says f → (k ≡ end) × (finish seal st ≡ says f)
-  at-end st k x ended e = (refl, e)
-  at-end st k x (endless n) e = absurd (refuses-says e)
-  at-end st k x (faulty n i b j) e = absurd (refuses-says e)
-  at-end st k x (full m j h) e = absurd (refuses-says e)
-
-  accepted-there : verdict seal file room ≡ says f → Accepts seal file room f
-  unfolding verdict finish
-  accepted-there e =
-      let a = need-inv (leb 1 (length file)) _ (says f) _ refuses-says e in
-      let b = need-inv (leb (length file) 16777216) _ (says f) _ refuses-says (a .1) in
-      let c = comes seal room (linesOf file) start (none-fit room) in
-      let d = at-end (c .state) (c .left) (run seal room start (linesOf file)) (c .stops) (b .1) in
-      let g = begins (c .lines) file (c .left) (c .parted) in
-      let p = need-inv (eqb (c .state .points) 0) _ (says f) _ refuses-says (d .1) in
-      let s = need-inv (leb (endsAfter seal) (c .state .stage)) _ (says f) _ refuses-says (p .1) in
-      record {
-        least = leb-true _ _ (a .0);
-        most = leb-true _ _ (b .0);
-        lines = c .lines;
-        bytes = g .bytes ∙ ap (λ r. joinLines (c .lines) ++ r) (none-left (g .rest) (g .lines ∙ d .0)) ∙ append-nil (joinLines (c .lines));
-        texts = g .texts;
-        state = c .state;
-        passes = c .passes;
-        fits = rw (all-passed (c .passes)) at (c .fits);
-        whole = eqb-true _ _ (p .0);
-        sealed = leb-true _ _ (s .0);
-        flight = cc;
-      }
-
-  accepted-here : Accepts seal file room f → verdict seal file room ≡ says f
-  unfolding verdict linesOf finish
-  accepted-here w =
-      let k : linesOf file ≡ before (w .lines) end = ap linesOf (w .bytes ∙ sym (append-nil (joinLines (w .lines)))) ∙ lines-joined (w .lines) [] (w .texts) in
-      let r = passes-run seal room end (w .passes) (rw (all-passed (w .passes)) (w .fits)) in
-      let e : finish seal (w .state) ≡ says (w .state .flight) = rw (w .whole, le-leb (endsAfter seal) (w .state .stage) (w .sealed)) in
-      rw (le-leb _ _ (w .least), le-leb _ _ (w .most), k) (r ∙ stops-run seal room (w .state) ended ∙ e ∙ ap says (w .flight))
-
-  pub accepted-passes : (verdict seal file room ≡ says f) ↔ Accepts seal file room f
-  accepted-passes = (accepted-there, accepted-here)
+-- a value is said only at the end
+pub at-end : (seal : Seal) (room : Option ℕ) (st : State) (k : Lines) (x : Said Flight) (f : Flight) → Stops seal room st k x → x ≡ says f → (k ≡ end) × (finish seal st ≡ says f)
+at-end seal room st k x f ended e = (refl, e)
+at-end seal room st k x f (endless n) e = absurd (refuses-says e)
+at-end seal room st k x f (faulty n i b j) e = absurd (refuses-says e)
+at-end seal room st k x f (full m j h) e = absurd (refuses-says e)

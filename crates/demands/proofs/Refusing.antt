@@ -256,21 +256,19 @@ module _ (seal : Seal) (file : List ℕ) (room : Option ℕ) where
   refused-there n l b e = rw e at means
 
   -- where the check stands when it has gone through the lines before
-  record Gone (lines : List (List ℕ)) : Type 0 where
-    state : State
-    passes : Passes start lines state
-    behind : Stands lines state
+  abbrev Gone : List (List ℕ) → Type 0
+  Gone lines = (s : State) × Passes start lines s × Stands lines s
 
   gone : (lines : List (List ℕ)) (rest : List ℕ) → Before file room lines rest → Gone lines
-  gone lines rest w = let r = behind-passes [] lines start stands-start (w .passes) in record { state = r .0; passes = r .1; behind = r .2 }
+  gone lines rest w = behind-passes [] lines start stands-start (w .passes)
 
   -- it answers for what is left
   goes : (lines : List (List ℕ)) (rest : List ℕ) (k : Lines) (x : Said Flight) → Before file room lines rest → linesOf rest ≡ k → (h : Gone lines)
-      → Stops seal room (h .state) k x → verdict seal file room ≡ x
+      → Stops seal room (h .0) k x → verdict seal file room ≡ x
   unfolding verdict
   goes lines rest k x w e h s =
       let l : linesOf file ≡ before lines k = ap linesOf (w .bytes) ∙ lines-joined lines rest (w .texts) ∙ ap (before lines) e in
-      rw (le-leb _ _ (w .least), le-leb _ _ (w .most), l) (passes-run seal room k (h .passes) (rw (h .behind .lines) (w .fits)) ∙ stops-run seal room (h .state) s)
+      rw (le-leb _ _ (w .least), le-leb _ _ (w .most), l) (passes-run seal room k (h .1) (rw (h .2 .lines) (w .fits)) ∙ stops-run seal room (h .0) s)
 
   finish-early : (lines : List (List ℕ)) (st : State) → Stands lines st → Open lines ⊎ Unsealed seal lines
       → finish seal st ≡ refuses 16 (st .flight .lines + 1) 0
@@ -291,20 +289,20 @@ module _ (seal : Seal) (file : List ℕ) (room : Option ℕ) where
   refused-here (too-long h) = rw (le-leb 1 (length file) (omega arith), lt-leb (length file) 16777216 h)
   refused-here (line-end lines rest i w e) =
       let h = gone lines rest w in
-      rw (← h .behind .lines) (goes lines rest (broken i) _ w (end-none e) h (endless i))
+      rw (← h .2 .lines) (goes lines rest (broken i) _ w (end-none e) h (endless i))
   refused-here (in-line lines l rest i b w t f) =
       let h = gone lines (l ++ (13 ∷ 10 ∷ rest)) w in
-      rw (← h .behind .lines)
+      rw (← h .2 .lines)
       (goes lines (l ++ (13 ∷ 10 ∷ rest)) (line l (linesOf rest)) _ w (lines-of-line l rest (is-text l t)) h
-      (faulty i 0 b (fails-judge lines l (h .state) (h .behind) i b f)))
+      (faulty i 0 b (fails-judge lines l (h .0) (h .2) i b f)))
   refused-here (table-full lines l rest w t p r) =
       let h = gone lines (l ++ (13 ∷ 10 ∷ rest)) w in
-      let m = passes-judge lines l (h .state) (h .behind) p in
-      let i : m .0 .flight .lines ≡ length lines + 1 = judged-more l (h .state) (m .0) (m .1) .lines ∙ ap (λ y. y + 1) (h .behind .lines) in
+      let m = passes-judge lines l (h .0) (h .2) p in
+      let i : m .0 .flight .lines ≡ length lines + 1 = judged-more l (h .0) (m .0) (m .1) .lines ∙ ap (λ y. y + 1) (h .2 .lines) in
       rw (← i) (goes lines (l ++ (13 ∷ 10 ∷ rest)) (line l (linesOf rest)) _ w (lines-of-line l rest (is-text l t)) h (full (m .0) (m .1) (ap (λ x. hasRoom x (m .0 .flight .lines)) r ∙ lt-leb (m .0 .flight .lines) (length lines) (omega arith))))
   refused-here (ends-early lines w e) =
       let h = gone lines [] w in
-      goes lines [] end _ w refl h ended ∙ finish-early lines (h .state) (h .behind) e ∙ ap (λ x. refuses 16 (x + 1) 0) (h .behind .lines)
+      goes lines [] end _ w refl h ended ∙ finish-early lines (h .0) (h .2) e ∙ ap (λ x. refuses 16 (x + 1) 0) (h .2 .lines)
 
 -- what each refusal of a file means
 pub refused-first : (seal : Seal) (file : List ℕ) (room : Option ℕ) (n l b : ℕ) → (verdict seal file room ≡ refuses n l b) ↔ Refused seal file room n l b
