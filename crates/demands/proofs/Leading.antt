@@ -58,12 +58,10 @@ put-by P family.B i ls h k = every (λ g. P g (layoutOf g (withLayout family.B i
 put-by P family.K i ls h k = every (λ g. P g (layoutOf g (withLayout family.K i ls))) (k family.B refl) h
 
 pub put-own : (f : Family) (i : Layout) (ls : Layouts) → layoutOf f (withLayout f i ls) ≡ i
-put-own family.B i ls = refl
-put-own family.K i ls = refl
+put-own f i ls = every (λ f. layoutOf f (withLayout f i ls) ≡ i) refl refl f
 
 pub same-family : (f : Family) → sameFamily f f ≡ true
-same-family family.B = refl
-same-family family.K = refl
+same-family = every (λ f. sameFamily f f ≡ true) refl refl
 
 pub is-same : (f g : Family) → sameFamily g f ≡ true → g ≡ f
 is-same family.B = every (λ g. sameFamily g family.B ≡ true → g ≡ family.B) (λ e. refl) (λ e. absurd (false-true e))
@@ -111,22 +109,18 @@ letter b =
     (λ r. inr (leb-false b 90 r))
 
 pub tells-letter : (f : Family) {b : ℕ} → Letter (role.Tells f) b → b ≡ layoutLetter f
-tells-letter family.B e = e
-tells-letter family.K e = e
+tells-letter f {b} = every (λ f. Letter (role.Tells f) b → b ≡ layoutLetter f) (λ e. e) (λ e. e) f
 
 pub line-letter : (f : Family) {b : ℕ} → Letter (role.Columned f) b → b ≡ lineLetter f
-line-letter family.B e = e
-line-letter family.K e = e
+line-letter f {b} = every (λ f. Letter (role.Columned f) b → b ≡ lineLetter f) (λ e. e) (λ e. e) f
 
 pub tells-role : (f : Family) → roleOf (kindOf (layoutLetter f)) ≡ role.Tells f
 unfolding kindOf
-tells-role family.B = refl
-tells-role family.K = refl
+tells-role = every (λ f. roleOf (kindOf (layoutLetter f)) ≡ role.Tells f) refl refl
 
 pub line-role : (f : Family) → roleOf (kindOf (lineLetter f)) ≡ role.Columned f
 unfolding kindOf
-line-role family.B = refl
-line-role family.K = refl
+line-role = every (λ f. roleOf (kindOf (lineLetter f)) ≡ role.Columned f) refl refl
 
 -- a line with a role has bytes
 pub not-empty : (l : List ℕ) → isRole (roleIn l) ≡ true → 1 ≤ length l
@@ -247,8 +241,7 @@ Sound st = (f : Family) → IsTold f (layoutOf f (st .flight .layouts))
 
 pub sound-start : Sound start
 unfolding allowed allPlaced leads isUnused
-sound-start family.B = (refl, refl)
-sound-start family.K = (refl, refl)
+sound-start = every (λ f. IsTold f (layoutOf f (start .flight .layouts))) (refl, refl) (refl, refl)
 
 -- ---- the order of roles
 

@@ -112,14 +112,7 @@ split p h (more {n = n} {st = st} {m = m} {s = s} {l = l} {ls = ls} q g w a) = g
     go true e f =
         let i : q ≡ p = same-part q p (omega (arith, leb-true (rank q) (rank p) e)) in
         let r = f (omega arith) in
-        record {
-          front = l ∷ r .front;
-          rest = r .rest;
-          state = r .state;
-          lines = ap (λ x. l ∷ x) (r .lines);
-          section = also (rw i at w) (r .section);
-          later = r .later;
-        }
+        record { front = l ∷ r .front; rest = r .rest; state = r .state; lines = ap (λ x. l ∷ x) (r .lines); section = also (rw i at w) (r .section); later = r .later }
     go false e f =
         record { front = []; rest = l ∷ ls; state = st; lines = refl; section = empty; later = more q (leb-false _ _ e) w a }
 

@@ -217,21 +217,22 @@ record Moves (r : Role) (s c : ℕ) : Type 0 where
   sealing : leb c afterG ≡ ((leb s inBody && not (isSealing r)) || isSealing r)
 
 module _ (s c : ℕ) where
+  made : (r : Role) (next : ℕ) → next ≡ c → s ≤ next → afterA ≤ next → next ≤ afterLastG → leb afterH next ≡ leb afterA s
+      → ((f : Family) → leb (leadsTo r) (afterLayout f - 1) ≡ leb next (afterLayout f - 1)) → ((f : Family) → isTelling f r ≡ true → s ≤ afterLayout f - 1)
+      → leb next inBody ≡ (leb s inBody && not (isSealing r)) → leb next afterG ≡ ((leb s inBody && not (isSealing r)) || isSealing r) → Moves r s c
+  made r next e p q m t y z u g = rw (← e) (record { up = p; least = q; most = m; second = t; early = y; first = z; unsealed = u; sealing = g })
+
+  both-low : (n : ℕ) → afterH ≤ n → afterA ≤ s → leb afterH n ≡ leb afterA s
+  both-low n p q = le-leb afterH n p ∙ sym (le-leb afterA s q)
+
   -- from the front to the body
   along : (r : Role) (low high : ℕ) → leading low high (leadsTo r) s ≡ some c → afterA ≤ low → high ≤ leadsTo r → afterH ≤ leadsTo r → leadsTo r ≤ inBody → isSealing r ≡ false
       → ((f : Family) → isTelling f r ≡ true → high ≤ afterLayout f - 1) → Moves r s c
   along r low high o p q h g n t =
       let i = leading-inv low high (leadsTo r) s c o in
-      record {
-        up = omega arith;
-        least = omega arith;
-        most = omega arith;
-        second = le-leb afterH c (omega arith) ∙ sym (le-leb afterA s (omega arith));
-        early = λ f. rw (← i .2);
-        first = λ f y. omega (arith, t f y);
-        unsealed = rw (n, le-leb c inBody (omega arith), le-leb s inBody (omega arith));
-        sealing = rw (n, le-leb c afterG (omega arith), le-leb s inBody (omega arith));
-      }
+      made r (leadsTo r) (i .2) (omega arith) (omega arith) (omega arith) (both-low (leadsTo r) h (omega arith)) (λ f. refl) (λ f y. omega (arith, t f y))
+      (rw (n, le-leb (leadsTo r) inBody g, le-leb s inBody (omega arith)))
+      (rw (n, le-leb (leadsTo r) afterG (omega arith), le-leb s inBody (omega arith)))
 
   to-body : (r : Role) → leadsTo r ≡ inBody → isSealing r ≡ false → ((f : Family) → isTelling f r ≡ false) → leading afterH inBody inBody s ≡ some c → Moves r s c
   to-body r e n t o = along r afterH inBody (rw e o) (omega arith) (omega arith) (omega arith) (omega arith) n (λ f y. absurd (false-true (sym (t f) ∙ y)))
@@ -240,32 +241,18 @@ module _ (s c : ℕ) where
   remark-moves true q o = to-body role.Remark refl refl (λ f. refl) o
   remark-moves false q o =
       let i = leading-inv afterG afterLastG afterLastG s c o in
-      record {
-        up = omega arith;
-        least = omega arith;
-        most = omega arith;
-        second = le-leb afterH c (omega arith) ∙ sym (le-leb afterA s (omega arith));
-        early = λ f. rw (← i .2) (every (λ f. leb inBody (afterLayout f - 1) ≡ leb afterLastG (afterLayout f - 1)) refl refl f);
-        first = λ f y. absurd (false-true y);
-        unsealed = rw (← i .2, q);
-        sealing = rw (← i .2, q);
-      }
+      made role.Remark afterLastG (i .2) (i .1) (omega arith) (omega arith) (both-low afterLastG (omega arith) (omega arith))
+      (every (λ f. leb inBody (afterLayout f - 1) ≡ leb afterLastG (afterLayout f - 1)) refl refl)
+      (λ f y. absurd (false-true y))
+      (rw q)
+      (rw q)
 
   moves : (r : Role) → stageAfter r s ≡ some c → Moves r s c
   unfolding stageAfter
   moves role.Opens o =
       let i = leading-inv atStart atStart afterA s c o in
       let z : s ≡ atStart = omega arith in
-      record {
-        up = omega arith;
-        least = omega arith;
-        most = omega arith;
-        second = rw (← i .2, z);
-        early = λ f. rw (← i .2);
-        first = λ f y. absurd (false-true y);
-        unsealed = rw (← i .2, z);
-        sealing = rw (← i .2, z);
-      }
+      made role.Opens afterA (i .2) (omega arith) (omega arith) (omega arith) (rw z) (λ f. refl) (λ f y. absurd (false-true y)) (rw z) (rw z)
   moves role.Heads o = along role.Heads afterA afterH o (omega arith) (omega arith) (omega arith) (omega arith) refl (λ f y. absurd (false-true y))
   moves (role.Tells f) o =
       let k = layout-stage f in
@@ -277,16 +264,9 @@ module _ (s c : ℕ) where
   moves role.Differential o = to-body role.Differential refl refl (λ g. refl) o
   moves role.Seals o =
       let i = leading-inv afterH afterG afterG s c o in
-      record {
-        up = omega arith;
-        least = omega arith;
-        most = omega arith;
-        second = le-leb afterH c (omega arith) ∙ sym (le-leb afterA s (omega arith));
-        early = λ f. rw (← i .2);
-        first = λ f y. absurd (false-true y);
-        unsealed = rw (← i .2) (sym (and-false (leb s inBody)));
-        sealing = rw (← i .2) (sym (or-true (leb s inBody && false)));
-      }
+      made role.Seals afterG (i .2) (i .1) (omega arith) (omega arith) (both-low afterG (omega arith) (omega arith)) (λ f. refl) (λ f y. absurd (false-true y))
+      (sym (and-false (leb s inBody)))
+      (sym (or-true (leb s inBody && false)))
   moves role.Remark o = remark-moves (leb s inBody) refl o
   moves role.Other o = to-body role.Other refl refl (λ g. refl) o
   moves role.NoRole o = absurd (none-some o)
