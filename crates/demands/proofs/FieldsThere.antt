@@ -27,7 +27,7 @@ use Rattle.trips.proofs.Positions.{latitude-trip, longitude-trip}
 use Rattle.trips.proofs.Altitudes.{altitude-trip}
 use Rattle.demands.specs.Checks.{isThere}
 use Rattle.demands.specs.FieldTexts.{Stood, Field, Codes, FieldsTold}
-use Rattle.demands.proofs.Carried.{mark-there}
+use Rattle.demands.proofs.EachLine.{mark-there}
 use Rattle.demands.proofs.LayoutLines.{code-there, code-here}
 use Rattle.demands.proofs.Leading.{letter}
 
@@ -71,20 +71,14 @@ word-field =
 -- ---- code characters
 
 -- the first n of a list
-record Front (n : ℕ) (l : List ℕ) : Type 0 where
-  text : List ℕ
-  codes : Codes n text
-  rest : List ℕ
-  bytes : l ≡ text ++ rest
-
-front-there : (n : ℕ) (l : List ℕ) → leads isCode n l ≡ true → Front n l
+front-there : (n : ℕ) (l : List ℕ) → leads isCode n l ≡ true → (text rest : List ℕ) × Codes n text × (l ≡ text ++ rest)
 unfolding leads
-front-there zero l e = record { text = []; codes = record { count = refl; each = tt }; rest = l; bytes = refl }
+front-there zero l e = ([], l, record { count = refl; each = tt }, refl)
 front-there (suc n) [] e = absurd (false-true e)
 front-there (suc n) (b ∷ l) e =
     let a = and-inv (isCode b) (leads isCode n l) e in
     let r = front-there n l (a .1) in
-    record { text = b ∷ r .text; codes = record { count = ap suc (r .codes .count); each = (a .0, r .codes .each) }; rest = r .rest; bytes = ap (λ x. b ∷ x) (r .bytes) }
+    (b ∷ r .0, r .1, record { count = ap suc (r .2 .count); each = (a .0, r .2 .each) }, ap (λ x. b ∷ x) (r .3))
 
 front-here : (n : ℕ) (t r : List ℕ) → length t ≡ n → Each (λ b. isCode b ≡ true) t → leads isCode n (t ++ r) ≡ true
 unfolding leads
@@ -96,7 +90,7 @@ front-here (suc n) (b ∷ t) r e h = rw (h .0) (front-here n t r (omega arith) (
 codes-field : (l : List ℕ) (at n : ℕ) → (codesAt l at n ≡ true) ↔ ((t : List ℕ) × Codes n t × Stood l at t)
 unfolding codesAt
 codes-field l at n = (
-  λ e. let f = front-there n (drop at l) e in (f .text, f .codes, record { rest = f .rest; bytes = f .bytes }),
+  λ e. let f = front-there n (drop at l) e in (f .0, f .2, record { rest = f .1; bytes = f .3 }),
   λ w. ap (leads isCode n) (w .2 .bytes) ∙ front-here n (w .0) (w .2 .rest) (w .1 .count) (w .1 .each),
 )
 

@@ -37,8 +37,7 @@ use Rattle.laws.proofs.Passing as passes
 use Rattle.demands.specs.Coming.{isAmong, lettersBefore}
 use Rattle.demands.specs.FieldTexts.{Letter}
 use Rattle.demands.specs.Grammar.{Follows, IsALine, IsDateLine, IsHLine, IsLayoutLine, IsHeadLine, IsPointLine, IsLLine, IsGLine, Timed, columned, event, satellites, Untimed, differential, remark, other}
-use Rattle.demands.proofs.Carried.{a-there, a-said, date-there, date-said, h-there, h-said, d-there, d-said, e-there, e-said, f-there, f-said, l-there, l-said, g-there, g-said, other-there, other-said}
-use Rattle.demands.proofs.Valued.{columned-letter, columned-there, columned-said, head-there, head-said, point-there, point-said}
+use Rattle.demands.proofs.EachLine.{a-there, a-said, date-there, date-said, h-there, h-said, d-there, d-said, e-there, e-said, f-there, f-said, l-there, l-said, g-there, g-said, other-there, other-said, columned-letter, columned-there, columned-said, head-there, head-said, point-there, point-said}
 use Rattle.demands.proofs.LayoutLines.{IsTold, layout-there, layout-said, layout-allowed}
 
 -- ---- the families, one by one

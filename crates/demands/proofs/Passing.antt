@@ -1,7 +1,7 @@
 -- The check goes through the lines of a file, each judged good after those before it, to where it stops: at the end, at a line with no end, at a faulty line, or
 -- where the table is full. What it answers is told by where it stops. Assumes nothing.
 use Prim.Native.Nat.{ℕ, _+_, _≤_}
-use mathlib.Core.Bool.{Bool, true, false}
+use mathlib.Core.Bool.{true, false}
 use mathlib.Core.List.{List, [], _∷_, _++_, append-assoc}
 use mathlib.Core.Path.{_≡_, refl, sym, _∙_, ap}
 use mathlib.Core.Option.{Option, none, some}
@@ -17,6 +17,7 @@ use Rattle.rules.specs.declared.Reason.the-variants as reason
 use Rattle.rules.specs.declared.Flight.{Flight}
 use Rattle.rules.specs.declared.Seal.{Seal}
 use Rattle.rules.specs.declared.State.{State}
+use Rattle.laws.proofs.Chains.{by-test}
 use Rattle.laws.proofs.Splitting.{Text, cut, lines-of-line}
 use Rattle.laws.proofs.Counted.{judged-more}
 use Rattle.rules.proofs.Inverse.{refuses-says}
@@ -118,18 +119,15 @@ module _ (seal : Seal) (room : Option ℕ) where
   comes (broken n) st h = record { lines = []; left = broken n; state = st; parted = refl; passes = done; fits = h; stops = endless n }
   comes (line l ls) st h = go (judge l st) refl (λ m. comes ls m)
     where
-      fit : (m : State) (b : Bool) → judge l st ≡ says m → hasRoom room (m .flight .lines) ≡ b → (hasRoom room (m .flight .lines) ≡ true → Comes m ls (run seal room m ls))
-          → Comes st (line l ls) (need b (refuses (number reason.TableFull) (m .flight .lines) 0) λ u. run seal room m ls)
-      fit m true e q f =
-          let c = f q in
-          record { lines = l ∷ c .lines; left = c .left; state = c .state; parted = ap (line l) (c .parted); passes = next e (c .passes); fits = c .fits; stops = c .stops }
-      fit m false e q f = record { lines = []; left = line l ls; state = st; parted = refl; passes = done; fits = h; stops = full m e q }
-
       go : (x : Said State) → judge l st ≡ x → ((m : State) → hasRoom room (m .flight .lines) ≡ true → Comes m ls (run seal room m ls))
           → Comes st (line l ls) (andThen (inLine (st .flight .lines + 1) x) λ after.
           need (hasRoom room (after .flight .lines)) (refuses (number reason.TableFull) (after .flight .lines) 0) λ u. run seal room after ls)
-      go (says m) e f = fit m (hasRoom room (m .flight .lines)) e refl (f m)
       go (refuses n k b) e f = record { lines = []; left = line l ls; state = st; parted = refl; passes = done; fits = h; stops = faulty n k b e }
+      go (says m) e f =
+          by-test (Comes st (line l ls)) (hasRoom room (m .flight .lines)) _ _
+          (λ q. record { lines = []; left = line l ls; state = st; parted = refl; passes = done; fits = h; stops = full m e q }) λ q.
+          let c = f m q in
+          record { lines = l ∷ c .lines; left = c .left; state = c .state; parted = ap (line l) (c .parted); passes = next e (c .passes); fits = c .fits; stops = c .stops }
 
   -- and back: the check goes through lines that pass, and answers as it stops
 

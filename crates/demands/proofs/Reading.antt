@@ -36,8 +36,7 @@ use Rattle.demands.specs.Grammar as grammar
 use Rattle.demands.specs.Coming.{isAmong}
 use Rattle.demands.specs.Readings.{ReadsColumns, ReadsColumned, ReadsLine, NoC, ReadsDeclaration, nowhere, declared, total, Steps, Readable}
 use Rattle.demands.proofs.Laws.{each-map, each-join}
-use Rattle.demands.proofs.Carried.{e-said, f-said}
-use Rattle.demands.proofs.Valued.{start-low, fix-reads, extra-reads, columned-letter, columned-said, head-reads, point-reads, head-said, point-said}
+use Rattle.demands.proofs.EachLine.{e-said, f-said, start-low, fix-reads, extra-reads, columned-letter, columned-said, head-reads, point-reads, head-said, point-said}
 use Rattle.demands.proofs.LayoutLines.{IsTold, layout-said, told}
 use Rattle.demands.proofs.Leading.{every, same-letter}
 use Rattle.demands.proofs.Passing.{before}

@@ -11,7 +11,7 @@ use native.Mathlib.Omega.{arith}
 use borrow.Author.Tests.{le-leb, leb-true, leb-false, eqb-true, eqb-false, ne-eqb, eq-eqb, ltb-true, lt-ltb, lt-leb}
 use lib.Dec.{eqb, leb, ltb}
 use lib.ListN.{length, getD}
-use Rattle.rules.specs.Choice.{byte, bytes, Each, need}
+use Rattle.rules.specs.Choice.{byte, bytes, Each}
 use Rattle.rules.specs.Choice as choice
 use Rattle.rules.specs.Families.{layoutLetter}
 use Rattle.rules.specs.Fields.{timeAt}
@@ -26,12 +26,14 @@ use Rattle.rules.specs.declared.Seal.{Seal}
 use Rattle.rules.specs.declared.Seal.the-variants as seal
 use Rattle.rules.proofs.Inverse.{false-true}
 use Rattle.laws.proofs.Passing as passes
+use Rattle.laws.proofs.Chains.{by-need, by-test}
 use Rattle.laws.proofs.Splitting.{cut, none-left, lines-of-line}
 use Rattle.laws.proofs.Counted.{judged-more}
 use Rattle.demands.specs.Grammar.{Follows, AtMostOne, given, beginning, IsText}
 use Rattle.demands.specs.Coming.{isAmong, pointsOf, isOpen, Open, those, lastTime, NoTime, Latest, isInTime, Meant}
 use Rattle.demands.specs.Faults.{PassAfter, Before, NoEnd, none-comes, lf-alone, cr-alone, Unsealed, Refused, empty, too-long, line-end, in-line, table-full, ends-early}
-use Rattle.demands.proofs.Valued.{head-said}
+use Rattle.demands.proofs.EachLine.{head-said}
+use Rattle.demands.proofs.Leading.{some-points}
 use Rattle.demands.proofs.Passing.{Passes, done, next, all-passed, before, text-is, is-text, begins, lines-joined, none-fit, Stops, ended, endless, faulty, full, comes, passes-run, stops-run}
 use Rattle.demands.proofs.Standing.{head-points, or-true, Declaration, undeclared, declared, open-behind, declaration-told, laid-out, Stands, stands-start, stands-next}
 use Rattle.demands.proofs.Faulty.{judge-passes, passes-judge, judge-fails, fails-judge}
@@ -205,16 +207,9 @@ module _ (seal : Seal) (file : List ℕ) (room : Option ℕ) where
 
   early : (lines : List (List ℕ)) (st : State) → Before file room lines [] → Stands lines st → Means (finish seal st)
   unfolding finish number
-  early lines st w v = go (eqb (st .points) 0) (leb (endsAfter seal) (st .stage)) refl refl
-    where
-      go : (x y : Bool) → eqb (st .points) 0 ≡ x → leb (endsAfter seal) (st .stage) ≡ y
-          → Means (need x (refuses 16 (st .flight .lines + 1) 0) λ u. need y (refuses 16 (st .flight .lines + 1) 0) λ v. says (st .flight))
-      go true true p q = tt
-      go true false p q =
-          rw (v .lines) (ends-early lines w (inr (missing seal lines st v .0 (leb-false (endsAfter seal) (st .stage) q))))
-      go false y p q =
-          let i = eqb-false (st .points) 0 p in
-          rw (v .lines) (ends-early lines w (inl (opened lines st v .0 (omega arith))))
+  early lines st w v =
+      by-test Means (eqb (st .points) 0) _ _ (λ p. rw (v .lines) (ends-early lines w (inl (opened lines st v .0 (some-points (st .points) (eqb-false _ _ p)))))) λ p.
+      by-test Means (leb (endsAfter seal) (st .stage)) _ (λ u. says (st .flight)) (λ q. rw (v .lines) (ends-early lines w (inr (missing seal lines st v .0 (leb-false _ _ q))))) λ q. tt
 
   -- where the check stops, its answer means what it says
   stopped : (lines : List (List ℕ)) (st : State) (k : Lines) (x : Said Flight) (rest : List ℕ) → Before file room lines rest → linesOf rest ≡ k → Stands lines st
@@ -232,25 +227,15 @@ module _ (seal : Seal) (file : List ℕ) (room : Option ℕ) where
 
   means : Means (verdict seal file room)
   unfolding verdict number
-  means = go (leb 1 (length file)) (leb (length file) 16777216) refl refl
-    where
-      go : (x y : Bool) → leb 1 (length file) ≡ x → leb (length file) 16777216 ≡ y
-          → Means (need x (refuses 1 0 0) λ u. need y (refuses 2 0 0) λ v. run seal room start (linesOf file))
-      go false y p q = let i = leb-false 1 (length file) p in empty (omega arith)
-      go true false p q = too-long (leb-false (length file) 16777216 q)
-      go true true p q =
-          let c = comes seal room (linesOf file) start (none-fit room) in
-          let b = begins (c .lines) file (c .left) (c .parted) in
-          let v = passes-behind [] stands-start (c .passes) in
-          let w : Before file room (c .lines) (b .rest) = record {
-            least = leb-true _ _ p;
-            most = leb-true _ _ q;
-            bytes = b .bytes;
-            texts = b .texts;
-            passes = v .0;
-            fits = rw (all-passed (c .passes)) at (c .fits);
-          } in
-          stopped (c .lines) (c .state) (c .left) (run seal room start (linesOf file)) (b .rest) w (b .lines) (v .1) (c .stops)
+  means =
+      by-test Means (leb 1 (length file)) _ _ (λ p. let i = leb-false 1 (length file) p in empty (omega arith)) λ p.
+      by-test Means (leb (length file) 16777216) _ _ (λ q. too-long (leb-false (length file) 16777216 q)) λ q.
+      let c = comes seal room (linesOf file) start (none-fit room) in
+      let b = begins (c .lines) file (c .left) (c .parted) in
+      let v = passes-behind [] stands-start (c .passes) in
+      let fits = rw (all-passed (c .passes)) at (c .fits) in
+      let w : Before file room (c .lines) (b .rest) = record { least = leb-true _ _ p; most = leb-true _ _ q; bytes = b .bytes; texts = b .texts; passes = v .0; fits = fits } in
+      stopped (c .lines) (c .state) (c .left) (run seal room start (linesOf file)) (b .rest) w (b .lines) (v .1) (c .stops)
 
   refused-there : (n l b : ℕ) → verdict seal file room ≡ refuses n l b → Refused seal file room n l b
   refused-there n l b e = rw e at means
@@ -276,12 +261,8 @@ module _ (seal : Seal) (file : List ℕ) (room : Option ℕ) where
   finish-early lines st v (inl h) =
       let i = opened lines st v .1 h in
       rw (ne-eqb (st .points) 0 (λ z. omega arith))
-  finish-early lines st v (inr h) = go (eqb (st .points) 0)
-    where
-      go : (x : Bool) → need x (refuses 16 (st .flight .lines + 1) 0) (λ u. need (leb (endsAfter seal) (st .stage)) (refuses 16 (st .flight .lines + 1) 0) λ v. says (st .flight))
-          ≡ refuses 16 (st .flight .lines + 1) 0
-      go true = rw (lt-leb (endsAfter seal) (st .stage) (missing seal lines st v .1 h))
-      go false = refl
+  finish-early lines st v (inr h) =
+      by-need (λ x. x ≡ refuses 16 (st .flight .lines + 1) 0) (eqb (st .points) 0) _ _ refl (rw (lt-leb (endsAfter seal) (st .stage) (missing seal lines st v .1 h)))
 
   refused-here : {n l b : ℕ} → Refused seal file room n l b → verdict seal file room ≡ refuses n l b
   unfolding verdict number linesOf

@@ -25,8 +25,7 @@ use Rattle.rules.specs.declared.State.{State}
 use Rattle.rules.proofs.Inverse.{false-true}
 use Rattle.demands.specs.Grammar.{Follows, OrderFrom, IsHLine, IsPointLine, IsLLine, IsGLine, AtMostOne, absent, given, Timed, columned, event, satellites, Untimed, differential, remark, other, Items, Body, undeclared, declared, SealedBy}
 use Rattle.demands.specs.Grammar as grammar
-use Rattle.demands.proofs.Carried.{e-said, f-said}
-use Rattle.demands.proofs.Valued.{columned-letter}
+use Rattle.demands.proofs.EachLine.{e-said, f-said, columned-letter}
 use Rattle.demands.proofs.Leading.{put-own, put-others, Part, recorder, header, telling, body, seal, remarks, countedBy, noted, InBody, head, point, timed, quiet, Leads, a-line, date-line, h-line, layout-line, body-line, g-line, l-line, Sound, judge-leads, leads-judge, stays-sound}
 use Rattle.demands.proofs.Passing.{Passes}
 use Rattle.demands.proofs.Passing as passing

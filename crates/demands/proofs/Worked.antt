@@ -30,7 +30,7 @@ use Rattle.demands.specs.Grammar.{IsText, july, AtMostOne, absent, given
 use Rattle.demands.proofs.Laws.{each-map, each-join, each-cut, are-valid}
 use Rattle.demands.proofs.Tables.{width-exactly, rule-exactly}
 use Rattle.demands.proofs.Leading.{every}
-use Rattle.demands.proofs.Valued.{columned-letter, head-said, point-said}
+use Rattle.demands.proofs.EachLine.{columned-letter, head-said, point-said}
 use Rattle.demands.proofs.Reading.{Aside, other-than, untimed-aside, front, back, in-three, front-aside, back-by}
 
 -- ---- the file of five lines
