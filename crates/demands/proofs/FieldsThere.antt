@@ -17,7 +17,6 @@ use Rattle.rules.specs.Listed.{codeAt, codeText, isCodeWord}
 use Rattle.rules.specs.Lines.{isDateMark}
 use Rattle.rules.specs.Fields.{isEither}
 use Rattle.rules.proofs.Inverse.{false-true, and-inv}
-use Rattle.trips.proofs.Laws.{past, byte-here}
 use Rattle.trips.proofs.Digits.{number-there, number-here}
 use Rattle.trips.proofs.Trip.{Trip}
 use Rattle.trips.proofs.Times.{time-trip}
@@ -98,15 +97,11 @@ codes-field l at n = (
 
 mark-field : (l : List ℕ) → (isDateMark l ≡ true) ↔ Stood l 1 (code "F" ∷ code "D" ∷ code "T" ∷ code "E" ∷ [])
 unfolding isDateMark
-mark-field l = (λ e. record { rest = drop 5 l; bytes = mark-there l e }, in-again)
+mark-field l = (λ e. record { rest = drop 5 l; bytes = mark-there l e }, in-again l)
   where
-    in-again : Stood l 1 (70 ∷ 68 ∷ 84 ∷ 69 ∷ []) → isDateMark l ≡ true
-    in-again w =
-        let a = byte-here l 1 70 _ (w .bytes) in
-        let b = byte-here l 2 68 _ (past l 1 1 2 (70 ∷ []) _ refl refl (w .bytes)) in
-        let c = byte-here l 3 84 _ (past l 1 2 3 (70 ∷ 68 ∷ []) _ refl refl (w .bytes)) in
-        let d = byte-here l 4 69 (w .rest) (past l 1 3 4 (70 ∷ 68 ∷ 84 ∷ []) _ refl refl (w .bytes)) in
-        simp (a, b, c, d)
+    in-again : (l : List ℕ) → Stood l 1 (70 ∷ 68 ∷ 84 ∷ 69 ∷ []) → isDateMark l ≡ true
+    in-again [] w = let n = ap length (w .bytes) in absurd (omega arith)
+    in-again (x ∷ t) w = ap (λ y. isDateMark (x ∷ y)) (w .bytes)
 
 -- ---- one of two letters
 
