@@ -148,16 +148,13 @@ module _ (layouts : Layouts) (can-tell : (f : Family) → IsTold f (layoutOf f l
   items-read (timed {l = l} w r) = (timed-item l w, items-read r)
   items-read (untimed {l = l} w r) = let h = untimed-aside w in ((aside-reads layouts l h, aside-no-c l h), items-read r)
 
-  lines-of : (ls : List (List ℕ)) → Each Item ls → Each (ReadsLine layouts) ls
-  lines-of ls h = each-map ls (λ l x. x .0) h
-
   body-reads : {ls : List (List ℕ)} {ts : List ℕ} → Body layouts ls ts → Each (ReadsLine layouts) ls
   unfolding isAmong bytes
-  body-reads (undeclared {ls = ls} i) = lines-of ls (items-read i)
+  body-reads (undeclared {ls = ls} i) = each-map ls (λ l x. x .0) (items-read i)
   body-reads (grammar.declared pre hd points after h i no-b w ps c j) =
-      each-join (ReadsLine layouts) pre (hd ∷ (points ++ after)) (lines-of pre (items-read i)) (
+      each-join (ReadsLine layouts) pre (hd ∷ (points ++ after)) (each-map pre (λ l x. x .0) (items-read i)) (
         no-family hd (rw (head-said h hd w .0)) layouts,
-        each-join (ReadsLine layouts) points after (each-map points (λ l v. no-family l (rw (point-said l v .0)) layouts) ps) (lines-of after (items-read j)),
+        each-join (ReadsLine layouts) points after (each-map points (λ l v. no-family l (rw (point-said l v .0)) layouts) ps) (each-map after (λ l x. x .0) (items-read j)),
       )
 
   -- the declaration of a body, between lines that are no C lines
