@@ -33,8 +33,7 @@ use Rattle.demands.specs.Grammar.{IsText, OrderFrom, InOrder, IsALine, I
 use Rattle.demands.proofs.Laws.{said-some}
 use Rattle.demands.proofs.Leading.{every, all-layouts, counts-more, Part, Leads, a-line, date-line, h-line, layout-line, body-line, g-line, l-line, Sound, sound-start, judge-leads, leads-judge}
 use Rattle.demands.proofs.Leading as part
-use Rattle.demands.proofs.Passing.{Passes, done, next, passes-join, all-passed, before, begins, lines-joined, none-fit, ended, comes, passes-run, stops-run, at-end}
-use Rattle.demands.proofs.Sections.{Fresh, passes-above, Section, split, above-end, section-passes, headers-there, headers-here, layout-there, layout-here, body-same, body-stage, body-there, body-here, seal-there, seal-here, seal-needed, remarks-there, remarks-here}
+use Rattle.demands.proofs.Sections.{Passes, done, next, passes-join, all-passed, before, begins, lines-joined, none-fit, ended, comes, passes-run, stops-run, at-end, Fresh, passes-above, Section, split, above-end, section-passes, headers-there, headers-here, layout-there, layout-here, body-same, body-stage, body-there, body-here, seal-there, seal-here, seal-needed, remarks-there, remarks-here}
 
 -- ---- the counts
 

@@ -32,8 +32,7 @@ use Rattle.trips.proofs.Laws.{byte-there}
 use Rattle.trips.proofs.Digits.{digits-length, digits-front, number-there, number-here}
 use Rattle.demands.specs.Grammar.{laid, widthOf, IsEntry, Tiles, Columns, none, column}
 use Rattle.demands.specs.Readings.{Spells, plain, minus, NumberOf, ReadsColumn, columnTexts, IsName, ReadsColumns}
-use Rattle.demands.proofs.Laws.{each-map, each-cut, each-join, are-valid, valid-are, nothing-found, none-found, nothing-given, each-both}
-use Rattle.demands.proofs.Tables.{rule-exactly}
+use Rattle.demands.proofs.Laws.{each-map, each-cut, each-join, are-valid, valid-are, nothing-found, none-found, nothing-given, each-both, rule-exactly}
 use Rattle.demands.proofs.LayoutLines.{allowed-there, unpacked, packed-back, Coded}
 
 -- ---- where a line ends

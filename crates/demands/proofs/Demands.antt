@@ -47,7 +47,7 @@ use Rattle.demands.proofs.Accepted as acceptance
 use Rattle.demands.proofs.Refusing as refusing
 use Rattle.demands.proofs.FieldsThere as fields-there
 use Rattle.demands.proofs.Refusing.{meant}
-use Rattle.demands.proofs.Tables.{day-exactly, width-exactly, rule-exactly}
+use Rattle.demands.proofs.Laws.{day-exactly, width-exactly, rule-exactly}
 use Rattle.demands.proofs.Reading as reading
 use Rattle.demands.proofs.LayoutLines.{layout-exactly, layout-line-exactly}
 use Rattle.demands.proofs.EachLine.{fix-reads, fix-read, extra-reads, extra-read, head-reads, head-read, point-reads, point-read}

@@ -41,8 +41,7 @@ use Rattle.trips.proofs.Heads.{head-trip, head-within}
 use Rattle.trips.proofs.Heads as heads
 use Rattle.trips.proofs.Points.{point-trip}
 use Rattle.demands.specs.Grammar.{Shaped, IsALine, IsDateLine, IsHLine, IsDLine, IsELine, IsFLine, IsLLine, IsGLine, IsOtherLine, Columns, IsBLine, IsKLine, IsColumned, IsHeadLine, IsPointLine}
-use Rattle.demands.proofs.Tables.{day-exactly, planned-exactly}
-use Rattle.demands.proofs.Laws.{given-none, each-map, are-valid, shape-there, shape-said, each-cut, valid-are}
+use Rattle.demands.proofs.Laws.{day-exactly, planned-exactly, given-none, each-map, are-valid, shape-there, shape-said, each-cut, valid-are}
 use Rattle.demands.proofs.LayoutLines.{IsTold}
 use Rattle.demands.proofs.Columns.{tail-exactly}
 

@@ -33,8 +33,7 @@ use Rattle.trips.proofs.Digits.{digits-length, number-there, number-here, digit
 use Rattle.demands.specs.Grammar.{widthOf, IsEntry, Tiles, laid, IsLayoutLine, AtMostOne, absent}
 use Rattle.demands.specs.Grammar as grammar
 use Rattle.demands.specs.Coming.{orZero, entryOf, entriesIn}
-use Rattle.demands.proofs.Tables.{width-exactly}
-use Rattle.demands.proofs.Laws.{said-some, each-map, each-join, each-cut, each-both, nothing-found, none-found, shape-there}
+use Rattle.demands.proofs.Laws.{width-exactly, said-some, each-map, each-join, each-cut, each-both, nothing-found, none-found, shape-there}
 
 -- ---- three code characters
 

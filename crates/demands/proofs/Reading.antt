@@ -39,7 +39,7 @@ use Rattle.demands.proofs.Laws.{each-map, each-join}
 use Rattle.demands.proofs.EachLine.{e-said, f-said, start-low, fix-reads, extra-reads, columned-letter, columned-said, head-reads, point-reads, head-said, point-said}
 use Rattle.demands.proofs.LayoutLines.{IsTold, layout-said, told}
 use Rattle.demands.proofs.Leading.{every, same-letter}
-use Rattle.demands.proofs.Passing.{before}
+use Rattle.demands.proofs.Sections.{before}
 use Rattle.demands.proofs.Accepted.{lines-cut, accepted-as}
 use Rattle.demands.proofs.Columns.{columns-read}
 

@@ -25,9 +25,8 @@ use Rattle.trips.proofs.Texts.{areValid}
 use Rattle.demands.specs.Coming.{isAmong}
 use Rattle.demands.specs.Grammar.{IsText, july, AtMostOne, absent, given, Timed, columned, event, satellites, Items, done, timed, untimed, Body, undeclared, declared, none, column, linesIn, Meets, joinLines}
 use Rattle.laws.proofs.Splitting.{lines-are-text}
-use Rattle.demands.proofs.Passing.{text-is}
-use Rattle.demands.proofs.Laws.{each-map, each-join, each-cut, are-valid}
-use Rattle.demands.proofs.Tables.{width-exactly, rule-exactly}
+use Rattle.demands.proofs.Sections.{text-is}
+use Rattle.demands.proofs.Laws.{each-map, each-join, each-cut, are-valid, width-exactly, rule-exactly}
 use Rattle.demands.proofs.Leading.{every}
 use Rattle.demands.proofs.EachLine.{columned-letter, head-said, point-said}
 use Rattle.demands.proofs.Reading.{Aside, other-than, untimed-aside, front, back, in-three, front-aside, back-by}
