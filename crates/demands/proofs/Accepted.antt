@@ -90,18 +90,13 @@ front-there {s = s} (next {m = m} {l = l} {ls = ls} e p) h =
 
 -- ---- lines that pass are as the grammar says
 
--- the lines are those of these parts, and they keep to the rules, with the date and the layouts of the last state
-record Kept (needs : Seal) (ls : List (List ℕ)) (s : State) : Type 0 where
-  parts : Parts
-  lines : ls ≡ linesIn parts
-  times : List ℕ
-  keeps : Keeps needs parts (s .flight .date) (s .flight .layouts) times
-
 in-order : (c : ℕ) (ts : List ℕ) → OrderFrom c ts → InOrder ts
 in-order c [] h = tt
 in-order c (t ∷ ts) h = h .1
 
-kept : (needs : Seal) {ls : List (List ℕ)} {s : State} → Passes start ls s → s .points ≡ 0 → endsAfter needs ≤ s .stage → Kept needs ls s
+-- the lines are those of these parts, and they keep to the rules, with the date and the layouts of the last state
+kept : (needs : Seal) {ls : List (List ℕ)} {s : State} → Passes start ls s → s .points ≡ 0 → endsAfter needs ≤ s .stage
+    → (parts : Parts) × (ls ≡ linesIn parts) × (times : List ℕ) × Keeps needs parts (s .flight .date) (s .flight .layouts) times
 kept needs {ls} {s} p zero h =
     let f = front-there p (omega (arith, front-over needs)) in
     let hs = split part.header (omega arith) (passes-above (f .passes) sound-start) in
@@ -124,17 +119,17 @@ kept needs {ls} {s} p zero h =
     let laid : s .flight .layouts ≡ js .state .flight .layouts = ap (λ x. x .flight .layouts) (z .1) ∙ R .1 .1 ∙ G .1 .1 ∙ B .1 in
     let body = body-there (s .flight .layouts) (bs .section) (sym laid) (fresh .0) (fresh .1) (fresh .2) done in
     let told : Family → List (List ℕ) = every (λ g. List (List ℕ)) (is .front) (js .front) in
-    record {
-      parts = record { recorder = f .recorder; day = f .day; headers = hs .front; told = told; body = bs .front; seal = gs .front; remarks = rs .front };
-      lines = f .lines
-          ∙ ap (λ x. f .recorder ∷ f .day ∷ x) (hs .lines
-          ∙ ap (λ x. hs .front ++ x) (is .lines
-          ∙ ap (λ x. is .front ++ x) (js .lines
-          ∙ ap (λ x. js .front ++ x) (bs .lines
-          ∙ ap (λ x. bs .front ++ x) (gs .lines
-          ∙ ap (λ x. gs .front ++ x) (rs .lines ∙ ap (λ x. rs .front ++ x) (z .0) ∙ append-nil (rs .front)))))));
-      times = body .times;
-      keeps = record {
+    let lines = f .lines
+    ∙ ap (λ x. f .recorder ∷ f .day ∷ x) (hs .lines
+    ∙ ap (λ x. hs .front ++ x) (is .lines
+    ∙ ap (λ x. is .front ++ x) (js .lines
+    ∙ ap (λ x. js .front ++ x) (bs .lines
+    ∙ ap (λ x. bs .front ++ x) (gs .lines
+    ∙ ap (λ x. gs .front ++ x) (rs .lines ∙ ap (λ x. rs .front ++ x) (z .0) ∙ append-nil (rs .front))))))) in (
+      record { recorder = f .recorder; day = f .day; headers = hs .front; told = told; body = bs .front; seal = gs .front; remarks = rs .front },
+      lines,
+      body .times,
+      record {
         recorder = f .is-a;
         day = subst (λ x. IsDateLine x (f .day)) (sym date) (f .is-date);
         headers = H .each;
@@ -146,8 +141,8 @@ kept needs {ls} {s} p zero h =
         seals = G .0;
         sealed = seal-needed needs (stage .1) (gs .section) (rs .section) (rw (z .1) at h);
         remarks = R .0;
-      };
-    }
+      },
+    )
 
 -- ---- lines that are as the grammar says pass
 
@@ -273,16 +268,16 @@ module _ (needs : Seal) (file : List ℕ) (room : Option ℕ) (f : Flight) where
         record {
           least = leb-true _ _ (a .0);
           most = leb-true _ _ (b .0);
-          parts = k .parts;
-          bytes = bytes ∙ ap joinLines (k .lines);
-          texts = subst (Each IsText) (k .lines) (g .texts);
+          parts = k .0;
+          bytes = bytes ∙ ap joinLines (k .1);
+          texts = subst (Each IsText) (k .1) (g .texts);
           date = c .state .flight .date;
           layouts = c .state .flight .layouts;
-          times = k .times;
-          keeps = k .keeps;
+          times = k .2;
+          keeps = k .3;
         },
-        subst (λ x. hasRoom room (length x) ≡ true) (k .lines) (rw (all-passed (c .passes)) at (c .fits)),
-        flight-is (linesIn (k .parts)) (c .state) _ _ (subst (λ x. Passes start x (c .state)) (k .lines) (c .passes)) refl refl ∙ same,
+        subst (λ x. hasRoom room (length x) ≡ true) (k .1) (rw (all-passed (c .passes)) at (c .fits)),
+        flight-is (linesIn (k .0)) (c .state) _ _ (subst (λ x. Passes start x (c .state)) (k .1) (c .passes)) refl refl ∙ same,
       )
 
   meets-accepted : Said-so → verdict needs file room ≡ says f

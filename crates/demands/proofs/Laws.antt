@@ -1,6 +1,5 @@
 -- Laws that every room uses: what a chain's answer says of its links, what holds of each element of a list, a line's shape; and what the rules test by their tables, in the
--- grammar's words: that a date's day exists, by the months, and the widths and texts of a listed code's column (what is asked of the row that a code is found in is asked of
--- each row of that code, since no two rows have one code). Assumes nothing.
+-- grammar's words: that a date's day exists, and the widths and texts of a listed code's column. Assumes nothing.
 use Prim.Native.Nat.{ℕ, suc, zero, _%_, _≤_, _+_}
 use Prim.Native.Char.{code}
 use mathlib.Core.Bool.{Bool, true, false, not, _&&_, cond, _||_}
@@ -111,6 +110,8 @@ module _ (least most : ℕ) (inH : Bool) (l : List ℕ) where
   shape-said w =
       let c = none-found (λ b. not (isValid inH b)) (λ (i b : ℕ). i) l 0 (each-map l (λ b h. rw h refl) (w .valid)) in
       simp (le-leb _ _ (w .long), le-leb _ _ (w .short), c)
+
+-- ---- the days of a month
 
 module _ (y : ℕ) (from : 1980 ≤ y) (to : y ≤ 2079) where
   leap : (b : Bool) → eqb (y % 4) 0 ≡ b → isLeap y ≡ b

@@ -137,12 +137,12 @@ isTelling g = elim [ role.Opens ↦ false | role.Heads ↦ false | role.Tells f 
 abbrev pub isTiming : Role → Bool
 isTiming = elim [ role.Opens ↦ false | role.Heads ↦ false | role.Tells f ↦ false | role.Columned f ↦ true | role.Declares ↦ false | role.Event ↦ true | role.Satellites ↦ true | role.Differential ↦ false | role.Seals ↦ false | role.Remark ↦ false | role.Other ↦ false | role.NoRole ↦ false ]
 
-abbrev pub isSealing : Role → Bool
-isSealing = elim [ role.Opens ↦ false | role.Heads ↦ false | role.Tells f ↦ false | role.Columned f ↦ false | role.Declares ↦ false | role.Event ↦ false | role.Satellites ↦ false | role.Differential ↦ false | role.Seals ↦ true | role.Remark ↦ false | role.Other ↦ false | role.NoRole ↦ false ]
-
 -- the first part of a file that a line of this role leads to
 abbrev pub leadsTo : Role → ℕ
 leadsTo = elim [ role.Opens ↦ afterA | role.Heads ↦ afterH | role.Tells f ↦ afterLayout f | role.Columned f ↦ inBody | role.Declares ↦ inBody | role.Event ↦ inBody | role.Satellites ↦ inBody | role.Differential ↦ inBody | role.Seals ↦ afterG | role.Remark ↦ inBody | role.Other ↦ inBody | role.NoRole ↦ inBody ]
+
+abbrev pub isSealing : Role → Bool
+isSealing r = eqb (leadsTo r) afterG
 
 -- the tests of a first byte by the role, and those that ask for a family
 abbrev Plainly : Role → ℕ → Type 0

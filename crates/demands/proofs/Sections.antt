@@ -250,7 +250,7 @@ split p h (more {n = n} {st = st} {m = m} {s = s} {l = l} {ls = ls} q g w a) = g
     go false e f =
         record { front = []; rest = l ∷ ls; state = st; lines = refl; section = empty; later = more q (leb-false _ _ e) w a }
 
-pub above-end : {st s : State} {ls : List (List ℕ)} → Above 8 st ls s → (ls ≡ []) × (s ≡ st)
+pub above-end : {st s : State} {ls : List (List ℕ)} → Above (suc afterLastG) st ls s → (ls ≡ []) × (s ≡ st)
 above-end no-more = (refl, refl)
 above-end (more q g w a) = absurd (omega (arith, ranks w .2))
 
