@@ -26,6 +26,7 @@ use Rattle.trips.proofs.Positions.{latitude-trip, longitude-trip}
 use Rattle.trips.proofs.Altitudes.{altitude-trip}
 use Rattle.demands.specs.Checks.{isThere}
 use Rattle.demands.specs.FieldTexts.{Stood, Field, Codes, FieldsTold}
+use Rattle.demands.proofs.Laws.{or-true}
 use Rattle.demands.proofs.EachLine.{mark-there}
 use Rattle.demands.proofs.LayoutLines.{code-there, code-here}
 use Rattle.demands.proofs.Leading.{letter}
@@ -114,13 +115,9 @@ either-field x a b = (out (eqb x a) (eqb x b) refl refl, back)
     out false true p q e = inr (eqb-true x b q)
     out false false p q e = absurd (false-true e)
 
-    second : (s : Bool) → (s || true) ≡ true
-    second true = refl
-    second false = refl
-
     back : (x ≡ a) ⊎ (x ≡ b) → (eqb x a || eqb x b) ≡ true
     back (inl h) = rw (eq-eqb x a h)
-    back (inr h) = rw (eq-eqb x b h) (second (eqb x a))
+    back (inr h) = rw (eq-eqb x b h) (or-true (eqb x a))
 
 -- ---- all of them
 

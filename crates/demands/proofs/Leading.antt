@@ -37,6 +37,7 @@ use Rattle.laws.proofs.Passing as passes
 use Rattle.demands.specs.Coming.{isAmong, lettersBefore}
 use Rattle.demands.specs.FieldTexts.{Letter}
 use Rattle.demands.specs.Grammar.{Follows, IsALine, IsDateLine, IsHLine, IsLayoutLine, IsHeadLine, IsPointLine, IsLLine, IsGLine, Timed, columned, event, satellites, Untimed, differential, remark, other}
+use Rattle.demands.proofs.Laws.{cond-false}
 use Rattle.demands.proofs.EachLine.{a-there, a-said, date-there, date-said, h-there, h-said, d-there, d-said, e-there, e-said, f-there, f-said, l-there, l-said, g-there, g-said, other-there, other-said, columned-letter, columned-there, columned-said, head-there, head-said, point-there, point-said}
 use Rattle.demands.proofs.LayoutLines.{IsTold, layout-there, layout-said, layout-allowed}
 
@@ -247,11 +248,10 @@ sound-start = every (λ f. IsTold f (layoutOf f (start .flight .layouts))) (refl
 -- while points are to come only a C line may
 pub plain-fits : (st : State) → fitsDeclaration false st ≡ true → st .points ≡ 0
 unfolding fitsDeclaration
-plain-fits st e = go (leb 1 (st .points)) refl e
-  where
-    go : (b : Bool) → leb 1 (st .points) ≡ b → cond b false true ≡ true → st .points ≡ 0
-    go true q e = absurd (false-true e)
-    go false q e = let h = leb-false 1 (st .points) q in omega arith
+plain-fits st e =
+    let c = cond-false (leb 1 (st .points)) false _ true false-true e in
+    let h = leb-false 1 (st .points) (c .0) in
+    omega arith
 
 fits-plain : (st : State) → st .points ≡ 0 → fitsDeclaration false st ≡ true
 unfolding fitsDeclaration

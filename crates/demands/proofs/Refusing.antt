@@ -32,10 +32,11 @@ use Rattle.laws.proofs.Counted.{judged-more}
 use Rattle.demands.specs.Grammar.{Follows, AtMostOne, given, beginning, IsText}
 use Rattle.demands.specs.Coming.{isAmong, pointsOf, isOpen, Open, those, lastTime, NoTime, Latest, isInTime, Meant}
 use Rattle.demands.specs.Faults.{PassAfter, Before, NoEnd, none-comes, lf-alone, cr-alone, Unsealed, Refused, empty, too-long, line-end, in-line, table-full, ends-early}
+use Rattle.demands.proofs.Laws.{or-true}
 use Rattle.demands.proofs.EachLine.{head-said}
 use Rattle.demands.proofs.Leading.{some-points}
 use Rattle.demands.proofs.Sections.{Passes, done, next, all-passed, before, text-is, is-text, begins, lines-joined, none-fit, Stops, ended, endless, faulty, full, comes, passes-run, stops-run}
-use Rattle.demands.proofs.Standing.{head-points, or-true, Declaration, undeclared, declared, open-behind, declaration-told, laid-out, Stands, stands-start, stands-next}
+use Rattle.demands.proofs.Standing.{head-points, Declaration, undeclared, declared, open-behind, declaration-told, laid-out, Stands, stands-start, stands-next}
 use Rattle.demands.proofs.Faulty.{judge-passes, passes-judge, judge-fails, fails-judge}
 
 -- ---- lines that pass
