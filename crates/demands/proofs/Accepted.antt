@@ -7,6 +7,8 @@ use mathlib.Core.Logic.{inl, _↔_}
 use mathlib.Core.Option.{Option, none}
 use mathlib.Core.Path.{_≡_, refl, sym, _∙_, ap, subst}
 use native.Mathlib.Omega.{arith}
+use borrow.Author.Tests.{le-leb, leb-true, eqb-true}
+use lib.Dec.{eqb, leb}
 use lib.ListN.{length}
 use Rattle.rules.specs.Choice.{Each}
 use Rattle.rules.specs.Families.{lineLetter, layoutOf, countOf}
@@ -14,7 +16,8 @@ use Rattle.rules.specs.Refusals.{says}
 use Rattle.rules.specs.Layouts.{emptyLayout, isSaid}
 use Rattle.rules.specs.Roles.{sameFamily, afterA, afterH, afterLayout, inBody, afterG}
 use Rattle.rules.specs.Order.{start, moved, dated}
-use Rattle.rules.specs.Files.{endsAfter, hasRoom, verdict}
+use Rattle.rules.specs.Split.{end, linesOf}
+use Rattle.rules.specs.Files.{endsAfter, finish, hasRoom, run, verdict}
 use Rattle.rules.specs.declared.Date.{Date}
 use Rattle.rules.specs.declared.Layouts.{Layouts}
 use Rattle.rules.specs.declared.Family.{Family}
@@ -23,13 +26,14 @@ use Rattle.rules.specs.declared.Flight.{Flight}
 use Rattle.rules.specs.declared.Seal.{Seal}
 use Rattle.rules.specs.declared.Seal.the-variants as seal
 use Rattle.rules.specs.declared.State.{State}
+use Rattle.rules.proofs.Inverse.{refuses-says, need-inv}
 use Rattle.laws.proofs.Passing.{front-over}
+use Rattle.laws.proofs.Splitting.{none-left}
 use Rattle.demands.specs.Grammar.{IsText, OrderFrom, InOrder, IsALine, IsDateLine, AtMostOne, Parts, linesIn, SealedBy, Keeps, joinLines, Meets, beginning, flightOf}
 use Rattle.demands.proofs.Laws.{said-some}
 use Rattle.demands.proofs.Leading.{every, all-layouts, counts-more, Part, Leads, a-line, date-line, h-line, layout-line, body-line, g-line, l-line, Sound, sound-start, judge-leads, leads-judge}
 use Rattle.demands.proofs.Leading as part
-use Rattle.demands.proofs.Passing.{Passes, done, next, passes-join, all-passed, Accepts, accepted-passes}
-use Rattle.demands.proofs.Sections.{Fresh, passes-above, Section, split, above-end, section-passes, headers-there, headers-here, layout-there, layout-here, body-same, body-stage, body-there, body-here, seal-there, seal-here, seal-needed, remarks-there, remarks-here}
+use Rattle.demands.proofs.Sections.{Passes, done, next, passes-join, all-passed, before, begins, lines-joined, none-fit, ended, comes, passes-run, stops-run, at-end, Fresh, passes-above, Section, split, above-end, section-passes, headers-there, headers-here, layout-there, layout-here, body-same, body-stage, body-there, body-here, seal-there, seal-here, seal-needed, remarks-there, remarks-here}
 
 -- ---- the counts
 
@@ -86,18 +90,13 @@ front-there {s = s} (next {m = m} {l = l} {ls = ls} e p) h =
 
 -- ---- lines that pass are as the grammar says
 
--- the lines are those of these parts, and they keep to the rules, with the date and the layouts of the last state
-record Kept (needs : Seal) (ls : List (List ℕ)) (s : State) : Type 0 where
-  parts : Parts
-  lines : ls ≡ linesIn parts
-  times : List ℕ
-  keeps : Keeps needs parts (s .flight .date) (s .flight .layouts) times
-
 in-order : (c : ℕ) (ts : List ℕ) → OrderFrom c ts → InOrder ts
 in-order c [] h = tt
 in-order c (t ∷ ts) h = h .1
 
-kept : (needs : Seal) {ls : List (List ℕ)} {s : State} → Passes start ls s → s .points ≡ 0 → endsAfter needs ≤ s .stage → Kept needs ls s
+-- the lines are those of these parts, and they keep to the rules, with the date and the layouts of the last state
+kept : (needs : Seal) {ls : List (List ℕ)} {s : State} → Passes start ls s → s .points ≡ 0 → endsAfter needs ≤ s .stage
+    → (parts : Parts) × (ls ≡ linesIn parts) × (times : List ℕ) × Keeps needs parts (s .flight .date) (s .flight .layouts) times
 kept needs {ls} {s} p zero h =
     let f = front-there p (omega (arith, front-over needs)) in
     let hs = split part.header (omega arith) (passes-above (f .passes) sound-start) in
@@ -120,17 +119,17 @@ kept needs {ls} {s} p zero h =
     let laid : s .flight .layouts ≡ js .state .flight .layouts = ap (λ x. x .flight .layouts) (z .1) ∙ R .1 .1 ∙ G .1 .1 ∙ B .1 in
     let body = body-there (s .flight .layouts) (bs .section) (sym laid) (fresh .0) (fresh .1) (fresh .2) done in
     let told : Family → List (List ℕ) = every (λ g. List (List ℕ)) (is .front) (js .front) in
-    record {
-      parts = record { recorder = f .recorder; day = f .day; headers = hs .front; told = told; body = bs .front; seal = gs .front; remarks = rs .front };
-      lines = f .lines
-          ∙ ap (λ x. f .recorder ∷ f .day ∷ x) (hs .lines
-          ∙ ap (λ x. hs .front ++ x) (is .lines
-          ∙ ap (λ x. is .front ++ x) (js .lines
-          ∙ ap (λ x. js .front ++ x) (bs .lines
-          ∙ ap (λ x. bs .front ++ x) (gs .lines
-          ∙ ap (λ x. gs .front ++ x) (rs .lines ∙ ap (λ x. rs .front ++ x) (z .0) ∙ append-nil (rs .front)))))));
-      times = body .times;
-      keeps = record {
+    let lines = f .lines
+    ∙ ap (λ x. f .recorder ∷ f .day ∷ x) (hs .lines
+    ∙ ap (λ x. hs .front ++ x) (is .lines
+    ∙ ap (λ x. is .front ++ x) (js .lines
+    ∙ ap (λ x. js .front ++ x) (bs .lines
+    ∙ ap (λ x. bs .front ++ x) (gs .lines
+    ∙ ap (λ x. gs .front ++ x) (rs .lines ∙ ap (λ x. rs .front ++ x) (z .0) ∙ append-nil (rs .front))))))) in (
+      record { recorder = f .recorder; day = f .day; headers = hs .front; told = told; body = bs .front; seal = gs .front; remarks = rs .front },
+      lines,
+      body .times,
+      record {
         recorder = f .is-a;
         day = subst (λ x. IsDateLine x (f .day)) (sym date) (f .is-date);
         headers = H .each;
@@ -142,8 +141,8 @@ kept needs {ls} {s} p zero h =
         seals = G .0;
         sealed = seal-needed needs (stage .1) (gs .section) (rs .section) (rw (z .1) at h);
         remarks = R .0;
-      };
-    }
+      },
+    )
 
 -- ---- lines that are as the grammar says pass
 
@@ -242,46 +241,58 @@ flight-is ls s date layouts p d f =
     let k : beginning (code "K") ls ≡ s .flight .counts .k = omega (arith, counts-passed p family.K) in
     λ i. record { date = sym d i; layouts = sym f i; lines = l i; counts = record { b = b i; k = k i } }
 
+-- the file is cut into the grammar's lines
+pub lines-cut : {needs : Seal} (file : List ℕ) (m : Meets needs file) → linesOf file ≡ before (linesIn (m .parts)) end
+unfolding linesOf
+lines-cut file m =
+    let ls = linesIn (m .parts) in
+    ap linesOf (m .bytes ∙ sym (append-nil (joinLines ls))) ∙ lines-joined ls [] (m .texts)
+
 module _ (needs : Seal) (file : List ℕ) (room : Option ℕ) (f : Flight) where
-  accepted-meets : Accepts needs file room f → (m : Meets needs file) × (hasRoom room (length (linesIn (m .parts))) ≡ true) × (flightOf m ≡ f)
-  accepted-meets w =
-      let k = kept needs (w .passes) (w .whole) (w .sealed) in (
+  abbrev Said-so : Type 0
+  Said-so = (m : Meets needs file) × (hasRoom room (length (linesIn (m .parts))) ≡ true) × (flightOf m ≡ f)
+
+  accepted-meets : verdict needs file room ≡ says f → Said-so
+  unfolding verdict finish
+  accepted-meets e =
+      let a = need-inv (leb 1 (length file)) _ (says f) _ refuses-says e in
+      let b = need-inv (leb (length file) 16777216) _ (says f) _ refuses-says (a .1) in
+      let c = comes needs room (linesOf file) start (none-fit room) in
+      let d = at-end needs room (c .state) (c .left) (run needs room start (linesOf file)) f (c .stops) (b .1) in
+      let g = begins (c .lines) file (c .left) (c .parted) in
+      let p = need-inv (eqb (c .state .points) 0) _ (says f) _ refuses-says (d .1) in
+      let s = need-inv (leb (endsAfter needs) (c .state .stage)) _ (says f) _ refuses-says (p .1) in
+      let k = kept needs (c .passes) (eqb-true _ _ (p .0)) (leb-true _ _ (s .0)) in
+      let same : c .state .flight ≡ f = cc in
+      let bytes : file ≡ joinLines (c .lines) = g .bytes ∙ ap (λ r. joinLines (c .lines) ++ r) (none-left (g .rest) (g .lines ∙ d .0)) ∙ append-nil (joinLines (c .lines)) in (
         record {
-          least = w .least;
-          most = w .most;
-          parts = k .parts;
-          bytes = w .bytes ∙ ap joinLines (k .lines);
-          texts = subst (Each IsText) (k .lines) (w .texts);
-          date = w .state .flight .date;
-          layouts = w .state .flight .layouts;
-          times = k .times;
-          keeps = k .keeps;
+          least = leb-true _ _ (a .0);
+          most = leb-true _ _ (b .0);
+          parts = k .0;
+          bytes = bytes ∙ ap joinLines (k .1);
+          texts = subst (Each IsText) (k .1) (g .texts);
+          date = c .state .flight .date;
+          layouts = c .state .flight .layouts;
+          times = k .2;
+          keeps = k .3;
         },
-        subst (λ x. hasRoom room (length x) ≡ true) (k .lines) (w .fits),
-        flight-is (linesIn (k .parts)) (w .state) _ _ (subst (λ x. Passes start x (w .state)) (k .lines) (w .passes)) refl refl ∙ w .flight,
+        subst (λ x. hasRoom room (length x) ≡ true) (k .1) (rw (all-passed (c .passes)) at (c .fits)),
+        flight-is (linesIn (k .0)) (c .state) _ _ (subst (λ x. Passes start x (c .state)) (k .1) (c .passes)) refl refl ∙ same,
       )
 
-  meets-accepted : ((m : Meets needs file) × (hasRoom room (length (linesIn (m .parts))) ≡ true) × (flightOf m ≡ f)) → Accepts needs file room f
+  meets-accepted : Said-so → verdict needs file room ≡ says f
+  unfolding verdict finish
   meets-accepted w =
       let m = w .0 in
       let p = passed (m .keeps) in
-      record {
-        least = m .least;
-        most = m .most;
-        lines = linesIn (m .parts);
-        bytes = m .bytes;
-        texts = m .texts;
-        state = p .state;
-        passes = p .passes;
-        fits = w .1;
-        whole = p .whole;
-        sealed = p .sealed;
-        flight = sym (flight-is (linesIn (m .parts)) (p .state) _ _ (p .passes) (p .dated) (p .laid)) ∙ w .2;
-      }
+      let r = passes-run needs room end (p .passes) (rw (all-passed (p .passes)) (w .1)) in
+      let e : finish needs (p .state) ≡ says (p .state .flight) = rw (p .whole, le-leb (endsAfter needs) (p .state .stage) (p .sealed)) in
+      let same = sym (flight-is (linesIn (m .parts)) (p .state) _ _ (p .passes) (p .dated) (p .laid)) ∙ w .2 in
+      rw (le-leb _ _ (m .least), le-leb _ _ (m .most), lines-cut file m) (r ∙ stops-run needs room (p .state) ended ∙ e ∙ ap says same)
 
   -- accepted with this answer exactly when the file meets the grammar, its lines fit, and the grammar says this of it
   pub accepted-as : (verdict needs file room ≡ says f) ↔ ((m : Meets needs file) × (hasRoom room (length (linesIn (m .parts))) ≡ true) × (flightOf m ≡ f))
-  accepted-as = (λ e. accepted-meets (accepted-passes needs file room f .0 e), λ w. accepted-passes needs file room f .1 (meets-accepted w))
+  accepted-as = (accepted-meets, meets-accepted)
 
 -- accepted exactly when the file meets the grammar and its lines fit the table
 pub accepted-exactly : (needs : Seal) (file : List ℕ) (room : Option ℕ) → (isSaid (verdict needs file room) ≡ true) ↔ ((m : Meets needs file) × (hasRoom room (length (linesIn (m .parts))) ≡ true))

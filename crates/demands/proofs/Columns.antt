@@ -16,7 +16,7 @@ use lib.IntN.{pos, negℤ}
 use Rattle.rules.specs.Choice.{part, Each, given, need, on, firstOf}
 use Rattle.rules.specs.Chars.{isValid}
 use Rattle.rules.specs.Listed.{keepsRule, packedOf, codeText}
-use Rattle.rules.specs.Layouts.{unused, emptyLayout, withEntry, entriesOf, allowed, lineLength, Span, spanOf, look, columnText}
+use Rattle.rules.specs.Layouts.{unused, entriesOf, allowed, lineLength, Span, spanOf, look, columnText}
 use Rattle.rules.specs.declared.Entry.{Entry}
 use Rattle.rules.specs.declared.Layout.{Layout}
 use Rattle.rules.specs.Limits.{isClean, badTail, goodTail}
@@ -32,9 +32,8 @@ use Rattle.trips.proofs.Laws.{byte-there}
 use Rattle.trips.proofs.Digits.{digits-length, digits-front, number-there, number-here}
 use Rattle.demands.specs.Grammar.{laid, widthOf, IsEntry, Tiles, Columns, none, column}
 use Rattle.demands.specs.Readings.{Spells, plain, minus, NumberOf, ReadsColumn, columnTexts, IsName, ReadsColumns}
-use Rattle.demands.proofs.Laws.{each-map, each-cut, each-join, are-valid, valid-are, nothing-found, none-found, nothing-given, each-both}
-use Rattle.demands.proofs.Tables.{rule-exactly}
-use Rattle.demands.proofs.LayoutLines.{Fits, Tiled, allowed-there, unpacked, packed-back, Coded, tiled-tiles}
+use Rattle.demands.proofs.Laws.{each-map, each-cut, each-join, are-valid, valid-are, nothing-found, none-found, nothing-given, each-both, rule-exactly}
+use Rattle.demands.proofs.LayoutLines.{allowed-there, unpacked, packed-back, Coded}
 
 -- ---- where a line ends
 
@@ -56,11 +55,11 @@ line-end start (e ∷ es) =
     rw (ne-eqb (suc (length es)) 0 (λ z. omega arith), n, g) (last-end e es)
 
 -- no entry ends before the first starts
-pub end-past : (es : List Entry) (from : ℕ) (before : Layout) → Tiled es from before → 1 ≤ from → from ≤ end-of es from + 1
-end-past [] from before w h = omega arith
-end-past (e ∷ es) from before w h =
-    let f : Fits from before e = w .1 in
-    let r = end-past es (e .last + 1) (withEntry before e) (w .2) (omega arith) in
+pub end-past : (es : List Entry) (from : ℕ) → Tiles from es → 1 ≤ from → from ≤ end-of es from + 1
+end-past [] from w h = omega arith
+end-past (e ∷ es) from w h =
+    let f : IsEntry from e = w .0 in
+    let r = end-past es (e .last + 1) (w .2) (omega arith) in
     omega (arith, f .starts, f .ends)
 
 -- one column less, or more, ends where the line ends
@@ -87,12 +86,12 @@ module _ (start : ℕ) (tail : List ℕ) where
     ruled : Each Keeps es
 
   module _ (low : 1 ≤ start) where
-    columns-there : (es : List Entry) (from : ℕ) (before : Layout) (rest : List ℕ) → Tiled es from before → start ≤ from → Left es from rest → Columns es rest
-    columns-there [] from before [] w h c = none
-    columns-there [] from before (b ∷ rest) w h c = absurd (omega (arith, c .long))
-    columns-there (e ∷ es) from before rest w h c =
-        let f : Fits from before e = w .1 in
-        let n = end-past es (e .last + 1) (withEntry before e) (w .2) (omega arith) in
+    columns-there : (es : List Entry) (from : ℕ) (rest : List ℕ) → Tiles from es → start ≤ from → Left es from rest → Columns es rest
+    columns-there [] from [] w h c = none
+    columns-there [] from (b ∷ rest) w h c = absurd (omega (arith, c .long))
+    columns-there (e ∷ es) from rest w h c =
+        let f : IsEntry from e = w .0 in
+        let n = end-past es (e .last + 1) (w .2) (omega arith) in
         let k : widthOf e ≤ length rest = omega (arith, f .starts, f .ends, c .long) in
         let p : e .first - start ≡ from - start = ap (λ x. x - start) (f .starts) in
         let q : e .last + 1 - start - (from - start) ≡ widthOf e = omega (arith, f .starts, f .ends) in
@@ -101,7 +100,7 @@ module _ (start : ℕ) (tail : List ℕ) where
         let s = take-append-drop (widthOf e) rest in
         let v = each-cut (λ b. isValid false b ≡ true) (take (widthOf e) rest) (drop (widthOf e) rest) (subst (Each (λ b. isValid false b ≡ true)) (sym s) (c .valid)) in
         let i : from - start + widthOf e ≡ e .last + 1 - start = omega (arith, f .starts, f .ends) in
-        let r = columns-there es (e .last + 1) (withEntry before e) (drop (widthOf e) rest) (w .2) (omega (arith, f .starts, f .ends)) (record {
+        let r = columns-there es (e .last + 1) (drop (widthOf e) rest) (w .2) (omega (arith, f .starts, f .ends)) (record {
           here = ap (λ x. drop x tail) (sym i) ∙ sym (drop-drop (widthOf e) (from - start) tail) ∙ ap (drop (widthOf e)) (c .here);
           long = past-column (e .first) (e .last) from (length rest) _ _ (f .starts) (f .ends) (omega arith) k (c .long) (length-drop (widthOf e) rest);
           valid = v .1;
@@ -109,11 +108,11 @@ module _ (start : ℕ) (tail : List ℕ) where
         }) in
         subst (Columns (e ∷ es)) s (column (take (widthOf e) rest) (length-take-le (widthOf e) rest k) (v .0) (rule-exactly (e .code) (take (widthOf e) rest) .0 (ap (keepsRule (e .code)) (sym t) ∙ c .ruled .0)) r)
 
-    columns-here : (es : List Entry) (from : ℕ) (before : Layout) (rest : List ℕ) → Tiled es from before → start ≤ from → drop (from - start) tail ≡ rest → Columns es rest
+    columns-here : (es : List Entry) (from : ℕ) (rest : List ℕ) → Tiles from es → start ≤ from → drop (from - start) tail ≡ rest → Columns es rest
         → Left es from rest
-    columns-here [] from before rest w h g none = record { here = g; long = omega arith; valid = tt; ruled = tt }
-    columns-here (e ∷ es) from before rest w h g (column {t = r} c n v u x) =
-        let f : Fits from before e = w .1 in
+    columns-here [] from rest w h g none = record { here = g; long = omega arith; valid = tt; ruled = tt }
+    columns-here (e ∷ es) from rest w h g (column {t = r} c n v u x) =
+        let f : IsEntry from e = w .0 in
         let p : e .first - start ≡ from - start = ap (λ x. x - start) (f .starts) in
         let q : e .last + 1 - start - (from - start) ≡ widthOf e = omega (arith, f .starts, f .ends) in
         let t : part (e .first - start) (e .last + 1 - start) tail ≡ c =
@@ -121,7 +120,7 @@ module _ (start : ℕ) (tail : List ℕ) where
         let i : from - start + widthOf e ≡ e .last + 1 - start = omega (arith, f .starts, f .ends) in
         let d : drop (e .last + 1 - start) tail ≡ r =
         ap (λ x. drop x tail) (sym i) ∙ sym (drop-drop (widthOf e) (from - start) tail) ∙ ap (drop (widthOf e)) g ∙ drop-at c r (widthOf e) n in
-        let k = columns-here es (e .last + 1) (withEntry before e) r (w .2) (omega (arith, f .starts, f .ends)) d x in
+        let k = columns-here es (e .last + 1) r (w .2) (omega (arith, f .starts, f .ends)) d x in
         record {
           here = g;
           long = ap (λ x. from - 1 + x) (length-append c r) ∙ with-column (e .first) (e .last) from (length c) (length r) _ (f .starts) (f .ends) (omega arith) n (k .long);
@@ -140,7 +139,7 @@ tail-exactly start tail layout low good slots = (there, here)
     es = entriesOf layout
 
     ends : lineLength start layout ≡ end-of (entriesOf layout) start
-    ends = ap (lineLength start) (allowed-there start layout good slots .1) ∙ line-end start (entriesOf layout)
+    ends = ap (lineLength start) (allowed-there start layout good slots .3) ∙ line-end start (entriesOf layout)
 
     same : start - start ≡ 0
     same = omega arith
@@ -150,8 +149,8 @@ tail-exactly start tail layout low good slots = (there, here)
         let a = need-inv (allowed start layout) false true _ false-true e in
         let n = need-inv (eqb (start - 1 + length tail) (lineLength start layout)) false true _ false-true (a .1) in
         let c = need-inv (isClean tail) false true _ false-true (n .1) in
-        let w = allowed-there start layout good slots .0 in
-        columns-there start tail low (entriesOf layout) start emptyLayout tail (w .tiled) (omega arith) (record {
+        let w = allowed-there start layout good slots .2 in
+        columns-there start tail low (entriesOf layout) start tail w (omega arith) (record {
           here = ap (λ x. drop x tail) same;
           long = eqb-true _ _ (n .0) ∙ ends;
           valid = are-valid tail (sym (clean-valid tail) ∙ c .0);
@@ -160,8 +159,8 @@ tail-exactly start tail layout low good slots = (there, here)
 
     here : Columns (entriesOf layout) tail → goodTail start tail layout ≡ true
     here x =
-        let w = allowed-there start layout good slots .0 in
-        let k = columns-here start tail low (entriesOf layout) start emptyLayout tail (w .tiled) (omega arith) (ap (λ x. drop x tail) same) x in
+        let w = allowed-there start layout good slots .2 in
+        let k = columns-here start tail low (entriesOf layout) start tail w (omega arith) (ap (λ x. drop x tail) same) x in
         let b : badTail start tail layout ≡ _ = none-found _ _ (entriesOf layout) 0 (each-map (entriesOf layout) (λ e h. rw h refl) (k .ruled)) in
         rw (good, eq-eqb _ _ (k .long ∙ sym ends), clean-valid tail, valid-are tail (k .valid), b)
 
@@ -282,9 +281,8 @@ pub columns-read : (f : Family) (layout : Layout) (l tail : List ℕ) → 1 ≤ 
     → drop (firstStart f - 1) l ≡ tail → Columns (entriesOf layout) tail → entriesSaid l layout ≡ says (entriesOf layout) → ReadsColumns f layout l
 unfolding look number
 columns-read f layout l tail low good slots cut is said =
-    let w = allowed-there (firstStart f) layout good slots .0 in
+    let t = allowed-there (firstStart f) layout good slots .2 in
     let es = entriesOf layout in
-    let t = tiled-tiles es (firstStart f) (omega (arith, w .count, w .few)) (w .tiled) in
     let r = texts-are l es (firstStart f) tail t low cut is in
     record {
       carried = each-map es (λ e h. column-read layout l said e (h .0) (h .1))

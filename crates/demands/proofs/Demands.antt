@@ -47,10 +47,10 @@ use Rattle.demands.proofs.Accepted as acceptance
 use Rattle.demands.proofs.Refusing as refusing
 use Rattle.demands.proofs.FieldsThere as fields-there
 use Rattle.demands.proofs.Refusing.{meant}
-use Rattle.demands.proofs.Tables.{day-exactly, width-exactly, rule-exactly}
+use Rattle.demands.proofs.Laws.{day-exactly, width-exactly, rule-exactly}
 use Rattle.demands.proofs.Reading as reading
 use Rattle.demands.proofs.LayoutLines.{layout-exactly, layout-line-exactly}
-use Rattle.demands.proofs.Valued.{fix-reads, fix-read, extra-reads, extra-read, head-reads, head-read, point-reads, point-read}
+use Rattle.demands.proofs.EachLine.{fix-reads, fix-read, extra-reads, extra-read, head-reads, head-read, point-reads, point-read}
 use Rattle.demands.proofs.Writers.{both-ways, trip-ways}
 use Rattle.demands.proofs.Worked as worked
 

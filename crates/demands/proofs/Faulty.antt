@@ -36,8 +36,7 @@ use Rattle.demands.specs.Grammar.{laid}
 use Rattle.demands.proofs.Leading.{every, letter-tests}
 use Rattle.demands.proofs.Standing.{and-false, and-true, only-without, none-open, declaration-told, laid-out, Stands}
 use Rattle.demands.proofs.Laws.{each-join, shape-there}
-use Rattle.demands.proofs.Carried.{e-inv, f-inv}
-use Rattle.demands.proofs.Valued.{columned-time}
+use Rattle.demands.proofs.EachLine.{e-inv, f-inv, columned-time}
 use Rattle.demands.proofs.LayoutLines.{there, entry-there, entries-laid, with-laid}
 use Rattle.demands.proofs.Columns.{end-of, line-end}
 

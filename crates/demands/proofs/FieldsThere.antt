@@ -17,7 +17,6 @@ use Rattle.rules.specs.Listed.{codeAt, codeText, isCodeWord}
 use Rattle.rules.specs.Lines.{isDateMark}
 use Rattle.rules.specs.Fields.{isEither}
 use Rattle.rules.proofs.Inverse.{false-true, and-inv}
-use Rattle.trips.proofs.Laws.{past, byte-here}
 use Rattle.trips.proofs.Digits.{number-there, number-here}
 use Rattle.trips.proofs.Trip.{Trip}
 use Rattle.trips.proofs.Times.{time-trip}
@@ -27,7 +26,8 @@ use Rattle.trips.proofs.Positions.{latitude-trip, longitude-trip}
 use Rattle.trips.proofs.Altitudes.{altitude-trip}
 use Rattle.demands.specs.Checks.{isThere}
 use Rattle.demands.specs.FieldTexts.{Stood, Field, Codes, FieldsTold}
-use Rattle.demands.proofs.Carried.{mark-there}
+use Rattle.demands.proofs.Laws.{or-true}
+use Rattle.demands.proofs.EachLine.{mark-there}
 use Rattle.demands.proofs.LayoutLines.{code-there, code-here}
 use Rattle.demands.proofs.Leading.{letter}
 
@@ -71,20 +71,14 @@ word-field =
 -- ---- code characters
 
 -- the first n of a list
-record Front (n : ℕ) (l : List ℕ) : Type 0 where
-  text : List ℕ
-  codes : Codes n text
-  rest : List ℕ
-  bytes : l ≡ text ++ rest
-
-front-there : (n : ℕ) (l : List ℕ) → leads isCode n l ≡ true → Front n l
+front-there : (n : ℕ) (l : List ℕ) → leads isCode n l ≡ true → (text rest : List ℕ) × Codes n text × (l ≡ text ++ rest)
 unfolding leads
-front-there zero l e = record { text = []; codes = record { count = refl; each = tt }; rest = l; bytes = refl }
+front-there zero l e = ([], l, record { count = refl; each = tt }, refl)
 front-there (suc n) [] e = absurd (false-true e)
 front-there (suc n) (b ∷ l) e =
     let a = and-inv (isCode b) (leads isCode n l) e in
     let r = front-there n l (a .1) in
-    record { text = b ∷ r .text; codes = record { count = ap suc (r .codes .count); each = (a .0, r .codes .each) }; rest = r .rest; bytes = ap (λ x. b ∷ x) (r .bytes) }
+    (b ∷ r .0, r .1, record { count = ap suc (r .2 .count); each = (a .0, r .2 .each) }, ap (λ x. b ∷ x) (r .3))
 
 front-here : (n : ℕ) (t r : List ℕ) → length t ≡ n → Each (λ b. isCode b ≡ true) t → leads isCode n (t ++ r) ≡ true
 unfolding leads
@@ -96,7 +90,7 @@ front-here (suc n) (b ∷ t) r e h = rw (h .0) (front-here n t r (omega arith) (
 codes-field : (l : List ℕ) (at n : ℕ) → (codesAt l at n ≡ true) ↔ ((t : List ℕ) × Codes n t × Stood l at t)
 unfolding codesAt
 codes-field l at n = (
-  λ e. let f = front-there n (drop at l) e in (f .text, f .codes, record { rest = f .rest; bytes = f .bytes }),
+  λ e. let f = front-there n (drop at l) e in (f .0, f .2, record { rest = f .1; bytes = f .3 }),
   λ w. ap (leads isCode n) (w .2 .bytes) ∙ front-here n (w .0) (w .2 .rest) (w .1 .count) (w .1 .each),
 )
 
@@ -104,15 +98,11 @@ codes-field l at n = (
 
 mark-field : (l : List ℕ) → (isDateMark l ≡ true) ↔ Stood l 1 (code "F" ∷ code "D" ∷ code "T" ∷ code "E" ∷ [])
 unfolding isDateMark
-mark-field l = (λ e. record { rest = drop 5 l; bytes = mark-there l e }, in-again)
+mark-field l = (λ e. record { rest = drop 5 l; bytes = mark-there l e }, in-again l)
   where
-    in-again : Stood l 1 (70 ∷ 68 ∷ 84 ∷ 69 ∷ []) → isDateMark l ≡ true
-    in-again w =
-        let a = byte-here l 1 70 _ (w .bytes) in
-        let b = byte-here l 2 68 _ (past l 1 1 2 (70 ∷ []) _ refl refl (w .bytes)) in
-        let c = byte-here l 3 84 _ (past l 1 2 3 (70 ∷ 68 ∷ []) _ refl refl (w .bytes)) in
-        let d = byte-here l 4 69 (w .rest) (past l 1 3 4 (70 ∷ 68 ∷ 84 ∷ []) _ refl refl (w .bytes)) in
-        simp (a, b, c, d)
+    in-again : (l : List ℕ) → Stood l 1 (70 ∷ 68 ∷ 84 ∷ 69 ∷ []) → isDateMark l ≡ true
+    in-again [] w = let n = ap length (w .bytes) in absurd (omega arith)
+    in-again (x ∷ t) w = ap (λ y. isDateMark (x ∷ y)) (w .bytes)
 
 -- ---- one of two letters
 
@@ -125,13 +115,9 @@ either-field x a b = (out (eqb x a) (eqb x b) refl refl, back)
     out false true p q e = inr (eqb-true x b q)
     out false false p q e = absurd (false-true e)
 
-    second : (s : Bool) → (s || true) ≡ true
-    second true = refl
-    second false = refl
-
     back : (x ≡ a) ⊎ (x ≡ b) → (eqb x a || eqb x b) ≡ true
     back (inl h) = rw (eq-eqb x a h)
-    back (inr h) = rw (eq-eqb x b h) (second (eqb x a))
+    back (inr h) = rw (eq-eqb x b h) (or-true (eqb x a))
 
 -- ---- all of them
 

@@ -33,8 +33,7 @@ use Rattle.trips.proofs.Digits.{digits-length, number-there, number-here, digit
 use Rattle.demands.specs.Grammar.{widthOf, IsEntry, Tiles, laid, IsLayoutLine, AtMostOne, absent}
 use Rattle.demands.specs.Grammar as grammar
 use Rattle.demands.specs.Coming.{orZero, entryOf, entriesIn}
-use Rattle.demands.proofs.Tables.{width-exactly}
-use Rattle.demands.proofs.Laws.{said-some, each-map, each-join, each-cut, each-both, nothing-found, none-found, shape-there}
+use Rattle.demands.proofs.Laws.{width-exactly, said-some, each-map, each-join, each-cut, each-both, nothing-found, none-found, shape-there}
 
 -- ---- three code characters
 
@@ -322,12 +321,8 @@ pub tiles-tiled : (es : List Entry) (start : ℕ) → length es ≤ 13 → Tiles
 tiles-tiled es start n w = tiles-here es start [] (omega arith) w (all-alone es)
 
 -- an allowed layout of 13 slots
-pub record Allowed (start : ℕ) (layout : Layout) : Type 0 where
-  pub few : layout .count ≤ 13
-  pub count : length (entriesOf layout) ≡ layout .count
-  pub tiled : Tiled (entriesOf layout) start emptyLayout
-
-pub allowed-there : (start : ℕ) (layout : Layout) → allowed start layout ≡ true → length (layout .entries) ≡ 13 → Allowed start layout × (layout ≡ laid (entriesOf layout))
+pub allowed-there : (start : ℕ) (layout : Layout) → allowed start layout ≡ true → length (layout .entries) ≡ 13
+    → (length (entriesOf layout) ≤ 13) × (length (entriesOf layout) ≡ layout .count) × Tiles start (entriesOf layout) × (layout ≡ laid (entriesOf layout))
 unfolding allowed
 allowed-there start layout h n =
     let a = and-inv (leb (layout .count) 13 && allPlaced (entriesOf layout) start emptyLayout) _ h in
@@ -338,10 +333,9 @@ allowed-there start layout h n =
     let e : layout .entries ≡ entriesOf layout ++ replicate (13 - length (entriesOf layout)) unused =
     sym (take-append-drop (layout .count) (layout .entries))
     ∙ ap (λ x. entriesOf layout ++ x) z
-    ∙ ap (λ x. entriesOf layout ++ replicate (13 - x) unused) (sym k) in (
-      record { few = c; count = k; tiled = tiled-there (entriesOf layout) start emptyLayout (b .1) },
-      λ i. record { count = sym k i; entries = e i },
-    )
+    ∙ ap (λ x. entriesOf layout ++ replicate (13 - x) unused) (sym k) in
+    let few : length (entriesOf layout) ≤ 13 = omega arith in
+    (few, k, tiled-tiles (entriesOf layout) start few (tiled-there (entriesOf layout) start emptyLayout (b .1)), λ i. record { count = sym k i; entries = e i })
 
 -- a layout that a line can tell
 abbrev pub IsTold : Family → Layout → Type 0
@@ -422,22 +416,22 @@ unfolding entryTexts
 entries-length [] = refl
 entries-length (e ∷ es) = simp (length-append, entry-length, entries-length es) (omega arith)
 
-module _ (f : Family) (es : List Entry) (few : length es ≤ 13) (tiled : Tiled es (firstStart f) emptyLayout) where
+module _ (f : Family) (es : List Entry) where
   abbrev own : List ℕ
   own = layoutLetter f ∷ (digitsOf 2 (length es) ++ entryTexts es)
 
   own-length : length own ≡ 3 + 7 * length es
   own-length = simp (length-append, digits-length, entries-length) (omega arith)
 
-  own-clean : areValid own ≡ true
+  own-clean : Tiled es (firstStart f) emptyLayout → areValid own ≡ true
   unfolding areValid
-  own-clean = rw (letter-is f .1) (both-valid (digitsOf 2 (length es)) (entryTexts es) (digits-clean 2 (length es)) (entries-clean es _ _ tiled))
+  own-clean tiled = rw (letter-is f .1) (both-valid (digitsOf 2 (length es)) (entryTexts es) (digits-clean 2 (length es)) (entries-clean es _ _ tiled))
 
-  own-reads : layoutLine (firstStart f) own ≡ says (laid es)
+  own-reads : length es ≤ 13 → Tiled es (firstStart f) emptyLayout → layoutLine (firstStart f) own ≡ says (laid es)
   unfolding layoutLine layoutFields
-  own-reads =
+  own-reads few tiled =
       let n = own-length in
-      let s = shaped-here 3 99 own (omega arith) (omega arith) own-clean in
+      let s = shaped-here 3 99 own (omega arith) (omega arith) (own-clean tiled) in
       let c = number-here own 1 2 (length es) (entryTexts es) (omega arith) (omega arith) refl in
       let d = past own 1 2 3 (digitsOf 2 (length es)) (entryTexts es) (digits-length 2 (length es)) refl refl in
       let r = entries-here es own 3 (firstStart f) emptyLayout [] tiled (d ∙ sym (append-nil (entryTexts es))) in
@@ -490,16 +484,9 @@ module _ (f : Family) (layout : Layout) where
   unfolding layoutText
   own-line g n =
       let a = allowed-there (firstStart f) layout g n in
-      let x = a .0 in
-      let k : length (entriesOf layout) ≤ 13 = omega (arith, x .count, x .few) in
-      let t : layoutText f layout ≡ own f (entriesOf layout) k (x .tiled) = ap (λ i. layoutLetter f ∷ (digitsOf 2 i ++ entryTexts (entriesOf layout))) (sym (x .count)) in
-      record {
-        entries = entriesOf layout;
-        tiles = tiled-tiles (entriesOf layout) (firstStart f) k (x .tiled);
-        text = t;
-        short = omega (arith, ap length t, own-length f (entriesOf layout) k (x .tiled));
-        slots = a .1;
-      }
+      let es = entriesOf layout in
+      let t : layoutText f layout ≡ own f es = ap (λ i. layoutLetter f ∷ (digitsOf 2 i ++ entryTexts es)) (sym (a .1)) in
+      record { entries = es; tiles = a .2; text = t; short = omega (arith, a .0, ap length t, own-length f es); slots = a .3 }
 
   reads-text : (l : List ℕ) → layoutSaid f l ≡ says layout → l ≡ layoutText f layout
   unfolding layoutText

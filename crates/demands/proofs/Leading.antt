@@ -37,8 +37,8 @@ use Rattle.laws.proofs.Passing as passes
 use Rattle.demands.specs.Coming.{isAmong, lettersBefore}
 use Rattle.demands.specs.FieldTexts.{Letter}
 use Rattle.demands.specs.Grammar.{Follows, IsALine, IsDateLine, IsHLine, IsLayoutLine, IsHeadLine, IsPointLine, IsLLine, IsGLine, Timed, columned, event, satellites, Untimed, differential, remark, other}
-use Rattle.demands.proofs.Carried.{a-there, a-said, date-there, date-said, h-there, h-said, d-there, d-said, e-there, e-said, f-there, f-said, l-there, l-said, g-there, g-said, other-there, other-said}
-use Rattle.demands.proofs.Valued.{columned-letter, columned-there, columned-said, head-there, head-said, point-there, point-said}
+use Rattle.demands.proofs.Laws.{cond-false}
+use Rattle.demands.proofs.EachLine.{a-there, a-said, date-there, date-said, h-there, h-said, d-there, d-said, e-there, e-said, f-there, f-said, l-there, l-said, g-there, g-said, other-there, other-said, columned-letter, columned-there, columned-said, head-there, head-said, point-there, point-said}
 use Rattle.demands.proofs.LayoutLines.{IsTold, layout-there, layout-said, layout-allowed}
 
 -- ---- the families, one by one
@@ -58,12 +58,10 @@ put-by P family.B i ls h k = every (λ g. P g (layoutOf g (withLayout family.B i
 put-by P family.K i ls h k = every (λ g. P g (layoutOf g (withLayout family.K i ls))) (k family.B refl) h
 
 pub put-own : (f : Family) (i : Layout) (ls : Layouts) → layoutOf f (withLayout f i ls) ≡ i
-put-own family.B i ls = refl
-put-own family.K i ls = refl
+put-own f i ls = every (λ f. layoutOf f (withLayout f i ls) ≡ i) refl refl f
 
 pub same-family : (f : Family) → sameFamily f f ≡ true
-same-family family.B = refl
-same-family family.K = refl
+same-family = every (λ f. sameFamily f f ≡ true) refl refl
 
 pub is-same : (f g : Family) → sameFamily g f ≡ true → g ≡ f
 is-same family.B = every (λ g. sameFamily g family.B ≡ true → g ≡ family.B) (λ e. refl) (λ e. absurd (false-true e))
@@ -111,22 +109,18 @@ letter b =
     (λ r. inr (leb-false b 90 r))
 
 pub tells-letter : (f : Family) {b : ℕ} → Letter (role.Tells f) b → b ≡ layoutLetter f
-tells-letter family.B e = e
-tells-letter family.K e = e
+tells-letter f {b} = every (λ f. Letter (role.Tells f) b → b ≡ layoutLetter f) (λ e. e) (λ e. e) f
 
 pub line-letter : (f : Family) {b : ℕ} → Letter (role.Columned f) b → b ≡ lineLetter f
-line-letter family.B e = e
-line-letter family.K e = e
+line-letter f {b} = every (λ f. Letter (role.Columned f) b → b ≡ lineLetter f) (λ e. e) (λ e. e) f
 
 pub tells-role : (f : Family) → roleOf (kindOf (layoutLetter f)) ≡ role.Tells f
 unfolding kindOf
-tells-role family.B = refl
-tells-role family.K = refl
+tells-role = every (λ f. roleOf (kindOf (layoutLetter f)) ≡ role.Tells f) refl refl
 
 pub line-role : (f : Family) → roleOf (kindOf (lineLetter f)) ≡ role.Columned f
 unfolding kindOf
-line-role family.B = refl
-line-role family.K = refl
+line-role = every (λ f. roleOf (kindOf (lineLetter f)) ≡ role.Columned f) refl refl
 
 -- a line with a role has bytes
 pub not-empty : (l : List ℕ) → isRole (roleIn l) ≡ true → 1 ≤ length l
@@ -144,12 +138,12 @@ isTelling g = elim [ role.Opens ↦ false | role.Heads ↦ false | role.Tells f 
 abbrev pub isTiming : Role → Bool
 isTiming = elim [ role.Opens ↦ false | role.Heads ↦ false | role.Tells f ↦ false | role.Columned f ↦ true | role.Declares ↦ false | role.Event ↦ true | role.Satellites ↦ true | role.Differential ↦ false | role.Seals ↦ false | role.Remark ↦ false | role.Other ↦ false | role.NoRole ↦ false ]
 
-abbrev pub isSealing : Role → Bool
-isSealing = elim [ role.Opens ↦ false | role.Heads ↦ false | role.Tells f ↦ false | role.Columned f ↦ false | role.Declares ↦ false | role.Event ↦ false | role.Satellites ↦ false | role.Differential ↦ false | role.Seals ↦ true | role.Remark ↦ false | role.Other ↦ false | role.NoRole ↦ false ]
-
 -- the first part of a file that a line of this role leads to
 abbrev pub leadsTo : Role → ℕ
 leadsTo = elim [ role.Opens ↦ afterA | role.Heads ↦ afterH | role.Tells f ↦ afterLayout f | role.Columned f ↦ inBody | role.Declares ↦ inBody | role.Event ↦ inBody | role.Satellites ↦ inBody | role.Differential ↦ inBody | role.Seals ↦ afterG | role.Remark ↦ inBody | role.Other ↦ inBody | role.NoRole ↦ inBody ]
+
+abbrev pub isSealing : Role → Bool
+isSealing r = eqb (leadsTo r) afterG
 
 -- the tests of a first byte by the role, and those that ask for a family
 abbrev Plainly : Role → ℕ → Type 0
@@ -247,19 +241,17 @@ Sound st = (f : Family) → IsTold f (layoutOf f (st .flight .layouts))
 
 pub sound-start : Sound start
 unfolding allowed allPlaced leads isUnused
-sound-start family.B = (refl, refl)
-sound-start family.K = (refl, refl)
+sound-start = every (λ f. IsTold f (layoutOf f (start .flight .layouts))) (refl, refl) (refl, refl)
 
 -- ---- the order of roles
 
 -- while points are to come only a C line may
 pub plain-fits : (st : State) → fitsDeclaration false st ≡ true → st .points ≡ 0
 unfolding fitsDeclaration
-plain-fits st e = go (leb 1 (st .points)) refl e
-  where
-    go : (b : Bool) → leb 1 (st .points) ≡ b → cond b false true ≡ true → st .points ≡ 0
-    go true q e = absurd (false-true e)
-    go false q e = let h = leb-false 1 (st .points) q in omega arith
+plain-fits st e =
+    let c = cond-false (leb 1 (st .points)) false _ true false-true e in
+    let h = leb-false 1 (st .points) (c .0) in
+    omega arith
 
 fits-plain : (st : State) → st .points ≡ 0 → fitsDeclaration false st ≡ true
 unfolding fitsDeclaration

@@ -1,11 +1,8 @@
 pub mod Laws
-pub mod Tables
-pub mod Carried
 pub mod LayoutLines
 pub mod Columns
-pub mod Valued
+pub mod EachLine
 pub mod Leading
-pub mod Passing
 pub mod Sections
 pub mod Accepted
 pub mod FieldsThere

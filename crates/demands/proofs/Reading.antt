@@ -3,7 +3,7 @@
 use Prim.Native.Nat.{ℕ, zero, suc, _+_, _-_, _<_}
 use Prim.Native.Char.{code}
 use mathlib.Core.Bool.{true, false}
-use mathlib.Core.List.{List, [], _∷_, _++_, append-assoc, append-nil}
+use mathlib.Core.List.{List, [], _∷_, _++_, append-assoc}
 use mathlib.Core.Option.{some}
 use mathlib.Core.Path.{_≡_, refl, sym, _∙_, ap, subst}
 use native.Mathlib.Nat.{zero-add}
@@ -31,17 +31,16 @@ use Rattle.laws.proofs.Splitting as splitting
 use Rattle.laws.proofs.Counted.{accepted-whole, goodIn, table-length, entry-put, entry-kept, line-by-number}
 use Rattle.trips.proofs.Fixes.{fix-trip}
 use Rattle.trips.proofs.Extras.{extra-trip}
-use Rattle.demands.specs.Grammar.{Columns, IsColumned, IsGLine, IsLLine, AtMostOne, absent, given, Timed, Untimed, differential, remark, other, Items, done, timed, untimed, Body, undeclared, Parts, linesIn, Keeps, Meets, joinLines}
+use Rattle.demands.specs.Grammar.{Columns, IsColumned, IsGLine, IsLLine, AtMostOne, absent, given, Timed, Untimed, differential, remark, other, Items, done, timed, untimed, Body, undeclared, Parts, linesIn, Keeps, Meets}
 use Rattle.demands.specs.Grammar as grammar
 use Rattle.demands.specs.Coming.{isAmong}
 use Rattle.demands.specs.Readings.{ReadsColumns, ReadsColumned, ReadsLine, NoC, ReadsDeclaration, nowhere, declared, total, Steps, Readable}
 use Rattle.demands.proofs.Laws.{each-map, each-join}
-use Rattle.demands.proofs.Carried.{e-said, f-said}
-use Rattle.demands.proofs.Valued.{start-low, fix-reads, extra-reads, columned-letter, columned-said, head-reads, point-reads, head-said, point-said}
+use Rattle.demands.proofs.EachLine.{e-said, f-said, start-low, fix-reads, extra-reads, columned-letter, columned-said, head-reads, point-reads, head-said, point-said}
 use Rattle.demands.proofs.LayoutLines.{IsTold, layout-said, told}
 use Rattle.demands.proofs.Leading.{every, same-letter}
-use Rattle.demands.proofs.Passing.{before, lines-joined}
-use Rattle.demands.proofs.Accepted.{accepted-as}
+use Rattle.demands.proofs.Sections.{before}
+use Rattle.demands.proofs.Accepted.{lines-cut, accepted-as}
 use Rattle.demands.proofs.Columns.{columns-read}
 
 -- ---- the lines of the file are those of the grammar
@@ -49,12 +48,6 @@ use Rattle.demands.proofs.Columns.{columns-read}
 texts-before : (ls : List (List ℕ)) → textsOf (before ls end) ≡ ls
 texts-before [] = refl
 texts-before (l ∷ ls) = ap (λ x. l ∷ x) (texts-before ls)
-
-lines-cut : {seal : Seal} (file : List ℕ) (m : Meets seal file) → linesOf file ≡ before (linesIn (m .parts)) end
-unfolding linesOf
-lines-cut file m =
-    let ls = linesIn (m .parts) in
-    ap linesOf (m .bytes ∙ sym (append-nil (joinLines ls))) ∙ lines-joined ls [] (m .texts)
 
 pub lines-are : {seal : Seal} (file : List ℕ) (m : Meets seal file) → textsOf (linesOf file) ≡ linesIn (m .parts)
 lines-are file m = ap textsOf (lines-cut file m) ∙ texts-before (linesIn (m .parts))
@@ -155,16 +148,13 @@ module _ (layouts : Layouts) (can-tell : (f : Family) → IsTold f (layoutOf f l
   items-read (timed {l = l} w r) = (timed-item l w, items-read r)
   items-read (untimed {l = l} w r) = let h = untimed-aside w in ((aside-reads layouts l h, aside-no-c l h), items-read r)
 
-  lines-of : (ls : List (List ℕ)) → Each Item ls → Each (ReadsLine layouts) ls
-  lines-of ls h = each-map ls (λ l x. x .0) h
-
   body-reads : {ls : List (List ℕ)} {ts : List ℕ} → Body layouts ls ts → Each (ReadsLine layouts) ls
   unfolding isAmong bytes
-  body-reads (undeclared {ls = ls} i) = lines-of ls (items-read i)
+  body-reads (undeclared {ls = ls} i) = each-map ls (λ l x. x .0) (items-read i)
   body-reads (grammar.declared pre hd points after h i no-b w ps c j) =
-      each-join (ReadsLine layouts) pre (hd ∷ (points ++ after)) (lines-of pre (items-read i)) (
+      each-join (ReadsLine layouts) pre (hd ∷ (points ++ after)) (each-map pre (λ l x. x .0) (items-read i)) (
         no-family hd (rw (head-said h hd w .0)) layouts,
-        each-join (ReadsLine layouts) points after (each-map points (λ l v. no-family l (rw (point-said l v .0)) layouts) ps) (lines-of after (items-read j)),
+        each-join (ReadsLine layouts) points after (each-map points (λ l v. no-family l (rw (point-said l v .0)) layouts) ps) (each-map after (λ l x. x .0) (items-read j)),
       )
 
   -- the declaration of a body, between lines that are no C lines

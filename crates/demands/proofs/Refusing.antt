@@ -11,7 +11,7 @@ use native.Mathlib.Omega.{arith}
 use borrow.Author.Tests.{le-leb, leb-true, leb-false, eqb-true, eqb-false, ne-eqb, eq-eqb, ltb-true, lt-ltb, lt-leb}
 use lib.Dec.{eqb, leb, ltb}
 use lib.ListN.{length, getD}
-use Rattle.rules.specs.Choice.{byte, bytes, Each, need}
+use Rattle.rules.specs.Choice.{byte, bytes, Each}
 use Rattle.rules.specs.Choice as choice
 use Rattle.rules.specs.Families.{layoutLetter}
 use Rattle.rules.specs.Fields.{timeAt}
@@ -26,14 +26,17 @@ use Rattle.rules.specs.declared.Seal.{Seal}
 use Rattle.rules.specs.declared.Seal.the-variants as seal
 use Rattle.rules.proofs.Inverse.{false-true}
 use Rattle.laws.proofs.Passing as passes
+use Rattle.laws.proofs.Chains.{by-need, by-test}
 use Rattle.laws.proofs.Splitting.{cut, none-left, lines-of-line}
 use Rattle.laws.proofs.Counted.{judged-more}
 use Rattle.demands.specs.Grammar.{Follows, AtMostOne, given, beginning, IsText}
 use Rattle.demands.specs.Coming.{isAmong, pointsOf, isOpen, Open, those, lastTime, NoTime, Latest, isInTime, Meant}
 use Rattle.demands.specs.Faults.{PassAfter, Before, NoEnd, none-comes, lf-alone, cr-alone, Unsealed, Refused, empty, too-long, line-end, in-line, table-full, ends-early}
-use Rattle.demands.proofs.Valued.{head-said}
-use Rattle.demands.proofs.Passing.{Passes, done, next, all-passed, before, text-is, is-text, begins, lines-joined, none-fit, Stops, ended, endless, faulty, full, comes, passes-run, stops-run}
-use Rattle.demands.proofs.Standing.{head-points, or-true, Declaration, undeclared, declared, open-behind, declaration-told, laid-out, Stands, stands-start, stands-next}
+use Rattle.demands.proofs.Laws.{or-true}
+use Rattle.demands.proofs.EachLine.{head-said}
+use Rattle.demands.proofs.Leading.{some-points}
+use Rattle.demands.proofs.Sections.{Passes, done, next, all-passed, before, text-is, is-text, begins, lines-joined, none-fit, Stops, ended, endless, faulty, full, comes, passes-run, stops-run}
+use Rattle.demands.proofs.Standing.{head-points, Declaration, undeclared, declared, open-behind, declaration-told, laid-out, Stands, stands-start, stands-next}
 use Rattle.demands.proofs.Faulty.{judge-passes, passes-judge, judge-fails, fails-judge}
 
 -- ---- lines that pass
@@ -205,16 +208,9 @@ module _ (seal : Seal) (file : List ℕ) (room : Option ℕ) where
 
   early : (lines : List (List ℕ)) (st : State) → Before file room lines [] → Stands lines st → Means (finish seal st)
   unfolding finish number
-  early lines st w v = go (eqb (st .points) 0) (leb (endsAfter seal) (st .stage)) refl refl
-    where
-      go : (x y : Bool) → eqb (st .points) 0 ≡ x → leb (endsAfter seal) (st .stage) ≡ y
-          → Means (need x (refuses 16 (st .flight .lines + 1) 0) λ u. need y (refuses 16 (st .flight .lines + 1) 0) λ v. says (st .flight))
-      go true true p q = tt
-      go true false p q =
-          rw (v .lines) (ends-early lines w (inr (missing seal lines st v .0 (leb-false (endsAfter seal) (st .stage) q))))
-      go false y p q =
-          let i = eqb-false (st .points) 0 p in
-          rw (v .lines) (ends-early lines w (inl (opened lines st v .0 (omega arith))))
+  early lines st w v =
+      by-test Means (eqb (st .points) 0) _ _ (λ p. rw (v .lines) (ends-early lines w (inl (opened lines st v .0 (some-points (st .points) (eqb-false _ _ p)))))) λ p.
+      by-test Means (leb (endsAfter seal) (st .stage)) _ (λ u. says (st .flight)) (λ q. rw (v .lines) (ends-early lines w (inr (missing seal lines st v .0 (leb-false _ _ q))))) λ q. tt
 
   -- where the check stops, its answer means what it says
   stopped : (lines : List (List ℕ)) (st : State) (k : Lines) (x : Said Flight) (rest : List ℕ) → Before file room lines rest → linesOf rest ≡ k → Stands lines st
@@ -232,45 +228,33 @@ module _ (seal : Seal) (file : List ℕ) (room : Option ℕ) where
 
   means : Means (verdict seal file room)
   unfolding verdict number
-  means = go (leb 1 (length file)) (leb (length file) 16777216) refl refl
-    where
-      go : (x y : Bool) → leb 1 (length file) ≡ x → leb (length file) 16777216 ≡ y
-          → Means (need x (refuses 1 0 0) λ u. need y (refuses 2 0 0) λ v. run seal room start (linesOf file))
-      go false y p q = let i = leb-false 1 (length file) p in empty (omega arith)
-      go true false p q = too-long (leb-false (length file) 16777216 q)
-      go true true p q =
-          let c = comes seal room (linesOf file) start (none-fit room) in
-          let b = begins (c .lines) file (c .left) (c .parted) in
-          let v = passes-behind [] stands-start (c .passes) in
-          let w : Before file room (c .lines) (b .rest) = record {
-            least = leb-true _ _ p;
-            most = leb-true _ _ q;
-            bytes = b .bytes;
-            texts = b .texts;
-            passes = v .0;
-            fits = rw (all-passed (c .passes)) at (c .fits);
-          } in
-          stopped (c .lines) (c .state) (c .left) (run seal room start (linesOf file)) (b .rest) w (b .lines) (v .1) (c .stops)
+  means =
+      by-test Means (leb 1 (length file)) _ _ (λ p. let i = leb-false 1 (length file) p in empty (omega arith)) λ p.
+      by-test Means (leb (length file) 16777216) _ _ (λ q. too-long (leb-false (length file) 16777216 q)) λ q.
+      let c = comes seal room (linesOf file) start (none-fit room) in
+      let b = begins (c .lines) file (c .left) (c .parted) in
+      let v = passes-behind [] stands-start (c .passes) in
+      let fits = rw (all-passed (c .passes)) at (c .fits) in
+      let w : Before file room (c .lines) (b .rest) = record { least = leb-true _ _ p; most = leb-true _ _ q; bytes = b .bytes; texts = b .texts; passes = v .0; fits = fits } in
+      stopped (c .lines) (c .state) (c .left) (run seal room start (linesOf file)) (b .rest) w (b .lines) (v .1) (c .stops)
 
   refused-there : (n l b : ℕ) → verdict seal file room ≡ refuses n l b → Refused seal file room n l b
   refused-there n l b e = rw e at means
 
   -- where the check stands when it has gone through the lines before
-  record Gone (lines : List (List ℕ)) : Type 0 where
-    state : State
-    passes : Passes start lines state
-    behind : Stands lines state
+  abbrev Gone : List (List ℕ) → Type 0
+  Gone lines = (s : State) × Passes start lines s × Stands lines s
 
   gone : (lines : List (List ℕ)) (rest : List ℕ) → Before file room lines rest → Gone lines
-  gone lines rest w = let r = behind-passes [] lines start stands-start (w .passes) in record { state = r .0; passes = r .1; behind = r .2 }
+  gone lines rest w = behind-passes [] lines start stands-start (w .passes)
 
   -- it answers for what is left
   goes : (lines : List (List ℕ)) (rest : List ℕ) (k : Lines) (x : Said Flight) → Before file room lines rest → linesOf rest ≡ k → (h : Gone lines)
-      → Stops seal room (h .state) k x → verdict seal file room ≡ x
+      → Stops seal room (h .0) k x → verdict seal file room ≡ x
   unfolding verdict
   goes lines rest k x w e h s =
       let l : linesOf file ≡ before lines k = ap linesOf (w .bytes) ∙ lines-joined lines rest (w .texts) ∙ ap (before lines) e in
-      rw (le-leb _ _ (w .least), le-leb _ _ (w .most), l) (passes-run seal room k (h .passes) (rw (h .behind .lines) (w .fits)) ∙ stops-run seal room (h .state) s)
+      rw (le-leb _ _ (w .least), le-leb _ _ (w .most), l) (passes-run seal room k (h .1) (rw (h .2 .lines) (w .fits)) ∙ stops-run seal room (h .0) s)
 
   finish-early : (lines : List (List ℕ)) (st : State) → Stands lines st → Open lines ⊎ Unsealed seal lines
       → finish seal st ≡ refuses 16 (st .flight .lines + 1) 0
@@ -278,12 +262,8 @@ module _ (seal : Seal) (file : List ℕ) (room : Option ℕ) where
   finish-early lines st v (inl h) =
       let i = opened lines st v .1 h in
       rw (ne-eqb (st .points) 0 (λ z. omega arith))
-  finish-early lines st v (inr h) = go (eqb (st .points) 0)
-    where
-      go : (x : Bool) → need x (refuses 16 (st .flight .lines + 1) 0) (λ u. need (leb (endsAfter seal) (st .stage)) (refuses 16 (st .flight .lines + 1) 0) λ v. says (st .flight))
-          ≡ refuses 16 (st .flight .lines + 1) 0
-      go true = rw (lt-leb (endsAfter seal) (st .stage) (missing seal lines st v .1 h))
-      go false = refl
+  finish-early lines st v (inr h) =
+      by-need (λ x. x ≡ refuses 16 (st .flight .lines + 1) 0) (eqb (st .points) 0) _ _ refl (rw (lt-leb (endsAfter seal) (st .stage) (missing seal lines st v .1 h)))
 
   refused-here : {n l b : ℕ} → Refused seal file room n l b → verdict seal file room ≡ refuses n l b
   unfolding verdict number linesOf
@@ -291,20 +271,20 @@ module _ (seal : Seal) (file : List ℕ) (room : Option ℕ) where
   refused-here (too-long h) = rw (le-leb 1 (length file) (omega arith), lt-leb (length file) 16777216 h)
   refused-here (line-end lines rest i w e) =
       let h = gone lines rest w in
-      rw (← h .behind .lines) (goes lines rest (broken i) _ w (end-none e) h (endless i))
+      rw (← h .2 .lines) (goes lines rest (broken i) _ w (end-none e) h (endless i))
   refused-here (in-line lines l rest i b w t f) =
       let h = gone lines (l ++ (13 ∷ 10 ∷ rest)) w in
-      rw (← h .behind .lines)
+      rw (← h .2 .lines)
       (goes lines (l ++ (13 ∷ 10 ∷ rest)) (line l (linesOf rest)) _ w (lines-of-line l rest (is-text l t)) h
-      (faulty i 0 b (fails-judge lines l (h .state) (h .behind) i b f)))
+      (faulty i 0 b (fails-judge lines l (h .0) (h .2) i b f)))
   refused-here (table-full lines l rest w t p r) =
       let h = gone lines (l ++ (13 ∷ 10 ∷ rest)) w in
-      let m = passes-judge lines l (h .state) (h .behind) p in
-      let i : m .0 .flight .lines ≡ length lines + 1 = judged-more l (h .state) (m .0) (m .1) .lines ∙ ap (λ y. y + 1) (h .behind .lines) in
+      let m = passes-judge lines l (h .0) (h .2) p in
+      let i : m .0 .flight .lines ≡ length lines + 1 = judged-more l (h .0) (m .0) (m .1) .lines ∙ ap (λ y. y + 1) (h .2 .lines) in
       rw (← i) (goes lines (l ++ (13 ∷ 10 ∷ rest)) (line l (linesOf rest)) _ w (lines-of-line l rest (is-text l t)) h (full (m .0) (m .1) (ap (λ x. hasRoom x (m .0 .flight .lines)) r ∙ lt-leb (m .0 .flight .lines) (length lines) (omega arith))))
   refused-here (ends-early lines w e) =
       let h = gone lines [] w in
-      goes lines [] end _ w refl h ended ∙ finish-early lines (h .state) (h .behind) e ∙ ap (λ x. refuses 16 (x + 1) 0) (h .behind .lines)
+      goes lines [] end _ w refl h ended ∙ finish-early lines (h .0) (h .2) e ∙ ap (λ x. refuses 16 (x + 1) 0) (h .2 .lines)
 
 -- what each refusal of a file means
 pub refused-first : (seal : Seal) (file : List ℕ) (room : Option ℕ) (n l b : ℕ) → (verdict seal file room ≡ refuses n l b) ↔ Refused seal file room n l b

@@ -1,35 +1,169 @@
--- Lines that pass come part by part, each part's lines are what the grammar calls them, and lines that the grammar allows pass. Assumes nothing.
-use Prim.Native.Nat.{ℕ, zero, suc, _+_, _-_, _≤_}
+-- The check goes through the lines of a file, each judged good after those before it, to where it stops, and answers as it stops. Lines that pass come part by part, each part's
+-- lines are what the grammar calls them, and lines that the grammar allows pass. Assumes nothing.
+use Prim.Native.Nat.{ℕ, _+_, _≤_, zero, suc, _-_}
 use Prim.Native.Char.{code}
-use mathlib.Core.Bool.{Bool, true, false, cond}
-use mathlib.Core.List.{List, [], _∷_, _++_, append-nil}
+use mathlib.Core.Bool.{true, false, Bool, cond}
+use mathlib.Core.List.{List, [], _∷_, _++_, append-assoc, append-nil}
 use mathlib.Core.Path.{_≡_, refl, sym, _∙_, ap, subst}
+use mathlib.Core.Option.{Option, none, some}
 use native.Mathlib.Omega.{arith}
-use borrow.Author.Tests.{leb-true, leb-false, eqb-false, ne-eqb}
-use lib.Dec.{eqb, leb}
+use borrow.Author.Tests.{le-leb, leb-true, leb-false, eqb-false, ne-eqb}
 use lib.ListN.{length, getD}
-use Rattle.rules.specs.Choice.{Each}
+use lib.Dec.{eqb, leb}
+use Rattle.rules.specs.Choice.{need, Each}
+use Rattle.rules.specs.Refusals.{number, Said, says, refuses, inLine, andThen}
+use Rattle.rules.specs.Split.{Lines, end, broken, line, linesOf}
+use Rattle.rules.specs.Order.{start, judge, moved, laidOut, begun, pointed}
+use Rattle.rules.specs.Files.{finish, hasRoom, run, endsAfter}
+use Rattle.rules.specs.declared.Reason.the-variants as reason
+use Rattle.rules.specs.declared.Flight.{Flight}
+use Rattle.rules.specs.declared.Seal.{Seal}
+use Rattle.rules.specs.declared.State.{State}
 use Rattle.rules.specs.Families.{layoutOf, countOf}
 use Rattle.rules.specs.Layouts.{emptyLayout}
 use Rattle.rules.specs.Roles.{sameFamily, afterA, afterH, afterLayout, inBody, afterG, afterLastG}
-use Rattle.rules.specs.Files.{endsAfter}
-use Rattle.rules.specs.Order.{moved, laidOut, begun, pointed}
 use Rattle.rules.specs.declared.Layout.{Layout}
 use Rattle.rules.specs.declared.Layouts.{Layouts}
 use Rattle.rules.specs.declared.Counts.{Counts}
 use Rattle.rules.specs.declared.Family.{Family}
 use Rattle.rules.specs.declared.Family.the-variants as family
-use Rattle.rules.specs.declared.Seal.{Seal}
 use Rattle.rules.specs.declared.Seal.the-variants as needs
-use Rattle.rules.specs.declared.State.{State}
-use Rattle.rules.proofs.Inverse.{false-true}
-use Rattle.demands.specs.Grammar.{Follows, OrderFrom, IsHLine, IsPointLine, IsLLine, IsGLine, AtMostOne, absent, given, Timed, columned, event, satellites, Untimed, differential, remark, other, Items, Body, undeclared, declared, SealedBy}
+use Rattle.rules.proofs.Inverse.{refuses-says, false-true}
+use Rattle.laws.proofs.Chains.{by-test}
+use Rattle.laws.proofs.Splitting.{Text, cut, lines-of-line}
+use Rattle.laws.proofs.Counted.{judged-more}
+use Rattle.demands.specs.Grammar.{IsText, joinLines, Follows, OrderFrom, IsHLine, IsPointLine, IsLLine, IsGLine, AtMostOne, absent, given, Timed, columned, event, satellites, Untimed, differential, remark, other, Items, Body, undeclared, declared, SealedBy}
 use Rattle.demands.specs.Grammar as grammar
-use Rattle.demands.proofs.Carried.{e-said, f-said}
-use Rattle.demands.proofs.Valued.{columned-letter}
+use Rattle.demands.proofs.EachLine.{e-said, f-said, columned-letter}
 use Rattle.demands.proofs.Leading.{put-own, put-others, Part, recorder, header, telling, body, seal, remarks, countedBy, noted, InBody, head, point, timed, quiet, Leads, a-line, date-line, h-line, layout-line, body-line, g-line, l-line, Sound, judge-leads, leads-judge, stays-sound}
-use Rattle.demands.proofs.Passing.{Passes}
-use Rattle.demands.proofs.Passing as passing
+
+-- ---- a run of good lines
+
+-- each line is judged good after those before it, from one state to another
+pub data Passes : State → List (List ℕ) → State → Type 0 where
+  done : {st : State} → Passes st [] st
+  next : {st m s : State} {l : List ℕ} {ls : List (List ℕ)} → judge l st ≡ says m → Passes m ls s → Passes st (l ∷ ls) s
+
+pub passes-join : {a b c : State} {ls ks : List (List ℕ)} → Passes a ls b → Passes b ks c → Passes a (ls ++ ks) c
+passes-join done q = q
+passes-join (next e p) q = next e (passes-join p q)
+
+pub lines-passed : {st s : State} {ls : List (List ℕ)} → Passes st ls s → s .flight .lines ≡ st .flight .lines + length ls
+lines-passed done = omega arith
+lines-passed (next {st = st} {m = m} {l = l} e p) = omega (arith, judged-more l st m e .lines, lines-passed p)
+
+pub all-passed : {s : State} {ls : List (List ℕ)} → Passes start ls s → s .flight .lines ≡ length ls
+all-passed p = omega (arith, lines-passed p)
+
+-- ---- lines, and then what is left
+
+abbrev pub before : List (List ℕ) → Lines → Lines
+before [] k = k
+before (l ∷ ls) k = line l (before ls k)
+
+pub text-is : (l : List ℕ) → Text l → IsText l
+text-is [] h = tt
+text-is (b ∷ l) h = ((h .0, h .1), text-is l (h .2))
+
+pub is-text : (l : List ℕ) → IsText l → Text l
+is-text [] h = tt
+is-text (b ∷ l) h = (h .0 .0, h .0 .1, is-text l (h .1))
+
+-- a file whose first lines are these is those lines, each with its CR LF, and what the others are read from
+pub record Begins (file : List ℕ) (ls : List (List ℕ)) (k : Lines) : Type 0 where
+  pub rest : List ℕ
+  pub bytes : file ≡ joinLines ls ++ rest
+  pub texts : Each IsText ls
+  pub lines : linesOf rest ≡ k
+
+pub begins : (ls : List (List ℕ)) (file : List ℕ) (k : Lines) → linesOf file ≡ before ls k → Begins file ls k
+unfolding joinLines
+begins [] file k e = record { rest = file; bytes = refl; texts = tt; lines = e }
+begins (l ∷ ls) file k e =
+    let c = cut file l (before ls k) e in
+    let b = begins ls (c .rest) k (c .lines) in
+    record {
+      rest = b .rest;
+      bytes = c .bytes ∙ ap (λ r. l ++ (13 ∷ 10 ∷ r)) (b .bytes) ∙ sym (append-assoc l (13 ∷ 10 ∷ joinLines ls) (b .rest));
+      texts = (text-is l (c .clear), b .texts);
+      lines = b .lines;
+    }
+
+pub lines-joined : (ls : List (List ℕ)) (rest : List ℕ) → Each IsText ls → linesOf (joinLines ls ++ rest) ≡ before ls (linesOf rest)
+unfolding joinLines
+lines-joined [] rest h = refl
+lines-joined (l ∷ ls) rest h =
+    ap linesOf (append-assoc l (13 ∷ 10 ∷ joinLines ls) rest)
+    ∙ lines-of-line l (joinLines ls ++ rest) (is-text l (h .0))
+    ∙ ap (line l) (lines-joined ls rest (h .1))
+
+-- ---- where the check stops
+
+-- a table that has room for more lines has room for fewer
+fewer-fit : (room : Option ℕ) (n m : ℕ) → n ≤ m → hasRoom room m ≡ true → hasRoom room n ≡ true
+fewer-fit none n m h e = refl
+fewer-fit (some entries) n m h e = let i = leb-true m entries e in le-leb n entries (omega arith)
+
+pub none-fit : (room : Option ℕ) → hasRoom room 0 ≡ true
+none-fit none = refl
+none-fit (some entries) = le-leb 0 entries (omega arith)
+
+module _ (seal : Seal) (room : Option ℕ) where
+  -- the check can go no further, and its answer
+  pub data Stops (st : State) : Lines → Said Flight → Type 0 where
+    ended : Stops st end (finish seal st)
+    endless : (n : ℕ) → Stops st (broken n) (refuses (number reason.LineEnd) (st .flight .lines + 1) (n + 1))
+    faulty : {l : List ℕ} {ls : Lines} (n k b : ℕ) → judge l st ≡ refuses n k b → Stops st (line l ls) (refuses n (st .flight .lines + 1) b)
+    full : {l : List ℕ} {ls : Lines} (m : State) → judge l st ≡ says m → hasRoom room (m .flight .lines) ≡ false
+        → Stops st (line l ls) (refuses (number reason.TableFull) (m .flight .lines) 0)
+
+  -- the lines that pass, and where the check stops behind them
+  pub record Comes (st : State) (k : Lines) (x : Said Flight) : Type 0 where
+    pub lines : List (List ℕ)
+    pub left : Lines
+    pub state : State
+    pub parted : k ≡ before lines left
+    pub passes : Passes st lines state
+    pub fits : hasRoom room (state .flight .lines) ≡ true
+    pub stops : Stops state left x
+
+  pub comes : (k : Lines) (st : State) → hasRoom room (st .flight .lines) ≡ true → Comes st k (run seal room st k)
+  unfolding run
+  comes end st h = record { lines = []; left = end; state = st; parted = refl; passes = done; fits = h; stops = ended }
+  comes (broken n) st h = record { lines = []; left = broken n; state = st; parted = refl; passes = done; fits = h; stops = endless n }
+  comes (line l ls) st h = go (judge l st) refl (λ m. comes ls m)
+    where
+      go : (x : Said State) → judge l st ≡ x → ((m : State) → hasRoom room (m .flight .lines) ≡ true → Comes m ls (run seal room m ls))
+          → Comes st (line l ls) (andThen (inLine (st .flight .lines + 1) x) λ after.
+          need (hasRoom room (after .flight .lines)) (refuses (number reason.TableFull) (after .flight .lines) 0) λ u. run seal room after ls)
+      go (refuses n k b) e f = record { lines = []; left = line l ls; state = st; parted = refl; passes = done; fits = h; stops = faulty n k b e }
+      go (says m) e f =
+          by-test (Comes st (line l ls)) (hasRoom room (m .flight .lines)) _ _
+          (λ q. record { lines = []; left = line l ls; state = st; parted = refl; passes = done; fits = h; stops = full m e q }) λ q.
+          let c = f m q in
+          record { lines = l ∷ c .lines; left = c .left; state = c .state; parted = ap (line l) (c .parted); passes = next e (c .passes); fits = c .fits; stops = c .stops }
+
+  -- and back: the check goes through lines that pass, and answers as it stops
+
+  pub passes-run : (k : Lines) {st s : State} {ls : List (List ℕ)} → Passes st ls s → hasRoom room (s .flight .lines) ≡ true → run seal room st (before ls k) ≡ run seal room s k
+  unfolding run
+  passes-run k done h = refl
+  passes-run k (next {m = m} {s = s} e p) h =
+      rw (e, fewer-fit room (m .flight .lines) (s .flight .lines) (omega (arith, lines-passed p)) h) (passes-run k p h)
+
+  pub stops-run : (st : State) {k : Lines} {x : Said Flight} → Stops st k x → run seal room st k ≡ x
+  unfolding run
+  stops-run st ended = refl
+  stops-run st (endless n) = refl
+  stops-run st (faulty n k b e) = rw e
+  stops-run st (full m e h) = rw (e, h)
+
+  -- a value is said only at the end
+  pub at-end : (st : State) (k : Lines) (x : Said Flight) (f : Flight) → Stops st k x → x ≡ says f → (k ≡ end) × (finish seal st ≡ says f)
+  at-end st k x f ended e = (refl, e)
+  at-end st k x f (endless n) e = absurd (refuses-says e)
+  at-end st k x f (faulty n i b j) e = absurd (refuses-says e)
+  at-end st k x f (full m j h) e = absurd (refuses-says e)
 
 -- ---- parts come in their order
 
@@ -80,12 +214,12 @@ ranks (l-line a b p w) = (b, refl, omega arith)
 
 -- lines of parts from n on, in the order of parts
 pub data Above : ℕ → State → List (List ℕ) → State → Type 0 where
-  none : {n : ℕ} {st : State} → Above n st [] st
+  no-more : {n : ℕ} {st : State} → Above n st [] st
   more : {n : ℕ} {st m s : State} {l : List ℕ} {ls : List (List ℕ)} (q : Part) → n ≤ rank q → Leads st l q m → Above (rank q) m ls s → Above n st (l ∷ ls) s
 
 pub passes-above : {st s : State} {ls : List (List ℕ)} → Passes st ls s → Sound st → Above (st .stage) st ls s
-passes-above passing.done g = none
-passes-above (passing.next {st = st} {m = m} {s = s} {l = l} {ls = ls} e p) g =
+passes-above done g = no-more
+passes-above (next {st = st} {m = m} {s = s} {l = l} {ls = ls} e p) g =
     let w = judge-leads l st m g e in
     let r = ranks (w .1) in
     more (w .0) (r .0) (w .1) (subst (λ n. Above n m ls s) (r .1) (passes-above p (stays-sound l st (w .1) g)))
@@ -105,32 +239,25 @@ pub record Split (p : Part) (st : State) (ls : List (List ℕ)) (s : State) : Ty
   pub later : Above (suc (rank p)) state rest s
 
 pub split : (p : Part) {n : ℕ} {st s : State} {ls : List (List ℕ)} → rank p ≤ n → Above n st ls s → Split p st ls s
-split p h (none {st = st}) = record { front = []; rest = []; state = st; lines = refl; section = empty; later = none }
+split p h (no-more {st = st}) = record { front = []; rest = []; state = st; lines = refl; section = empty; later = no-more }
 split p h (more {n = n} {st = st} {m = m} {s = s} {l = l} {ls = ls} q g w a) = go (leb (rank q) (rank p)) refl (λ i. split p i a)
   where
     go : (b : Bool) → leb (rank q) (rank p) ≡ b → (rank p ≤ rank q → Split p m ls s) → Split p st (l ∷ ls) s
     go true e f =
         let i : q ≡ p = same-part q p (omega (arith, leb-true (rank q) (rank p) e)) in
         let r = f (omega arith) in
-        record {
-          front = l ∷ r .front;
-          rest = r .rest;
-          state = r .state;
-          lines = ap (λ x. l ∷ x) (r .lines);
-          section = also (rw i at w) (r .section);
-          later = r .later;
-        }
+        record { front = l ∷ r .front; rest = r .rest; state = r .state; lines = ap (λ x. l ∷ x) (r .lines); section = also (rw i at w) (r .section); later = r .later }
     go false e f =
         record { front = []; rest = l ∷ ls; state = st; lines = refl; section = empty; later = more q (leb-false _ _ e) w a }
 
-pub above-end : {st s : State} {ls : List (List ℕ)} → Above 8 st ls s → (ls ≡ []) × (s ≡ st)
-above-end none = (refl, refl)
+pub above-end : {st s : State} {ls : List (List ℕ)} → Above (suc afterLastG) st ls s → (ls ≡ []) × (s ≡ st)
+above-end no-more = (refl, refl)
 above-end (more q g w a) = absurd (omega (arith, ranks w .2))
 
 -- lines of a part pass, and leave layouts that lines can tell
 pub section-passes : {p : Part} {st m : State} {ls : List (List ℕ)} → Sound st → Section p st ls m → Passes st ls m × Sound m
-section-passes g empty = (passing.done, g)
-section-passes g (also {st = st} {l = l} w r) = let x = section-passes (stays-sound l st w g) r in (passing.next (leads-judge l st g w) (x .0), x .1)
+section-passes g empty = (done, g)
+section-passes g (also {st = st} {l = l} w r) = let x = section-passes (stays-sound l st w g) r in (next (leads-judge l st g w) (x .0), x .1)
 
 -- ---- what the lines of a part leave as it was
 
@@ -380,8 +507,8 @@ remark-led l st w a b p = go (leb (st .stage) inBody) refl
 
 pub remarks-here : (ls : List (List ℕ)) (st : State) → Sound st → Each IsLLine ls → afterH ≤ st .stage → st .stage ≤ afterLastG → st .points ≡ 0
     → (m : State) × Passes st ls m × (m .points ≡ 0) × (st .stage ≤ m .stage) × Same st m
-remarks-here [] st g h a b p = (st, passing.done, p, omega arith, (refl, refl))
+remarks-here [] st g h a b p = (st, done, p, omega arith, (refl, refl))
 remarks-here (l ∷ ls) st g h a b p =
     let x = remark-led l st (h .0) a b p in
     let r = remarks-here ls (moved (x .0) st) g (h .1) (omega (arith, x .1)) (x .2) p in
-    (r .0, passing.next (leads-judge l st g (x .3 .1)) (r .1), r .2, omega (arith, x .1), r .4)
+    (r .0, next (leads-judge l st g (x .3 .1)) (r .1), r .2, omega (arith, x .1), r .4)

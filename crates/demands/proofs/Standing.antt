@@ -32,9 +32,8 @@ use Rattle.demands.specs.Grammar.{IsHeadLine, IsPointLine, AtMostOne, ab
 use Rattle.demands.specs.Grammar as grammar
 use Rattle.demands.specs.Coming.{orZero, isAmong, only, without, endsWith, pointsOf, isOpen, lettersBefore, those, firstEntries, lastTime}
 use Rattle.demands.specs.FieldTexts.{Letter}
-use Rattle.demands.proofs.Laws.{each-join}
-use Rattle.demands.proofs.Carried.{e-inv, f-inv}
-use Rattle.demands.proofs.Valued.{columned-time, head-reads, head-said, head-there, point-there}
+use Rattle.demands.proofs.Laws.{or-true, each-join}
+use Rattle.demands.proofs.EachLine.{e-inv, f-inv, columned-time, head-reads, head-said, head-there, point-there}
 use Rattle.demands.proofs.LayoutLines.{there, layout-laid, layout-there, layout-said}
 use Rattle.demands.proofs.Leading.{every, put-by, same-family, is-same, letter, tells-letter, isTelling, isTiming, isSealing, leadsTo, letter-tests, counts-more, Sound, sound-start, some-points, plain-fits, head-fits, order-inv, judge-leads, stays-sound}
 use Rattle.demands.proofs.Sections.{layout-stage}
@@ -53,10 +52,6 @@ and-false false = refl
 pub and-true : (t : Bool) → (t && true) ≡ t
 and-true true = refl
 and-true false = refl
-
-pub or-true : (t : Bool) → (t || true) ≡ true
-or-true true = refl
-or-true false = refl
 
 pub and-assoc : (a b c : Bool) → (a && (b && c)) ≡ ((a && b) && c)
 and-assoc true b c = refl
@@ -217,78 +212,59 @@ record Moves (r : Role) (s c : ℕ) : Type 0 where
   sealing : leb c afterG ≡ ((leb s inBody && not (isSealing r)) || isSealing r)
 
 module _ (s c : ℕ) where
-  -- from the front to the body
-  along : (r : Role) (low high : ℕ) → leading low high (leadsTo r) s ≡ some c → afterA ≤ low → high ≤ leadsTo r → afterH ≤ leadsTo r → leadsTo r ≤ inBody → isSealing r ≡ false
-      → ((f : Family) → isTelling f r ≡ true → high ≤ afterLayout f - 1) → Moves r s c
-  along r low high o p q h g n t =
-      let i = leading-inv low high (leadsTo r) s c o in
-      record {
-        up = omega arith;
-        least = omega arith;
-        most = omega arith;
-        second = le-leb afterH c (omega arith) ∙ sym (le-leb afterA s (omega arith));
-        early = λ f. rw (← i .2);
-        first = λ f y. omega (arith, t f y);
-        unsealed = rw (n, le-leb c inBody (omega arith), le-leb s inBody (omega arith));
-        sealing = rw (n, le-leb c afterG (omega arith), le-leb s inBody (omega arith));
-      }
+  made : (r : Role) (next : ℕ) → next ≡ c → s ≤ next → afterA ≤ next → next ≤ afterLastG → leb afterH next ≡ leb afterA s
+      → ((f : Family) → leb (leadsTo r) (afterLayout f - 1) ≡ leb next (afterLayout f - 1)) → ((f : Family) → isTelling f r ≡ true → s ≤ afterLayout f - 1)
+      → leb next inBody ≡ (leb s inBody && not (isSealing r)) → leb next afterG ≡ ((leb s inBody && not (isSealing r)) || isSealing r) → Moves r s c
+  made r next e p q m t y z u g = rw (← e) (record { up = p; least = q; most = m; second = t; early = y; first = z; unsealed = u; sealing = g })
 
-  to-body : (r : Role) → leadsTo r ≡ inBody → isSealing r ≡ false → ((f : Family) → isTelling f r ≡ false) → leading afterH inBody inBody s ≡ some c → Moves r s c
-  to-body r e n t o = along r afterH inBody (rw e o) (omega arith) (omega arith) (omega arith) (omega arith) n (λ f y. absurd (false-true (sym (t f) ∙ y)))
+  both-low : (n : ℕ) → afterH ≤ n → afterA ≤ s → leb afterH n ≡ leb afterA s
+  both-low n p q = le-leb afterH n p ∙ sym (le-leb afterA s q)
+
+  -- from the front to the body
+  along : (r : Role) (low high : ℕ) → leading low high (leadsTo r) s ≡ some c → afterA ≤ low → high ≤ leadsTo r → afterH ≤ leadsTo r → leadsTo r ≤ inBody
+      → ((f : Family) → isTelling f r ≡ true → high ≤ afterLayout f - 1) → Moves r s c
+  along r low high o p q h g t =
+      let i = leading-inv low high (leadsTo r) s c o in
+      let n : isSealing r ≡ false = ne-eqb (leadsTo r) afterG (λ z. omega arith) in
+      made r (leadsTo r) (i .2) (omega arith) (omega arith) (omega arith) (both-low (leadsTo r) h (omega arith)) (λ f. refl) (λ f y. omega (arith, t f y))
+      (rw (n, le-leb (leadsTo r) inBody g, le-leb s inBody (omega arith)))
+      (rw (n, le-leb (leadsTo r) afterG (omega arith), le-leb s inBody (omega arith)))
+
+  to-body : (r : Role) → leadsTo r ≡ inBody → ((f : Family) → isTelling f r ≡ false) → leading afterH inBody inBody s ≡ some c → Moves r s c
+  to-body r e t o = along r afterH inBody (rw e o) (omega arith) (omega arith) (omega arith) (omega arith) (λ f y. absurd (false-true (sym (t f) ∙ y)))
 
   remark-moves : (b : Bool) → leb s inBody ≡ b → cond b (leading afterH inBody inBody s) (leading afterG afterLastG afterLastG s) ≡ some c → Moves role.Remark s c
-  remark-moves true q o = to-body role.Remark refl refl (λ f. refl) o
+  remark-moves true q o = to-body role.Remark refl (λ f. refl) o
   remark-moves false q o =
       let i = leading-inv afterG afterLastG afterLastG s c o in
-      record {
-        up = omega arith;
-        least = omega arith;
-        most = omega arith;
-        second = le-leb afterH c (omega arith) ∙ sym (le-leb afterA s (omega arith));
-        early = λ f. rw (← i .2) (every (λ f. leb inBody (afterLayout f - 1) ≡ leb afterLastG (afterLayout f - 1)) refl refl f);
-        first = λ f y. absurd (false-true y);
-        unsealed = rw (← i .2, q);
-        sealing = rw (← i .2, q);
-      }
+      made role.Remark afterLastG (i .2) (i .1) (omega arith) (omega arith) (both-low afterLastG (omega arith) (omega arith))
+      (every (λ f. leb inBody (afterLayout f - 1) ≡ leb afterLastG (afterLayout f - 1)) refl refl)
+      (λ f y. absurd (false-true y))
+      (rw q)
+      (rw q)
 
   moves : (r : Role) → stageAfter r s ≡ some c → Moves r s c
   unfolding stageAfter
   moves role.Opens o =
       let i = leading-inv atStart atStart afterA s c o in
       let z : s ≡ atStart = omega arith in
-      record {
-        up = omega arith;
-        least = omega arith;
-        most = omega arith;
-        second = rw (← i .2, z);
-        early = λ f. rw (← i .2);
-        first = λ f y. absurd (false-true y);
-        unsealed = rw (← i .2, z);
-        sealing = rw (← i .2, z);
-      }
-  moves role.Heads o = along role.Heads afterA afterH o (omega arith) (omega arith) (omega arith) (omega arith) refl (λ f y. absurd (false-true y))
+      made role.Opens afterA (i .2) (omega arith) (omega arith) (omega arith) (rw z) (λ f. refl) (λ f y. absurd (false-true y)) (rw z) (rw z)
+  moves role.Heads o = along role.Heads afterA afterH o (omega arith) (omega arith) (omega arith) (omega arith) (λ f y. absurd (false-true y))
   moves (role.Tells f) o =
       let k = layout-stage f in
-      along (role.Tells f) afterH (afterLayout f - 1) o (omega arith) (omega arith) (omega arith) (omega arith) refl (λ g y. rw (is-same f g y) (omega arith))
-  moves (role.Columned f) o = to-body (role.Columned f) refl refl (λ g. refl) o
-  moves role.Declares o = to-body role.Declares refl refl (λ g. refl) o
-  moves role.Event o = to-body role.Event refl refl (λ g. refl) o
-  moves role.Satellites o = to-body role.Satellites refl refl (λ g. refl) o
-  moves role.Differential o = to-body role.Differential refl refl (λ g. refl) o
+      along (role.Tells f) afterH (afterLayout f - 1) o (omega arith) (omega arith) (omega arith) (omega arith) (λ g y. rw (is-same f g y) (omega arith))
+  moves (role.Columned f) o = to-body (role.Columned f) refl (λ g. refl) o
+  moves role.Declares o = to-body role.Declares refl (λ g. refl) o
+  moves role.Event o = to-body role.Event refl (λ g. refl) o
+  moves role.Satellites o = to-body role.Satellites refl (λ g. refl) o
+  moves role.Differential o = to-body role.Differential refl (λ g. refl) o
   moves role.Seals o =
       let i = leading-inv afterH afterG afterG s c o in
-      record {
-        up = omega arith;
-        least = omega arith;
-        most = omega arith;
-        second = le-leb afterH c (omega arith) ∙ sym (le-leb afterA s (omega arith));
-        early = λ f. rw (← i .2);
-        first = λ f y. absurd (false-true y);
-        unsealed = rw (← i .2) (sym (and-false (leb s inBody)));
-        sealing = rw (← i .2) (sym (or-true (leb s inBody && false)));
-      }
+      made role.Seals afterG (i .2) (i .1) (omega arith) (omega arith) (both-low afterG (omega arith) (omega arith)) (λ f. refl) (λ f y. absurd (false-true y))
+      (sym (and-false (leb s inBody)))
+      (sym (or-true (leb s inBody && false)))
   moves role.Remark o = remark-moves (leb s inBody) refl o
-  moves role.Other o = to-body role.Other refl refl (λ g. refl) o
+  moves role.Other o = to-body role.Other refl (λ g. refl) o
   moves role.NoRole o = absurd (none-some o)
 
 module _ (s c : ℕ) (ls : List (List ℕ)) (l : List ℕ) (w : Staged s ls) (v : Moves (roleIn l) s c) where
@@ -352,14 +328,11 @@ record Left (ls : List (List ℕ)) (l : List ℕ) (m : State) (r : Role) (after 
   told : (g : Family) (ks : List (List ℕ)) → (isTelling g r ≡ true → ks ≡ []) → AtMostOne g (layoutOf g (m .flight .layouts)) ks
       → AtMostOne g (layoutOf g (after .flight .layouts)) (ks ++ cond (isTelling g r) (l ∷ []) [])
 
-as-told : {f : Family} {layout : Layout} (ks : List (List ℕ)) → AtMostOne f layout ks → AtMostOne f layout (ks ++ [])
-as-told ks a = rw append-nil a
-
 module _ (ls : List (List ℕ)) (l : List ℕ) (m : State) (d : Declaration ls (m .declared) (m .points)) where
   left : {r : Role} {after : State} → Letter r (getD l 0 0) → eqb (getD l 0 0) (code "C") ≡ isDeclaring r → fitsDeclaration (isDeclaring r) m ≡ true → Leaves l m r after → Left ls l m r after
-  left k c f (passes.opens e) = record { stage = refl; declaration = silent ls l c (plain-fits m f) d; clock = refl; told = λ g ks n. as-told ks }
-  left k c f (passes.date x n e) = record { stage = refl; declaration = silent ls l c (plain-fits m f) d; clock = refl; told = λ g ks n. as-told ks }
-  left k c f (passes.header n e) = record { stage = refl; declaration = silent ls l c (plain-fits m f) d; clock = refl; told = λ g ks n. as-told ks }
+  left k c f (passes.opens e) = record { stage = refl; declaration = silent ls l c (plain-fits m f) d; clock = refl; told = λ g ks n a. rw append-nil a }
+  left k c f (passes.date x n e) = record { stage = refl; declaration = silent ls l c (plain-fits m f) d; clock = refl; told = λ g ks n a. rw append-nil a }
+  left k c f (passes.header n e) = record { stage = refl; declaration = silent ls l c (plain-fits m f) d; clock = refl; told = λ g ks n a. rw append-nil a }
   left k c f (passes.layout x i e) = record {
     stage = refl;
     declaration = silent ls l c (plain-fits m f) d;
@@ -370,15 +343,15 @@ module _ (ls : List (List ℕ)) (l : List ℕ) (m : State) (d : Declaration ls (
         (λ g n ks q a. rw (n, append-nil) a);
   }
   left k c f (passes.columned x t e o) =
-      record { stage = refl; declaration = silent ls l c (plain-fits m f) d; clock = rw (columned-time x _ t l e); told = λ g ks n. as-told ks }
-  left k c f (passes.head h n e) = record { stage = refl; declaration = begins-one ls l h (head-there h l k e) (head-fits m n f .0) d; clock = refl; told = λ g ks n. as-told ks }
-  left k c f (passes.point p n e) = record { stage = refl; declaration = goes-on ls l (point-there p l k e) (some-points (m .points) n) d; clock = refl; told = λ g ks n. as-told ks }
-  left k c f (passes.event t e o) = record { stage = refl; declaration = silent ls l c (plain-fits m f) d; clock = rw (e-inv l t e .1); told = λ g ks n. as-told ks }
-  left k c f (passes.satellites t e o) = record { stage = refl; declaration = silent ls l c (plain-fits m f) d; clock = rw (f-inv l t e .1); told = λ g ks n. as-told ks }
-  left k c f (passes.differential e) = record { stage = refl; declaration = silent ls l c (plain-fits m f) d; clock = refl; told = λ g ks n. as-told ks }
-  left k c f (passes.seals e) = record { stage = refl; declaration = silent ls l c (plain-fits m f) d; clock = refl; told = λ g ks n. as-told ks }
-  left k c f (passes.remark e) = record { stage = refl; declaration = silent ls l c (plain-fits m f) d; clock = refl; told = λ g ks n. as-told ks }
-  left k c f (passes.other e) = record { stage = refl; declaration = silent ls l c (plain-fits m f) d; clock = refl; told = λ g ks n. as-told ks }
+      record { stage = refl; declaration = silent ls l c (plain-fits m f) d; clock = rw (columned-time x _ t l e); told = λ g ks n a. rw append-nil a }
+  left k c f (passes.head h n e) = record { stage = refl; declaration = begins-one ls l h (head-there h l k e) (head-fits m n f .0) d; clock = refl; told = λ g ks n a. rw append-nil a }
+  left k c f (passes.point p n e) = record { stage = refl; declaration = goes-on ls l (point-there p l k e) (some-points (m .points) n) d; clock = refl; told = λ g ks n a. rw append-nil a }
+  left k c f (passes.event t e o) = record { stage = refl; declaration = silent ls l c (plain-fits m f) d; clock = rw (e-inv l t e .1); told = λ g ks n a. rw append-nil a }
+  left k c f (passes.satellites t e o) = record { stage = refl; declaration = silent ls l c (plain-fits m f) d; clock = rw (f-inv l t e .1); told = λ g ks n a. rw append-nil a }
+  left k c f (passes.differential e) = record { stage = refl; declaration = silent ls l c (plain-fits m f) d; clock = refl; told = λ g ks n a. rw append-nil a }
+  left k c f (passes.seals e) = record { stage = refl; declaration = silent ls l c (plain-fits m f) d; clock = refl; told = λ g ks n a. rw append-nil a }
+  left k c f (passes.remark e) = record { stage = refl; declaration = silent ls l c (plain-fits m f) d; clock = refl; told = λ g ks n a. rw append-nil a }
+  left k c f (passes.other e) = record { stage = refl; declaration = silent ls l c (plain-fits m f) d; clock = refl; told = λ g ks n a. rw append-nil a }
 
 -- ---- and they tell it of the state after the next line
 

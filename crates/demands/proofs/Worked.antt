@@ -2,12 +2,10 @@
 -- Assumes nothing.
 use Prim.Native.Nat.{ℕ}
 use Prim.Native.Char.{code}
-use mathlib.Core.Bool.{Bool, true, not, _&&_}
 use mathlib.Core.List.{List, [], _∷_, _++_, append-assoc}
 use mathlib.Core.Path.{_≡_, refl, sym, _∙_, ap, subst}
 use native.Mathlib.Omega.{arith}
-use borrow.Author.Tests.{eqb-false, not-true}
-use lib.Dec.{eqb, lit≤}
+use lib.Dec.{lit≤}
 use lib.IntN.{pos}
 use lib.ListN.{getD, drop}
 use Rattle.rules.specs.Choice.{bytes, Each}
@@ -23,30 +21,17 @@ use Rattle.rules.specs.declared.Seal.the-variants as seal
 use Rattle.rules.proofs.Computed.{everything, fileOf}
 use Rattle.rules.proofs.Damaged.{fiveLines, fiveLayout}
 use Rattle.rules.specs.Limits.{isAltitude, goodFixFields}
-use Rattle.rules.proofs.Inverse.{and-inv}
 use Rattle.trips.proofs.Texts.{areValid}
 use Rattle.demands.specs.Coming.{isAmong}
 use Rattle.demands.specs.Grammar.{IsText, july, AtMostOne, absent, given, Timed, columned, event, satellites, Items, done, timed, untimed, Body, undeclared, declared, none, column, linesIn, Meets, joinLines}
-use Rattle.demands.proofs.Laws.{each-map, each-join, each-cut, are-valid}
-use Rattle.demands.proofs.Tables.{width-exactly, rule-exactly}
+use Rattle.laws.proofs.Splitting.{lines-are-text}
+use Rattle.demands.proofs.Sections.{text-is}
+use Rattle.demands.proofs.Laws.{each-map, each-join, each-cut, are-valid, width-exactly, rule-exactly}
 use Rattle.demands.proofs.Leading.{every}
-use Rattle.demands.proofs.Valued.{columned-letter, head-said, point-said}
+use Rattle.demands.proofs.EachLine.{columned-letter, head-said, point-said}
 use Rattle.demands.proofs.Reading.{Aside, other-than, untimed-aside, front, back, in-three, front-aside, back-by}
 
 -- ---- the file of five lines
-
--- neither CR nor LF, as a test
-isText : List ℕ → Bool
-isText [] = true
-isText (b ∷ l) = not (eqb b 13) && not (eqb b 10) && isText l
-
-text-there : (l : List ℕ) → isText l ≡ true → IsText l
-unfolding isText
-text-there [] e = tt
-text-there (b ∷ l) e =
-    let h = and-inv (not (eqb b 13) && not (eqb b 10)) (isText l) e in
-    let g = and-inv (not (eqb b 13)) (not (eqb b 10)) (h .0) in
-    ((eqb-false b 13 (not-true _ (g .0)), eqb-false b 10 (not-true _ (g .1))), text-there l (h .1))
 
 fxa : Entry
 fxa = record { first = 36; last = 38; code = 0x465841 }
@@ -65,7 +50,7 @@ theFix = record {
 }
 
 pub five-meet : Meets seal.Strict fiveLines
-unfolding everything fileOf joinLines isText areValid fxa siu theFix goodFixFields isPosition isAltitude
+unfolding everything fileOf joinLines areValid fxa siu theFix goodFixFields isPosition isAltitude
 five-meet = record {
   least = lit≤ tt;
   most = lit≤ tt;
@@ -79,16 +64,10 @@ five-meet = record {
     remarks = [];
   };
   bytes = refl;
-  texts = (
-    text-there (bytes "AXYZ001") refl,
-    (
-      text-there (bytes "HFDTE150724") refl,
-      (
-        text-there (bytes "I023638FXA3940SIU") refl,
-        (text-there (bytes "B1200005130000N00015000WA001000012001208") refl, (text-there (bytes "GABC") refl, tt)),
-      ),
-    ),
-  );
+  texts =
+      let h = lines-are-text fiveLines in
+      let b : IsText (bytes "B1200005130000N00015000WA001000012001208") = text-is (bytes "B1200005130000N00015000WA001000012001208") (h .1 .1 .1 .0) in
+      (text-is (bytes "AXYZ001") (h .0), (text-is (bytes "HFDTE150724") (h .1 .0), (text-is (bytes "I023638FXA3940SIU") (h .1 .1 .0), (b, (text-is (bytes "GABC") (h .1 .1 .1 .1 .0), tt)))));
   date = record { day = 15; month = 7; year = 2024 };
   layouts = record { b = fiveLayout; k = emptyLayout };
   times = 43200 ∷ [];
