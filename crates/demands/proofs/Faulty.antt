@@ -92,11 +92,11 @@ module _ (ls : List (List ℕ)) (st : State) (w : Stands ls st) where
 
   -- ---- role by role
 
-  -- a line of another role than C, from the parts that lead on
   fitted : (r : Role) → isThere (orderOf r st) ≡ (fitsDeclaration (isDeclaring r) st && isThere (stageAfter r (st .stage)))
   unfolding orderOf
   fitted r = there-need (fitsDeclaration (isDeclaring r) st) (stageAfter r (st .stage))
 
+  -- a line of another role than C, from the parts that lead on
   early : (r : Role) (low high next : ℕ) → isDeclaring r ≡ false → stageAfter r (st .stage) ≡ leading low high next (st .stage)
       → isThere (orderOf r st) ≡ (not (isOpen ls) && (leb low (st .stage) && leb (st .stage) high))
   early r low high next c e = fitted r ∙ rw (c, e, plain-fits) (ap (λ t. not (isOpen ls) && t) (there-leading low high next (st .stage)))
