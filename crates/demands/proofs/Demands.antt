@@ -75,7 +75,7 @@ table-adds = counted.table-adds
 
 -- ---- what the checks of a refusal read and test, apart from how
 
--- the kind and each field: it is read exactly where the text of a value within its limits stands
+-- the role of a line by its letter, and each field: it is read exactly where the text of a value within its limits stands
 pub fields-told : FieldsTold
 fields-told = fields-there.fields-told
 

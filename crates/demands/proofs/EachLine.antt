@@ -245,7 +245,7 @@ other-there l u p q e = record { from = p; to = q; shape = shape-there 1 255 fal
 pub other-said : (l : List ℕ) → IsOtherLine l → otherLine l ≡ says tt
 other-said l w = shape-said 1 255 false l (w .shape)
 
--- ---- the limits, by such a layout
+-- ---- B, K and C lines: the limits, by a layout that a line can tell
 
 pub start-low : (f : Family) → 1 ≤ firstStart f
 start-low family.B = omega arith

@@ -2,7 +2,7 @@
 -- exactly where all pass, and else the check refuses with the number and byte of the first that fails. Assumes nothing.
 use Prim.Native.Nat.{ℕ, zero, suc, _-_, _+_, _*_, _≤_}
 use Prim.Native.Char.{code}
-use mathlib.Core.Bool.{Bool, true, false, not, _&&_, _||_, cond}
+use mathlib.Core.Bool.{Bool, true, false, not, _&&_, _||_, cond, and-true, and-false, Bool·not-not}
 use mathlib.Core.List.{List, [], _∷_, _++_}
 use mathlib.Core.Option.{Option, none, some}
 use mathlib.Core.Path.{_≡_, refl, sym, _∙_, ap, subst}
@@ -33,18 +33,14 @@ use Rattle.laws.proofs.Passing.{roleIn}
 use Rattle.demands.specs.Coming.{isAmong, only, without, isOpen, isBody, lettersBefore, mayCome, orZero, entryOf, entriesTold, endsAt, sizeOf, lastTime, isInTime}
 use Rattle.demands.specs.Checks.{isThere, Check, check, AllPass, FailsFirst, oneEach, shapeChecks, columnChecks, timeCheck, pairChecks, hasCode, entryChecks, layoutChecks, dateChecks, headerChecks, headChecks, pointChecks, thenTime, roleChecks, checksOf, lineChecks, eventChecks, satelliteChecks}
 use Rattle.demands.specs.Grammar.{laid}
-use Rattle.demands.proofs.Leading.{every, letter-tests}
-use Rattle.demands.proofs.Standing.{and-false, and-true, only-without, none-open, declaration-told, laid-out, Stands}
+use Rattle.demands.proofs.Leading.{letter-tests, none-pass}
+use Rattle.demands.proofs.Standing.{only-without, none-open, declaration-told, laid-out, Stands}
 use Rattle.demands.proofs.Laws.{each-join, shape-there}
 use Rattle.demands.proofs.EachLine.{e-inv, f-inv, columned-time}
 use Rattle.demands.proofs.LayoutLines.{there, entry-there, entries-laid, with-laid}
 use Rattle.demands.proofs.Columns.{end-of, line-end}
 
 -- ---- tests
-
-twice-not : (t : Bool) → not (not t) ≡ t
-twice-not true = refl
-twice-not false = refl
 
 -- what the last test brings with it
 implied : (o x h : Bool) → (h ≡ true → o ≡ false) → (not o && (x && h)) ≡ (x && h)
@@ -80,7 +76,7 @@ module _ (ls : List (List ℕ)) (st : State) (w : Stands ls st) where
 
   c-fits : fitsDeclaration true st ≡ (isOpen ls || (without (code "C") ls && without (code "B") ls))
   unfolding fitsDeclaration
-  c-fits = rw (open-is, declaration-told ls (w .declaration) .1, w .counts family.B, twice-not) (go (isOpen ls))
+  c-fits = rw (open-is, declaration-told ls (w .declaration) .1, w .counts family.B, Bool·not-not) (go (isOpen ls))
     where
       go : (o : Bool) → cond o true (without (code "C") ls && without (code "B") ls) ≡ (o || (without (code "C") ls && without (code "B") ls))
       go true = refl
@@ -92,11 +88,11 @@ module _ (ls : List (List ℕ)) (st : State) (w : Stands ls st) where
 
   -- ---- role by role
 
-  -- a line of another role than C, from the parts that lead on
   fitted : (r : Role) → isThere (orderOf r st) ≡ (fitsDeclaration (isDeclaring r) st && isThere (stageAfter r (st .stage)))
   unfolding orderOf
   fitted r = there-need (fitsDeclaration (isDeclaring r) st) (stageAfter r (st .stage))
 
+  -- a line of another role than C, from the parts that lead on
   early : (r : Role) (low high next : ℕ) → isDeclaring r ≡ false → stageAfter r (st .stage) ≡ leading low high next (st .stage)
       → isThere (orderOf r st) ≡ (not (isOpen ls) && (leb low (st .stage) && leb (st .stage) high))
   early r low high next c e = fitted r ∙ rw (c, e, plain-fits) (ap (λ t. not (isOpen ls) && t) (there-leading low high next (st .stage)))
@@ -138,7 +134,7 @@ module _ (ls : List (List ℕ)) (st : State) (w : Stands ls st) where
   layout-told f =
       early (role.Tells f) afterH (afterLayout f - 1) (afterLayout f) refl refl
       ∙ rw (w .staged .two-lines, w .staged .untold f)
-      (implied (isOpen ls) (leb 2 (length ls)) (only (lettersBefore f) ls) (closed (lettersBefore f) (every (λ f. isAmong (lettersBefore f) (code "C") ≡ false) refl refl f)))
+      (implied (isOpen ls) (leb 2 (length ls)) (only (lettersBefore f) ls) (closed (lettersBefore f) (none-pass (λ f. isAmong (lettersBefore f) (code "C")) refl f)))
 
   g-told : isThere (orderOf role.Seals st) ≡ mayCome role.Seals ls
   unfolding stageAfter mayCome

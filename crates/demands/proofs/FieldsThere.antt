@@ -1,7 +1,7 @@
 -- Each field could be read exactly where the text of a value within its limits stands. From the laws of each field both ways. Assumes nothing.
 use Prim.Native.Nat.{ℕ, zero, suc, _+_, _≤_, _^_}
 use Prim.Native.Char.{code}
-use mathlib.Core.Bool.{Bool, true, false, _||_}
+use mathlib.Core.Bool.{Bool, true, false, _||_, or-true}
 use mathlib.Core.List.{List, [], _∷_, _++_}
 use mathlib.Core.Logic.{_↔_, _⊎_, inl, inr}
 use mathlib.Core.Option.{Option, none, some}
@@ -26,7 +26,6 @@ use Rattle.trips.proofs.Positions.{latitude-trip, longitude-trip}
 use Rattle.trips.proofs.Altitudes.{altitude-trip}
 use Rattle.demands.specs.Checks.{isThere}
 use Rattle.demands.specs.FieldTexts.{Stood, Field, Codes, FieldsTold}
-use Rattle.demands.proofs.Laws.{or-true}
 use Rattle.demands.proofs.EachLine.{mark-there}
 use Rattle.demands.proofs.LayoutLines.{code-there, code-here}
 use Rattle.demands.proofs.Leading.{letter}

@@ -49,10 +49,6 @@ pub said-some : {A : Type 0} (s : Said A) → isSaid s ≡ true → (v : A) × (
 said-some (says v) e = (v, refl)
 said-some (refuses n l b) e = absurd (false-true e)
 
-pub or-true : (t : Bool) → (t || true) ≡ true
-or-true true = refl
-or-true false = refl
-
 -- ---- each element
 
 pub each-map : {A : Type 0} {P Q : A → Type 0} (l : List A) → ((a : A) → P a → Q a) → Each P l → Each Q l

@@ -10,7 +10,7 @@ use mathlib.Core.Logic.{_↔_}
 use native.Mathlib.Omega.{arith}
 use borrow.Author.Tests.{le-leb, leb-true, eqb-true, eqb-false, eq-eqb, ne-eqb, not-true}
 use lib.Dec.{eqb, leb}
-use lib.ListN.{length, getD, drop, set, replicate, length-append, length-drop, take-append-drop}
+use lib.ListN.{length, getD, drop, set, replicate, length-append, length-drop, take-append-drop, length-replicate}
 use lib.Seq.{take-append-seam, drop-append-seam, set-append-seam, append-snoc, length-take-le, drop-length}
 use Rattle.rules.specs.Families.{firstStart, layoutLetter}
 use Rattle.rules.specs.Choice.{given, leads, firstOf, Each}
@@ -345,10 +345,6 @@ letter-is : (f : Family) → (1 ≤ layoutLetter f) × (isValid false (layoutLet
 unfolding isValid
 letter-is family.B = (omega arith, refl)
 letter-is family.K = (omega arith, refl)
-
-length-replicate : {A : Type 0} (n : ℕ) (a : A) → length (replicate n a) ≡ n
-length-replicate zero a = refl
-length-replicate (suc n) a = ap suc (length-replicate n a)
 
 slots-laid : (es : List Entry) → length es ≤ 13 → length (laid es .entries) ≡ 13
 slots-laid es h = simp (length-append, length-replicate) (omega arith)

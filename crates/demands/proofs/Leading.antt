@@ -48,6 +48,13 @@ abbrev pub every : (P : Family → Type 0) → P family.B → P family.K → (f 
 every P b k family.B = b
 every P b k family.K = k
 
+-- a test that each of them passes, and one that each fails
+pub all-pass : (test : Family → Bool) → (test family.B && test family.K) ≡ true → (f : Family) → test f ≡ true
+all-pass test e = let a = and-inv (test family.B) (test family.K) e in every (λ f. test f ≡ true) (a .0) (a .1)
+
+pub none-pass : (test : Family → Bool) → (not (test family.B) && not (test family.K)) ≡ true → (f : Family) → test f ≡ false
+none-pass test e f = not-inv (test f) (all-pass (λ g. not (test g)) e f)
+
 pub all-layouts : (a b : Layouts) → ((f : Family) → layoutOf f a ≡ layoutOf f b) → a ≡ b
 all-layouts a b h = λ i. record { b = h family.B i; k = h family.K i }
 
@@ -61,7 +68,7 @@ pub put-own : (f : Family) (i : Layout) (ls : Layouts) → layoutOf f (withLayou
 put-own f i ls = every (λ f. layoutOf f (withLayout f i ls) ≡ i) refl refl f
 
 pub same-family : (f : Family) → sameFamily f f ≡ true
-same-family = every (λ f. sameFamily f f ≡ true) refl refl
+same-family = all-pass (λ f. sameFamily f f) refl
 
 pub is-same : (f g : Family) → sameFamily g f ≡ true → g ≡ f
 is-same family.B = every (λ g. sameFamily g family.B ≡ true → g ≡ family.B) (λ e. refl) (λ e. absurd (false-true e))

@@ -8,7 +8,7 @@ use mathlib.Core.Option.{some}
 use mathlib.Core.Path.{_≡_, refl, sym, _∙_, ap, subst}
 use native.Mathlib.Nat.{zero-add}
 use native.Mathlib.Omega.{arith}
-use borrow.Author.Tests.{ne-eqb}
+use borrow.Author.Tests.{ne-eqb, eqb-false}
 use lib.Dec.{eqb}
 use lib.ListN.{length, getD, take, drop}
 use Rattle.rules.specs.Choice.{bytes, Each}
@@ -38,7 +38,7 @@ use Rattle.demands.specs.Readings.{ReadsColumns, ReadsColumned, ReadsLin
 use Rattle.demands.proofs.Laws.{each-map, each-join}
 use Rattle.demands.proofs.EachLine.{e-said, f-said, start-low, fix-reads, extra-reads, columned-letter, columned-said, head-reads, point-reads, head-said, point-said}
 use Rattle.demands.proofs.LayoutLines.{IsTold, layout-said, told}
-use Rattle.demands.proofs.Leading.{every, same-letter}
+use Rattle.demands.proofs.Leading.{every, same-letter, all-pass, none-pass}
 use Rattle.demands.proofs.Sections.{before}
 use Rattle.demands.proofs.Accepted.{lines-cut, accepted-as}
 use Rattle.demands.proofs.Columns.{columns-read}
@@ -112,17 +112,17 @@ untimed-aside {l} (other w) = let no : (x : ℕ) → x < 77 → eqb (getD l 0 0)
 one-aside : (f : Family) {layout : Layout} {ls : List (List ℕ)} → AtMostOne f layout ls → Each Aside ls
 unfolding isAmong bytes
 one-aside f absent = tt
-one-aside f (given {layout = i} {l = l} w) = (rw (layout-said f i l w .0) (every (λ f. isAmong (bytes "BCGK") (layoutLetter f) ≡ false) refl refl f), tt)
+one-aside f (given {layout = i} {l = l} w) = (rw (layout-said f i l w .0) (none-pass (λ f. isAmong (bytes "BCGK") (layoutLetter f)) refl f), tt)
 
 -- ---- the lines of a body
 
 no-family : (l : List ℕ) → isAmong (bytes "BK") (getD l 0 0) ≡ false → (layouts : Layouts) → ReadsLine layouts l
 unfolding isAmong bytes
-no-family l n layouts f z = absurd (other-than (bytes "BK") l (lineLetter f) (every (λ f. isAmong (bytes "BK") (lineLetter f) ≡ true) refl refl f) n z)
+no-family l n layouts f z = absurd (other-than (bytes "BK") l (lineLetter f) (all-pass (λ f. isAmong (bytes "BK") (lineLetter f)) refl f) n z)
 
 aside-reads : (layouts : Layouts) (l : List ℕ) → Aside l → ReadsLine layouts l
 unfolding isAmong bytes
-aside-reads layouts l n f z = absurd (other-than (bytes "BCGK") l (lineLetter f) (every (λ f. isAmong (bytes "BCGK") (lineLetter f) ≡ true) refl refl f) n z)
+aside-reads layouts l n f z = absurd (other-than (bytes "BCGK") l (lineLetter f) (all-pass (λ f. isAmong (bytes "BCGK") (lineLetter f)) refl f) n z)
 
 aside-no-c : (l : List ℕ) → Aside l → NoC l
 unfolding isAmong bytes
@@ -138,7 +138,7 @@ module _ (layouts : Layouts) (can-tell : (f : Family) → IsTold f (layoutOf f l
   timed-item {t} l (grammar.columned f w) =
       let k = columned-letter f (layoutOf f layouts) t l w in (
         (λ g z. subst (λ x. ReadsColumned x (layoutOf x layouts) l) (same-letter f g (sym k ∙ z)) (reads-columned f (layoutOf f layouts) t l (can-tell f) w)),
-        λ z. every (λ f. lineLetter f ≡ code "C" → ⊥) (λ e. omega arith) (λ e. omega arith) f (sym k ∙ z),
+        λ z. eqb-false (lineLetter f) (code "C") (none-pass (λ f. eqb (lineLetter f) (code "C")) refl f) (sym k ∙ z),
       )
   timed-item {t} l (grammar.event w) = let h : Aside l = rw (e-said l t w .0) in (aside-reads layouts l h, aside-no-c l h)
   timed-item {t} l (grammar.satellites w) = let h : Aside l = rw (f-said l t w .0) in (aside-reads layouts l h, aside-no-c l h)

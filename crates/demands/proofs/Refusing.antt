@@ -2,7 +2,7 @@
 -- is open is a head and its first points, and at most one I and one J line tell the columns. Assumes nothing.
 use Prim.Native.Nat.{ℕ, _+_, _-_, _≤_, suc, _<_}
 use Prim.Native.Char.{code}
-use mathlib.Core.Bool.{Bool, true, false, _||_, cond}
+use mathlib.Core.Bool.{Bool, true, false, _||_, cond, or-true}
 use mathlib.Core.List.{List, [], _∷_, _++_, append-assoc, append-nil}
 use mathlib.Core.Logic.{_⊎_, inl, inr, _↔_}
 use mathlib.Core.Option.{Option, none, some}
@@ -32,7 +32,6 @@ use Rattle.laws.proofs.Counted.{judged-more}
 use Rattle.demands.specs.Grammar.{Follows, AtMostOne, given, beginning, IsText}
 use Rattle.demands.specs.Coming.{isAmong, pointsOf, isOpen, Open, those, lastTime, NoTime, Latest, isInTime, Meant}
 use Rattle.demands.specs.Faults.{PassAfter, Before, NoEnd, none-comes, lf-alone, cr-alone, Unsealed, Refused, empty, too-long, line-end, in-line, table-full, ends-early}
-use Rattle.demands.proofs.Laws.{or-true}
 use Rattle.demands.proofs.EachLine.{head-said}
 use Rattle.demands.proofs.Leading.{some-points}
 use Rattle.demands.proofs.Sections.{Passes, done, next, all-passed, before, text-is, is-text, begins, lines-joined, none-fit, Stops, ended, endless, faulty, full, comes, passes-run, stops-run}

@@ -2,7 +2,7 @@
 -- family's lines, and the last time. Assumes nothing.
 use Prim.Native.Nat.{ℕ, _+_, _-_, _≤_}
 use Prim.Native.Char.{code}
-use mathlib.Core.Bool.{Bool, true, false, not, _&&_, _||_, cond}
+use mathlib.Core.Bool.{Bool, true, false, not, _&&_, _||_, cond, and-true, and-false, and-assoc, or-true}
 use mathlib.Core.List.{List, [], _∷_, _++_, append-assoc, append-nil}
 use mathlib.Core.Option.{Option, none, some}
 use mathlib.Core.Path.{_≡_, refl, sym, _∙_, ap}
@@ -32,10 +32,10 @@ use Rattle.demands.specs.Grammar.{IsHeadLine, IsPointLine, AtMostOne, ab
 use Rattle.demands.specs.Grammar as grammar
 use Rattle.demands.specs.Coming.{orZero, isAmong, only, without, endsWith, pointsOf, isOpen, lettersBefore, those, firstEntries, lastTime}
 use Rattle.demands.specs.FieldTexts.{Letter}
-use Rattle.demands.proofs.Laws.{or-true, each-join}
+use Rattle.demands.proofs.Laws.{each-join}
 use Rattle.demands.proofs.EachLine.{e-inv, f-inv, columned-time, head-reads, head-said, head-there, point-there}
 use Rattle.demands.proofs.LayoutLines.{there, layout-laid, layout-there, layout-said}
-use Rattle.demands.proofs.Leading.{every, put-by, same-family, is-same, letter, tells-letter, isTelling, isTiming, isSealing, leadsTo, letter-tests, counts-more, Sound, sound-start, some-points, plain-fits, head-fits, order-inv, judge-leads, stays-sound}
+use Rattle.demands.proofs.Leading.{every, put-by, same-family, is-same, letter, tells-letter, isTelling, isTiming, isSealing, leadsTo, letter-tests, counts-more, Sound, sound-start, some-points, plain-fits, head-fits, order-inv, judge-leads, stays-sound, none-pass}
 use Rattle.demands.proofs.Sections.{layout-stage}
 
 -- ---- what a line tells of itself
@@ -44,18 +44,6 @@ pub head-points : (h : Head) (l : List ℕ) → IsHeadLine h l → pointsOf l �
 head-points h l w = ap (λ x. x + 4) (there (numberAt l 23 2) (heads.head-there l h (head-reads h l w) .at-turns))
 
 -- ---- one line more
-
-pub and-false : (t : Bool) → (t && false) ≡ false
-and-false true = refl
-and-false false = refl
-
-pub and-true : (t : Bool) → (t && true) ≡ t
-and-true true = refl
-and-true false = refl
-
-pub and-assoc : (a b c : Bool) → (a && (b && c)) ≡ ((a && b) && c)
-and-assoc true b c = refl
-and-assoc false b c = refl
 
 module _ (l : List ℕ) where
   length-next : (ls : List (List ℕ)) → length (ls ++ (l ∷ [])) ≡ length ls + 1
@@ -69,7 +57,7 @@ module _ (l : List ℕ) where
   only-next : (xs : List ℕ) (ls : List (List ℕ)) → only xs (ls ++ (l ∷ [])) ≡ (only xs ls && isAmong xs (getD l 0 0))
   unfolding only
   only-next xs [] = and-true (isAmong xs (getD l 0 0))
-  only-next xs (a ∷ ls) = ap (λ t. isAmong xs (getD a 0 0) && t) (only-next xs ls) ∙ and-assoc (isAmong xs (getD a 0 0)) (only xs ls) (isAmong xs (getD l 0 0))
+  only-next xs (a ∷ ls) = ap (λ t. isAmong xs (getD a 0 0) && t) (only-next xs ls) ∙ sym (and-assoc (isAmong xs (getD a 0 0)) (only xs ls) (isAmong xs (getD l 0 0)))
 
   ends-next : (x : ℕ) (ls : List (List ℕ)) → endsWith x (ls ++ (l ∷ [])) ≡ eqb (getD l 0 0) x
   unfolding endsWith
@@ -197,7 +185,7 @@ pub record Staged (s : ℕ) (ls : List (List ℕ)) : Type 0 where
 
 staged-start : Staged atStart []
 unfolding only beginning
-staged-start = record { some-line = refl; two-lines = refl; untold = every (λ f. leb atStart (afterLayout f - 1) ≡ only (lettersBefore f) []) refl refl; unsealed = refl; sealing = refl; most = omega arith }
+staged-start = record { some-line = refl; two-lines = refl; untold = λ f. le-leb atStart (afterLayout f - 1) (omega arith); unsealed = refl; sealing = refl; most = omega arith }
 
 -- from one part of the file a line of this role leads to another
 record Moves (r : Role) (s c : ℕ) : Type 0 where
@@ -238,7 +226,7 @@ module _ (s c : ℕ) where
   remark-moves false q o =
       let i = leading-inv afterG afterLastG afterLastG s c o in
       made role.Remark afterLastG (i .2) (i .1) (omega arith) (omega arith) (both-low afterLastG (omega arith) (omega arith))
-      (every (λ f. leb inBody (afterLayout f - 1) ≡ leb afterLastG (afterLayout f - 1)) refl refl)
+      (λ f. none-pass (λ f. leb inBody (afterLayout f - 1)) refl f ∙ sym (none-pass (λ f. leb afterLastG (afterLayout f - 1)) refl f))
       (λ f y. absurd (false-true y))
       (rw q)
       (rw q)
@@ -380,7 +368,7 @@ module _ (ls : List (List ℕ)) (l : List ℕ) (st after : State) (w : Stands ls
   untold : (f : Family) → isTelling f (roleIn l) ≡ true → those (layoutLetter f) ls ≡ []
   unfolding isAmong bytes
   untold f q =
-      none-those (layoutLetter f) ls (only-without (lettersBefore f) (layoutLetter f) ls (every (λ f. isAmong (lettersBefore f) (layoutLetter f) ≡ false) refl refl f)
+      none-those (layoutLetter f) ls (only-without (lettersBefore f) (layoutLetter f) ls (none-pass (λ f. isAmong (lettersBefore f) (layoutLetter f)) refl f)
       (sym (w .staged .untold f) ∙ le-leb _ _ (leads-on .first f q)))
 
   pub stands-next : Stands (ls ++ (l ∷ [])) after

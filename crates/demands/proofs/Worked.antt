@@ -5,7 +5,8 @@ use Prim.Native.Char.{code}
 use mathlib.Core.List.{List, [], _∷_, _++_, append-assoc}
 use mathlib.Core.Path.{_≡_, refl, sym, _∙_, ap, subst}
 use native.Mathlib.Omega.{arith}
-use lib.Dec.{lit≤}
+use borrow.Author.Tests.{eqb-false}
+use lib.Dec.{lit≤, eqb}
 use lib.IntN.{pos}
 use lib.ListN.{getD, drop}
 use Rattle.rules.specs.Choice.{bytes, Each}
@@ -27,7 +28,7 @@ use Rattle.demands.specs.Grammar.{IsText, july, AtMostOne, absent, given
 use Rattle.laws.proofs.Splitting.{lines-are-text}
 use Rattle.demands.proofs.Sections.{text-is}
 use Rattle.demands.proofs.Laws.{each-map, each-join, each-cut, are-valid, width-exactly, rule-exactly}
-use Rattle.demands.proofs.Leading.{every}
+use Rattle.demands.proofs.Leading.{every, none-pass}
 use Rattle.demands.proofs.EachLine.{columned-letter, head-said, point-said}
 use Rattle.demands.proofs.Reading.{Aside, other-than, untimed-aside, front, back, in-three, front-aside, back-by}
 
@@ -121,7 +122,7 @@ aside-no-g l n = other-than (bytes "BCGK") l (code "G") refl n
 
 module _ {layouts : Layouts} where
   timed-no-g : {t : ℕ} (l : List ℕ) → Timed layouts t l → NoG l
-  timed-no-g {t} l (columned f w) g = every (λ f. lineLetter f ≡ code "G" → ⊥) (λ e. omega arith) (λ e. omega arith) f (sym (columned-letter f (layoutOf f layouts) t l w) ∙ g)
+  timed-no-g {t} l (columned f w) g = eqb-false (lineLetter f) (code "G") (none-pass (λ f. eqb (lineLetter f) (code "G")) refl f) (sym (columned-letter f (layoutOf f layouts) t l w) ∙ g)
   timed-no-g l (event w) g = let e = ap (λ x. getD x 0 0) (w .text) in omega arith
   timed-no-g l (satellites w) g = let e = ap (λ x. getD x 0 0) (w .text) in omega arith
 
