@@ -18,6 +18,7 @@ const TOP: &str = "-- Generated files and the answers expected on them, computed
 use Prim.Native.Nat.{ℕ}
 use mathlib.Core.Bool.{Bool, true, false, _&&_}
 use mathlib.Core.List.{List, [], _∷_}
+use mathlib.Core.Option.{some}
 use mathlib.Core.Path.{_≡_, refl}
 use lib.Dec.{eqb}
 use lib.ListN.{replicate}
@@ -25,12 +26,13 @@ use Rattle.rules.specs.Refusals.{Said, says, refuses}
 use Rattle.rules.specs.Layouts.{lineLength}
 use Rattle.rules.specs.Files.{verdict, tableAfter}
 use Rattle.rules.specs.declared.Flight.{Flight}
+use Rattle.rules.specs.declared.Seal.the-variants as seal
 use Rattle.rules.proofs.Computed.{everything}
 
 unfoldable numbersOf : Said Flight → List ℕ
 unfolding lineLength
 numbersOf (says f) =
-    0 ∷ f .lines ∷ f .bs ∷ f .ks ∷ f .date .day ∷ f .date .month ∷ f .date .year ∷ lineLength 36 (f .fixes) ∷ lineLength 8 (f .extras) ∷ []
+    0 ∷ f .lines ∷ f .counts .b ∷ f .counts .k ∷ f .date .day ∷ f .date .month ∷ f .date .year ∷ lineLength 36 (f .layouts .b) ∷ lineLength 8 (f .layouts .k) ∷ []
 numbersOf (refuses n l b) = n ∷ l ∷ b ∷ []
 
 unfoldable same : List ℕ → List ℕ → Bool
@@ -58,8 +60,8 @@ fn list<T: ToString>(numbers: &[T]) -> String {
 /// The theorem that `verdict` and `tableAfter` give the reading's answer on file k.
 fn theorem(k: u64, file: &[u8], answer: &[u64], table: &[u32]) -> String {
     let (room, shown) = (table.len(), file.escape_ascii());
-    let verdict = format!("same (numbersOf (verdict file-{k} {room})) ({})", list(answer));
-    let after = format!("same (tableAfter file-{k} (replicate {room} {LENT})) ({})", list(table));
+    let verdict = format!("same (numbersOf (verdict seal.Strict file-{k} (some {room}))) ({})", list(answer));
+    let after = format!("same (tableAfter seal.Strict file-{k} (replicate {room} {LENT})) ({})", list(table));
     format!(
         "
 -- file {k}: \"{shown}\", a table of {room} entries: {answer:?}
