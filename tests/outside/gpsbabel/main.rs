@@ -169,6 +169,10 @@ fn hold_tracks(gpx: &str, date: [u64; 3], fixes: &[Fix]) -> (usize, usize) {
     let (mut points, mut heights) = (0, 0);
     for (which, name) in ["PRESALTTRK", "GNSSALTTRK"].into_iter().enumerate() {
         let track = track(gpx, name);
+        // gpsbabel leaves out the track of an altitude that is 0 at every fix
+        if track.is_empty() && fixes.iter().all(|fix| fix.heights[which] == 0) {
+            continue;
+        }
         assert_eq!(track.len(), fixes.len(), "points of {name}");
         let (mut day, mut clock) = (date, 0);
         for (n, (point, fix)) in track.iter().zip(fixes).enumerate() {
