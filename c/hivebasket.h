@@ -9,6 +9,9 @@
    pointers without const) overlaps nothing else that is lent in the same call, and no other thread writes to what is lent. Apart from this a function
    answers every input; there is no state, no allocation and no input or output.
 
+   WHAT IS PROVED, of every input that keeps to this: the number returned, and the contents of all that is lent for writing, afterwards, are what the rules say
+   (docs/CONTRACTS.md names each function's promise). That the compiler's back end keeps this is not proved.
+
    THE NUMBER RETURNED is 0 where the call is good, else one of the refusal numbers below.
 
    THE ANSWER is HIVE_ANSWER numbers, of every function but hive_degrees:
@@ -31,7 +34,7 @@
 extern "C" {
 #endif
 
-enum { HIVE_ANSWER = 12, HIVE_HEIGHTS = 2, HIVE_DEGREES = 2, HIVE_NUMBER = 1 };
+enum { HIVE_ANSWER = 16, HIVE_HEIGHTS = 2, HIVE_DEGREES = 2, HIVE_NUMBER = 1 };
 
 /* Refusal numbers. */
 enum {

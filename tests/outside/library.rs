@@ -1,6 +1,6 @@
 //! The library as C has it (c/hivebasket.h), with nothing added: the number returned and everything that was lent, as it stands afterwards.
 
-pub const ANSWER: usize = 12;
+pub const ANSWER: usize = 16;
 
 /// What stands in lent memory before a call, so that an entry left unset shows.
 pub const BEFORE: u64 = 0x5A5A_5A5A_5A5A_5A5A;
@@ -173,7 +173,7 @@ pub fn fix(line: &[u8], layout: &[u8]) -> (Told, [i32; 2]) {
     (t, heights)
 }
 
-pub fn note(line: &[u8], layout: &[u8]) -> Told {
+pub fn extra(line: &[u8], layout: &[u8]) -> Told {
     told(|a, al| unsafe { c::hive_extra(line.as_ptr(), line.len(), layout.as_ptr(), layout.len(), a, al) })
 }
 
@@ -265,7 +265,7 @@ pub fn write_layout(text: &[u8], place: usize, out: &mut [u8]) -> Told {
     told(|a, al| unsafe { c::hive_write_layout(text.as_ptr(), text.len(), place, out.as_mut_ptr(), out.len(), a, al) })
 }
 
-pub fn write_note(seconds: u32, columns: &[u8], layout: &[u8], place: usize, out: &mut [u8]) -> Told {
+pub fn write_extra(seconds: u32, columns: &[u8], layout: &[u8], place: usize, out: &mut [u8]) -> Told {
     told(|a, al| unsafe {
         c::hive_write_extra(
             seconds,

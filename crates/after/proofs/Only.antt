@@ -3,13 +3,14 @@ use Prim.Native.Nat.{ℕ}
 use mathlib.Core.List.{List}
 use mathlib.Core.Path.{_≡_}
 use Rattle.rules.specs.Refusals.{Said}
+use Rattle.rules.specs.declared.Family.{Family}
 use Rattle.rules.specs.declared.Outcome.{Outcome}
 use Rattle.rules.specs.declared.Reason.{Reason}
 use Rattle.rules.specs.declared.State.{State}
 use Rattle.rules.specs.declared.TimeRead.{TimeRead}
 use Rattle.laws.proofs.Only.{Only, same, alike}
 use Rattle.laws.proofs.Told.{outcome-one}
-use Rattle.after.specs.Judges.{JudgedTold, RefusedAt, OutcomeJudged, TimeJudged, HeaderJudged, FixesJudged, ExtrasJudged, DeclarationJudged, FixJudged, ExtraJudged}
+use Rattle.after.specs.Judges.{JudgedTold, RefusedAt, OutcomeJudged, TimeJudged, HeaderJudged, LayoutJudged, DeclarationJudged, ColumnedJudged}
 
 pub judged-only : {s : Said State} → Only (JudgedTold s)
 judged-only r r′ e e′ =
@@ -29,17 +30,11 @@ only-time-judged read st = judged-only
 pub only-header-judged : (l : List ℕ) (st : State) → Only (HeaderJudged l st)
 only-header-judged l st = judged-only
 
-pub only-fixes-judged : (l : List ℕ) (st : State) → Only (FixesJudged l st)
-only-fixes-judged l st = judged-only
-
-pub only-extras-judged : (l : List ℕ) (st : State) → Only (ExtrasJudged l st)
-only-extras-judged l st = judged-only
+pub only-layout-judged : (f : Family) (l : List ℕ) (st : State) → Only (LayoutJudged f l st)
+only-layout-judged f l st = judged-only
 
 pub only-declaration-judged : (l : List ℕ) (st : State) → Only (DeclarationJudged l st)
 only-declaration-judged l st = judged-only
 
-pub only-fix-judged : (l : List ℕ) (st : State) → Only (FixJudged l st)
-only-fix-judged l st = judged-only
-
-pub only-extra-judged : (l : List ℕ) (st : State) → Only (ExtraJudged l st)
-only-extra-judged l st = judged-only
+pub only-columned-judged : (f : Family) (l : List ℕ) (st : State) → Only (ColumnedJudged f l st)
+only-columned-judged f l st = judged-only

@@ -2,17 +2,18 @@
 use Prim.Native.Nat.{ℕ}
 use mathlib.Core.List.{List}
 use mathlib.Core.Path.{_≡_}
-use Rattle.rules.specs.Lines.{bLine, kLine}
-use Rattle.rules.specs.Order.{start, timed, ruled}
+use Rattle.rules.specs.Families.{firstStart, layoutOf}
+use Rattle.rules.specs.Lines.{layoutLine, columnedLine}
+use Rattle.rules.specs.Order.{start, laidOut, timed, declarationLine, headerLine}
 use Rattle.rules.specs.Reads.{timeReadTold}
 use Rattle.rules.specs.Refusals.{Said, says, no, andThen, outcome, outcomeTold, valueOr}
+use Rattle.rules.specs.declared.Family.{Family}
 use Rattle.rules.specs.declared.Judged.{Judged}
-use Rattle.rules.specs.declared.Kind.the-variants as kind
 use Rattle.rules.specs.declared.Outcome.{Outcome}
 use Rattle.rules.specs.declared.Reason.{Reason}
 use Rattle.rules.specs.declared.State.{State}
 use Rattle.rules.specs.declared.TimeRead.{TimeRead}
-use Rattle.order.specs.States.{fixCounted, extraCounted}
+use Rattle.order.specs.States.{countedIn}
 
 -- the state after a line stands beside the answer; the state at the start where refused
 pub record JudgedTold (s : Said State) (r : Judged) : Type 0 where
@@ -32,20 +33,14 @@ abbrev pub TimeJudged : TimeRead → State → Judged → Type 0
 TimeJudged read st r = JudgedTold (andThen (timeReadTold read) λ t. timed t st) r
 
 abbrev pub HeaderJudged : List ℕ → State → Judged → Type 0
-HeaderJudged l st r = JudgedTold (ruled kind.H l st) r
+HeaderJudged l st r = JudgedTold (headerLine l st) r
 
-abbrev pub FixesJudged : List ℕ → State → Judged → Type 0
-FixesJudged l st r = JudgedTold (ruled kind.I l st) r
-
-abbrev pub ExtrasJudged : List ℕ → State → Judged → Type 0
-ExtrasJudged l st r = JudgedTold (ruled kind.J l st) r
+abbrev pub LayoutJudged : Family → List ℕ → State → Judged → Type 0
+LayoutJudged f l st r = JudgedTold (andThen (layoutLine (firstStart f) l) λ i. says (laidOut f i st)) r
 
 abbrev pub DeclarationJudged : List ℕ → State → Judged → Type 0
-DeclarationJudged l st r = JudgedTold (ruled kind.C l st) r
+DeclarationJudged l st r = JudgedTold (declarationLine l st) r
 
--- as `ruled`, but a count that is not few stays
-abbrev pub FixJudged : List ℕ → State → Judged → Type 0
-FixJudged l st r = JudgedTold (andThen (bLine (st .flight .fixes) l) λ f. timed (f .time) (fixCounted st)) r
-
-abbrev pub ExtraJudged : List ℕ → State → Judged → Type 0
-ExtraJudged l st r = JudgedTold (andThen (kLine (st .flight .extras) l) λ t. timed t (extraCounted st)) r
+-- as `ruled`, but counts that are not few stay
+abbrev pub ColumnedJudged : Family → List ℕ → State → Judged → Type 0
+ColumnedJudged f l st r = JudgedTold (andThen (columnedLine f (layoutOf f (st .flight .layouts)) l) λ t. timed t (countedIn f st)) r

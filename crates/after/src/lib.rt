@@ -1,11 +1,10 @@
 // The state after a line of each kind, by the rules of the kind: what its reading says, and the time order.
 ghost use Rattle.rules.specs.Order.{timed, dated, begun, pointed};
 ghost use Rattle.rules.specs.Refusals.{says, refusal, andThen};
-ghost use Rattle.rules.specs.Reads.{fixTold, dateReadTold, headTold, pointTold};
-ghost use Rattle.after.specs.Judges.{JudgedTold, RefusedAt, OutcomeJudged, TimeJudged, HeaderJudged, FixesJudged, ExtrasJudged, DeclarationJudged, FixJudged, ExtraJudged};
+ghost use Rattle.rules.specs.Reads.{dateReadTold, headTold, pointTold};
+ghost use Rattle.after.specs.Judges.{JudgedTold, RefusedAt, OutcomeJudged, TimeJudged, HeaderJudged, LayoutJudged, DeclarationJudged, ColumnedJudged};
 use rules::DateRead;
 use rules::Family;
-use rules::FixRead;
 use rules::HeadRead;
 use rules::Judged;
 use rules::Outcome;
@@ -100,15 +99,6 @@ pub fn after_time(read: TimeRead, st: State) -> Judged
     }
 }
 
-fn after_fix(read: FixRead, st: State) -> Judged
-    ensures { λ r. ⌜ JudgedTold (andThen (fixTold read) λ f. timed (f .time) st) r ⌝ }
-{
-    match read {
-        FixRead::Is(fix) => timed_at(fix.time, st),
-        FixRead::Refused(why) => refused(why),
-    }
-}
-
 // An H line: the second line of the file is the date line.
 pub fn judge_header(line: &[u8], st: State) -> Judged
     ensures { λ r. ⌜ HeaderJudged (now (line .entry)) st r ⌝ }
@@ -119,24 +109,14 @@ pub fn judge_header(line: &[u8], st: State) -> Judged
     after_outcome(line::header(line), st)
 }
 
-// An I line.
-pub fn judge_fixes(line: &[u8], st: State) -> Judged
-    ensures { λ r. ⌜ FixesJudged (now (line .entry)) st r ⌝ }
+// A line that tells the layout of a family.
+pub fn judge_layout(family: Family, line: &[u8], st: State) -> Judged
+    ensures { λ r. ⌜ LayoutJudged family (now (line .entry)) st r ⌝ }
 {
-    let read = layout::layout_line(Family::B, line);
+    let read = layout::layout_line(family, line);
     let outcome = read.outcome;
     let layout = read.layout;
-    after_outcome(outcome, order::with_fixes(layout, st))
-}
-
-// A J line.
-pub fn judge_extras(line: &[u8], st: State) -> Judged
-    ensures { λ r. ⌜ ExtrasJudged (now (line .entry)) st r ⌝ }
-{
-    let read = layout::layout_line(Family::K, line);
-    let outcome = read.outcome;
-    let layout = read.layout;
-    after_outcome(outcome, order::with_extras(layout, st))
+    after_outcome(outcome, order::laid_out(family, layout, st))
 }
 
 // A C line: a point where points are still to come, else the head of a declaration.
@@ -149,20 +129,14 @@ pub fn judge_declaration(line: &[u8], st: State) -> Judged
     after_point(line::point_line(line), st)
 }
 
-// A B line, with one B line more in the state.
-pub fn judge_fix(line: &[u8], st: State) -> Judged
-    ensures { λ r. ⌜ FixJudged (now (line .entry)) st r ⌝ }
+// A line of a family, with one more of them in the state.
+pub fn judge_columned(family: Family, line: &[u8], st: State) -> Judged
+    ensures { λ r. ⌜ ColumnedJudged family (now (line .entry)) st r ⌝ }
 {
     let flight = st.flight;
-    let layout = flight.fixes;
-    after_fix(line::fix_line(line, layout), order::fix_counted(st))
-}
-
-// A K line, with one K line more in the state.
-pub fn judge_extra(line: &[u8], st: State) -> Judged
-    ensures { λ r. ⌜ ExtraJudged (now (line .entry)) st r ⌝ }
-{
-    let flight = st.flight;
-    let layout = flight.extras;
-    after_time(line::extra_line(line, layout), order::extra_counted(st))
+    let layout = order::layout_of(family, flight.layouts);
+    after_time(
+        line::columned_line(family, line, layout),
+        order::counted_in(family, st),
+    )
 }

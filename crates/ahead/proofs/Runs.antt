@@ -1,22 +1,24 @@
 -- What holds at each turn of a run: the lines so far are passed, and the pace has the numbers after them. Assumes nothing.
 use Prim.Native.Nat.{ℕ, _+_, _*_, _≤_, _<_}
-use mathlib.Core.Bool.{true}
+use mathlib.Core.Bool.{Bool, true}
 use mathlib.Core.List.{List, [], _∷_}
 use mathlib.Core.Path.{_≡_, refl, sym, ap, _∙_}
 use native.Mathlib.Omega.{arith}
 use borrow.Author.Tests.{leb-true}
 use lib.Dec.{leb}
-use lib.ListN.{length, set, take, drop, replicate, length-set, length-take, length-replicate}
+use lib.ListN.{length, take, drop, replicate, length-take, length-replicate}
 use lib.Seq.{sets, sets-eq, length-sets, take-at}
-use Rattle.rules.specs.Layouts.{firstStart, allowed, entriesOf}
+use Rattle.rules.specs.Families.{firstStart}
+use Rattle.rules.specs.Layouts.{allowed, entriesOf}
 use Rattle.rules.specs.declared.Entry.{Entry}
 use Rattle.rules.specs.declared.Layout.{Layout}
+use Rattle.rules.specs.Roles.{afterH, inBody}
+use Rattle.rules.specs.declared.Seal.{Seal}
 use Rattle.rules.specs.declared.State.{State}
-use Rattle.plain.proofs.Laws.{and-inv}
-use Rattle.order.specs.States.{Few}
-use Rattle.order.specs.Turns.{Passed, Here}
-use Rattle.order.proofs.Counts.{lines-counted, bs-counted, ks-counted}
-use Rattle.order.proofs.Turns.{here-next}
+use Rattle.rules.proofs.Inverse.{and-inv}
+use Rattle.order.specs.Turns.{Passed, entry, EntryPut, Here}
+use Rattle.order.proofs.Counts.{lines-counted}
+use Rattle.order.proofs.Turns.{put-so, put-fits, put-long, here-next}
 use Rattle.sure.specs.Sure.{patternOf}
 use Rattle.pace.specs.Paces.{paced, Going, Takes, TakenAs}
 use Rattle.pace.specs.declared.Pace.{Pace}
@@ -27,63 +29,49 @@ use Rattle.ahead.specs.declared.Ahead.{Ahead}
 
 -- the numbers of a state, at a place
 abbrev pub paceOf : ℕ → State → Pace
-paceOf at st = record { at = at; stage = st .stage; clock = st .clock; lines = st .flight .lines; bs = st .flight .bs; ks = st .flight .ks }
+paceOf at st = record { at = at; stage = st .stage; clock = st .clock; lines = st .flight .lines; counts = st .flight .counts }
 
 pub taken-is : {file : List ℕ} {st : State} {p q : Pace} (r : Taken) → TakenAs file st p r → r ≡ taken.Next q → Takes file st p q
 taken-is r t e = rw e at t
 
 -- ---- the loop's invariant
 
-pub record Running (file table₀ : List ℕ) (from : ℕ) (st : State) (table : List ℕ) (p : Pace) : Type 0 where
+pub record Running (lent : Bool) (file table₀ : List ℕ) (from : ℕ) (st : State) (table : List ℕ) (p : Pace) : Type 0 where
   pub going : Going st p
   pub long : length table ≡ length table₀
   pub begun : from ≤ p .at
   pub within : p .at ≤ length file
   pub lines : p .lines + from ≤ st .flight .lines + p .at
-  pub bs : p .bs + from ≤ st .flight .bs + p .at
-  pub ks : p .ks + from ≤ st .flight .ks + p .at
-  pub reach : (t₀ : List ℕ) → Here file t₀ table₀ from st → Here file t₀ table (p .at) (paced st p)
+  pub reach : (seal : Seal) (t₀ : List ℕ) → Here seal lent file t₀ table₀ from st → Here seal lent file t₀ table (p .at) (paced st p)
 
-pub running-first : (file table : List ℕ) (from : ℕ) (st : State) (p : Pace) → p ≡ paceOf from st → from ≤ length file → st .points ≡ 0 → 2 ≤ st .stage → st .stage ≤ 5
-    → Running file table from st table p
-running-first file table from st p e w points low high =
-    rw e (record {
-      going = record { points = points; low = low; high = high };
-      long = refl;
-      begun = omega arith;
-      within = w;
-      lines = omega arith;
-      bs = omega arith;
-      ks = omega arith;
-      reach = λ t₀ h. h;
-    })
+pub running-first : (lent : Bool) (file table : List ℕ) (from : ℕ) (st : State) (p : Pace) → p ≡ paceOf from st → from ≤ length file → st .points ≡ 0 → afterH ≤ st .stage → st .stage ≤ inBody
+    → Running lent file table from st table p
+running-first lent file table from st p e w points low high =
+    rw e (record { going = record { points = points; low = low; high = high }; long = refl; begun = omega arith; within = w; lines = omega arith; reach = λ seal t₀ h. h })
 
-module _ {file table₀ table : List ℕ} {from : ℕ} {st : State} {p : Pace} (g : Running file table₀ from st table p) where
-  pub running-next : {q : Pace} → Takes file st p q → p .lines < length table → Running file table₀ from st (set table (p .lines) (p .at)) q
-  running-next {q} t l =
+module _ {lent : Bool} {file table₀ table : List ℕ} {from : ℕ} {st : State} {p : Pace} (g : Running lent file table₀ from st table p) where
+  pub running-next : {q : Pace} → Takes file st p q → (r : Bool) (after : List ℕ) → EntryPut lent table (p .lines) (p .at) r after → r ≡ true → Running lent file table₀ from st after q
+  running-next {q} t r after u e =
       let d = t .passed in
       let n : q .lines ≡ p .lines + 1 = lines-counted (d .text) (paced st p) (paced st q) (d .judged) in
-      let b : q .bs ≤ p .bs + 1 = bs-counted (d .text) (paced st p) (paced st q) (d .judged) in
-      let k : q .ks ≤ p .ks + 1 = ks-counted (d .text) (paced st p) (paced st q) (d .judged) in
+      let put : after ≡ entry lent table (p .lines) (p .at) = put-so u e in
       record {
         going = record { points = g .going .points; low = omega (arith, t .stage); high = omega (arith, t .stage) };
-        long = length-set table (p .lines) (p .at) ∙ g .long;
+        long = put-long lent table (p .lines) (p .at) after put ∙ g .long;
         begun = omega (arith, g .begun, d .place);
         within = d .within;
         lines = omega (arith, g .lines, d .place, n);
-        bs = omega (arith, g .bs, d .place, b);
-        ks = omega (arith, g .ks, d .place, k);
-        reach = λ t₀ h. let i = g .reach t₀ h in here-next i d (omega (arith, l, i .size));
+        reach = λ seal t₀ h. let i = g .reach seal t₀ h in here-next i d (put-fits u t₀ (i .size) e) put;
       }
 
   pub running-less : {q : Pace} → Takes file st p q → p .at < q .at
   running-less t = omega (arith, t .passed .place)
 
-  pub running-end : (r : Ahead) → r ≡ record { at = p .at; state = paced st p } → Ran file table₀ from st r table
-  running-end r e = rw e (record { onward = g .begun; long = g .long; reach = g .reach })
+  pub running-end : (table′ : List ℕ) → table′ ≡ table → (r : Ahead) → r ≡ record { at = p .at; state = paced st p } → Ran lent file table₀ from st r table′
+  running-end table′ k r e = rw (e, k) (record { onward = g .begun; long = g .long; reach = g .reach })
 
-pub ran-none : (file table : List ℕ) (from : ℕ) (st : State) (r : Ahead) → r ≡ record { at = from; state = st } → Ran file table from st r table
-ran-none file table from st r e = rw e (record { onward = omega arith; long = refl; reach = λ t₀ h. h })
+pub ran-none : (lent : Bool) (file table : List ℕ) (from : ℕ) (st : State) (r : Ahead) → r ≡ record { at = from; state = st } → Ran lent file table from st r table
+ran-none lent file table from st r e = rw e (record { onward = omega arith; long = refl; reach = λ seal t₀ h. h })
 
 -- ---- the pattern that was put for a layout
 

@@ -1,14 +1,16 @@
 -- What must hold before a run of lines that are surely good, and what holds after it.
 use Prim.Native.Nat.{ℕ, _≤_}
-use mathlib.Core.Bool.{true}
+use mathlib.Core.Bool.{Bool, true}
 use mathlib.Core.List.{List}
 use mathlib.Core.Path.{_≡_}
 use lib.ListN.{length, take}
-use Rattle.rules.specs.Layouts.{firstStart, allowed, lineLength, entriesOf}
-use Rattle.rules.specs.Order.{afterH, inBody}
+use Rattle.rules.specs.Families.{firstStart}
+use Rattle.rules.specs.Roles.{afterH, inBody}
+use Rattle.rules.specs.Layouts.{allowed, lineLength, entriesOf}
 use Rattle.rules.specs.declared.Family.{Family}
 use Rattle.rules.specs.declared.Family.the-variants as family
 use Rattle.rules.specs.declared.Layout.{Layout}
+use Rattle.rules.specs.declared.Seal.{Seal}
 use Rattle.rules.specs.declared.State.{State}
 use Rattle.order.specs.States.{Few}
 use Rattle.order.specs.Turns.{Here}
@@ -27,8 +29,8 @@ pub record MayRun (file : List ℕ) (from : ℕ) (st : State) : Type 0 where
 
 -- a line can tell each of the layouts
 pub record BothAllowed (st : State) : Type 0 where
-  pub fixes : allowed (firstStart family.B) (st .flight .fixes) ≡ true
-  pub extras : allowed (firstStart family.K) (st .flight .extras) ≡ true
+  pub fixes : allowed (firstStart family.B) (st .flight .layouts .b) ≡ true
+  pub extras : allowed (firstStart family.K) (st .flight .layouts .k) ≡ true
 
 -- what is known of the lines of a family with this layout
 pub record Gauged (f : Family) (l : Layout) (r : Gauge) : Type 0 where
@@ -37,7 +39,7 @@ pub record Gauged (f : Family) (l : Layout) (r : Gauge) : Type 0 where
   pub columned : take (r .end) (r .pattern) ≡ patternOf (entriesOf l)
 
 -- what held before the run holds after it: the lines between are passed, and their entries put
-pub record Ran (file table : List ℕ) (from : ℕ) (st : State) (r : Ahead) (table′ : List ℕ) : Type 0 where
+pub record Ran (lent : Bool) (file table : List ℕ) (from : ℕ) (st : State) (r : Ahead) (table′ : List ℕ) : Type 0 where
   pub onward : from ≤ r .at
   pub long : length table′ ≡ length table
-  pub reach : (t₀ : List ℕ) → Here file t₀ table from st → Here file t₀ table′ (r .at) (r .state)
+  pub reach : (seal : Seal) (t₀ : List ℕ) → Here seal lent file t₀ table from st → Here seal lent file t₀ table′ (r .at) (r .state)

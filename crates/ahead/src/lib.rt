@@ -3,8 +3,9 @@ ghost use Prim.Native.Nat.{_≤_};
 ghost use mathlib.Core.Bool.{true};
 ghost use mathlib.Core.Path.{_≡_};
 ghost use lib.ListN.{length};
-ghost use Rattle.rules.specs.Layouts.{firstStart, allowed};
-ghost use Rattle.rules.specs.Order.{afterH, inBody};
+ghost use Rattle.rules.specs.Families.{firstStart};
+ghost use Rattle.rules.specs.Roles.{afterH, inBody};
+ghost use Rattle.rules.specs.Layouts.{allowed};
 ghost use Rattle.rules.specs.declared.Family.the-variants as family;
 ghost use Rattle.order.specs.States.{Few};
 ghost use Rattle.pace.specs.Paces.{paced, Known};
@@ -25,32 +26,36 @@ pub struct Ahead {
 fn ahead_at(p: Pace, st: State) -> Ahead
     ensures { λ r. ⌜ r ≡ record { at = p .at; state = paced st p } ⌝ }
 {
+    let counts = p.counts;
+    let mut flight = st.flight;
+    flight.lines = p.lines;
+    flight.counts = counts;
     let mut state = st;
     state.stage = p.stage;
     state.clock = p.clock;
-    state.flight.lines = p.lines;
-    state.flight.bs = p.bs;
-    state.flight.ks = p.ks;
+    state.flight = flight;
     Ahead { at: p.at, state }
 }
 
 // The numbers of a state, at a place.
 fn pace_of(at: usize, st: State) -> Pace
-    ensures { λ r. ⌜ r ≡ record { at = at; stage = st .stage; clock = st .clock; lines = st .flight .lines; bs = st .flight .bs; ks = st .flight .ks } ⌝ }
+    ensures { λ r. ⌜ r ≡ record { at = at; stage = st .stage; clock = st .clock; lines = st .flight .lines; counts = st .flight .counts } ⌝ }
 {
+    let flight = st.flight;
+    let counts = flight.counts;
     Pace {
         at,
         stage: st.stage,
         clock: st.clock,
-        lines: st.flight.lines,
-        bs: st.flight.bs,
-        ks: st.flight.ks,
+        lines: flight.lines,
+        counts,
     }
 }
 
 // The lines from a place on, as far as they are surely good and the table has room.
 fn run_lines(
     file: &[u8],
+    lent: bool,
     table: &mut [u32],
     from: usize,
     b: usize,
@@ -61,18 +66,16 @@ fn run_lines(
 ) -> Ahead
     requires { ⌜ (from ≤ length (now file)) × (length (now file) ≤ 16777216) × Few st × (st .points ≡ 0) × (afterH ≤ st .stage) × (st .stage ≤ inBody)
         × Known family.B st b (now fixes) × Known family.K st k (now extras) ⌝ }
-    ensures { λ r. ⌜ Ran (now (file .entry)) (now (table .entry)) from st r (now (table .exit)) ⌝ }
+    ensures { λ r. ⌜ Ran lent (now (file .entry)) (now (table .entry)) from st r (now (table .exit)) ⌝ }
 {
     let mut p = pace_of(from, st);
     while p.at < file.len() {
         let Taken::Next(next) = pace::take_line(file, p, b, fixes, k, extras) else {
             return ahead_at(p, st);
         };
-        let n = p.lines as usize;
-        if table.len() <= n {
+        if !order::put_entry(lent, table, p.lines as usize, p.at as u32) {
             return ahead_at(p, st);
         }
-        table[n] = p.at as u32;
         p = next;
     }
     ahead_at(p, st)
@@ -85,10 +88,10 @@ fn may_run(file: &[u8], from: usize, st: State) -> bool
     if st.points != 0 {
         return false;
     }
-    if st.stage < 2 {
+    if st.stage < order::AFTER_H {
         return false;
     }
-    if 5 < st.stage {
+    if order::IN_BODY < st.stage {
         return false;
     }
     if 16777216 < file.len() {
@@ -105,8 +108,9 @@ fn are_allowed(st: State) -> bool
     ensures { λ r. ⌜ (r ≡ true → BothAllowed st) ⌝ }
 {
     let flight = st.flight;
-    let fixes = flight.fixes;
-    let extras = flight.extras;
+    let layouts = flight.layouts;
+    let fixes = layouts.b;
+    let extras = layouts.k;
     if !layout::allowed(Family::B, fixes) {
         return false;
     }
@@ -133,14 +137,15 @@ fn gauge_of(family: Family, layout: Layout) -> Gauge
 // The lines from a place on where they may come, by what is known of their families.
 fn run_known(
     file: &[u8],
+    lent: bool,
     table: &mut [u32],
     from: usize,
     fixes: Gauge,
     extras: Gauge,
     st: State,
 ) -> Ahead
-    requires { ⌜ MayRun (now file) from st × BothAllowed st × Gauged family.B (st .flight .fixes) fixes × Gauged family.K (st .flight .extras) extras ⌝ }
-    ensures { λ r. ⌜ Ran (now (file .entry)) (now (table .entry)) from st r (now (table .exit)) ⌝ }
+    requires { ⌜ MayRun (now file) from st × BothAllowed st × Gauged family.B (st .flight .layouts .b) fixes × Gauged family.K (st .flight .layouts .k) extras ⌝ }
+    ensures { λ r. ⌜ Ran lent (now (file .entry)) (now (table .entry)) from st r (now (table .exit)) ⌝ }
 {
     let b = fixes.size;
     let m = fixes.end;
@@ -148,26 +153,37 @@ fn run_known(
     let k = extras.size;
     let n = extras.end;
     let others = extras.pattern;
-    run_lines(file, table, from, b, &columns[..m], k, &others[..n], st)
+    run_lines(
+        file,
+        lent,
+        table,
+        from,
+        b,
+        &columns[..m],
+        k,
+        &others[..n],
+        st,
+    )
 }
 
 // The lines from a place on where they may come, with what the layouts say of them.
-fn run_body(file: &[u8], table: &mut [u32], from: usize, st: State) -> Ahead
+fn run_body(file: &[u8], lent: bool, table: &mut [u32], from: usize, st: State) -> Ahead
     requires { ⌜ MayRun (now file) from st × BothAllowed st ⌝ }
-    ensures { λ r. ⌜ Ran (now (file .entry)) (now (table .entry)) from st r (now (table .exit)) ⌝ }
+    ensures { λ r. ⌜ Ran lent (now (file .entry)) (now (table .entry)) from st r (now (table .exit)) ⌝ }
 {
     let flight = st.flight;
-    let fixes = flight.fixes;
-    let extras = flight.extras;
+    let layouts = flight.layouts;
+    let fixes = layouts.b;
+    let extras = layouts.k;
     let b = gauge_of(Family::B, fixes);
     let k = gauge_of(Family::K, extras);
-    run_known(file, table, from, b, k, st)
+    run_known(file, lent, table, from, b, k, st)
 }
 
-// The B, K, E, F and L lines from a place on, as far as they may come, are surely good and the table has room: the place after them and the state there, with their
-// offsets put into the table. It may stop before any line; what it passed is passed as the check passes it.
-pub fn run_ahead(file: &[u8], table: &mut [u32], from: usize, st: State) -> Ahead
-    ensures { λ r. ⌜ Ran (now (file .entry)) (now (table .entry)) from st r (now (table .exit)) ⌝ }
+// The B, K, E, F and L lines from a place on, as far as they may come, are surely good and the table, if one is lent, has room: the place after them and the state
+// there, with their offsets put into it. It may stop before any line; what it passed is passed as the check passes it.
+pub fn run_ahead(file: &[u8], lent: bool, table: &mut [u32], from: usize, st: State) -> Ahead
+    ensures { λ r. ⌜ Ran lent (now (file .entry)) (now (table .entry)) from st r (now (table .exit)) ⌝ }
 {
     if !may_run(file, from, st) {
         return Ahead {
@@ -181,5 +197,5 @@ pub fn run_ahead(file: &[u8], table: &mut [u32], from: usize, st: State) -> Ahea
             state: st,
         };
     }
-    run_body(file, table, from, st)
+    run_body(file, lent, table, from, st)
 }

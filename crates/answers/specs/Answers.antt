@@ -15,7 +15,7 @@ use Rattle.answers.specs.declared.Numbers.{Numbers}
 
 -- how many numbers an answer has
 abbrev pub size : ℕ
-size = 12
+size = 16
 
 -- n numbers: those of a list, and 0 behind the last
 abbrev pub filled : ℕ → List ℕ → List ℕ

@@ -7,7 +7,7 @@ use rules::Refusal;
 use rules::TimeRead;
 
 // How many numbers an answer has.
-pub const SIZE: usize = 12;
+pub const SIZE: usize = 16;
 
 // The number that a call returns, and the numbers of its answer.
 pub struct Numbers {
@@ -56,7 +56,7 @@ pub fn refused(why: Refusal) -> Numbers
     let byte = why.byte as u64;
     Numbers {
         number,
-        values: [line, byte, 0, 0, 0, 0, 0, 0, 0, 0, 0, 0],
+        values: [line, byte, 0, 0, 0, 0, 0, 0, 0, 0, 0, 0, 0, 0, 0, 0],
     }
 }
 
@@ -66,7 +66,7 @@ pub fn accepted(a: u64, b: u64, c: u64, d: u64, e: u64, f: u64, g: u64, h: u64, 
 {
     Numbers {
         number: 0,
-        values: [0, 0, a, b, c, d, e, f, g, h, i, 0],
+        values: [0, 0, a, b, c, d, e, f, g, h, i, 0, 0, 0, 0, 0],
     }
 }
 

@@ -19,7 +19,7 @@ use Rattle.rules.specs.declared.Layout.{Layout}
 use Rattle.rules.specs.declared.Fix.{Fix}
 use Rattle.show.proofs.Laws.{fix-room, column-room}
 use Rattle.show.proofs.Callers.{column-spelt}
-use Rattle.trips.proofs.Laws.{and-inv}
+use Rattle.rules.proofs.Inverse.{and-inv}
 use Rattle.block.specs.Blocks.{columnLines, printed}
 
 pub take-most : {A : Type 0} (n : ℕ) (l : List A) → length (take n l) ≤ n

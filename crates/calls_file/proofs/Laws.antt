@@ -2,6 +2,7 @@
 use Prim.Native.Nat.{ℕ}
 use native.Mathlib.Omega.{arith}
 use mathlib.Core.List.{List}
+use mathlib.Core.Option.{some}
 use mathlib.Core.Path.{_≡_, _∙_}
 use lib.ListN.{length}
 use borrow.Author.Tests.{eq-eqb, ne-eqb}
@@ -13,6 +14,7 @@ use Rattle.rules.specs.declared.Checked.{Checked}
 use Rattle.rules.specs.declared.Outcome.{Outcome}
 use Rattle.rules.specs.declared.Outcome.the-variants as outcomes
 use Rattle.rules.specs.declared.Refusal.{Refusal}
+use Rattle.rules.specs.declared.Seal.the-variants as seal
 use Rattle.answers.specs.Answers.{size, AnswerGiven, accepting, refusing, inNumbers, outcomeNumbers}
 use Rattle.answers.specs.declared.Numbers.{Numbers}
 use Rattle.answers.proofs.Laws.{no-room, same-numbers}
@@ -40,10 +42,10 @@ module _ (file table answer : List ℕ) where
   pub check-no-room : (length answer ≡ size → ⊥) → CheckAnswered file table answer 17 table answer
   check-no-room h = record { told = no-room _ _ h; entries = rw (ne-eqb (length answer) size h) }
 
-  pub check-room : (checked : Checked) (n : Numbers) (r : ℕ) (tableNow answerNow : List ℕ) → length answer ≡ size → FileChecked file table checked tableNow → n ≡ checkedNumbers checked → AnswerGiven answer n r answerNow → CheckAnswered file table answer r tableNow answerNow
+  pub check-room : (checked : Checked) (n : Numbers) (r : ℕ) (tableNow answerNow : List ℕ) → length answer ≡ size → FileChecked seal.Strict file table checked tableNow → n ≡ checkedNumbers checked → AnswerGiven answer n r answerNow → CheckAnswered file table answer r tableNow answerNow
   unfolding checkedNumbers
   check-room checked n r tableNow answerNow h f e a =
       record {
-        told = same-numbers _ _ _ _ _ _ (e ∙ numbers-said flightNumbers noFlight _ _ (verdict file (length table)) (f .told .answer) (f .told .flight)) a;
+        told = same-numbers _ _ _ _ _ _ (e ∙ numbers-said flightNumbers noFlight _ _ (verdict seal.Strict file (some (length table))) (f .told .answer) (f .told .flight)) a;
         entries = rw (eq-eqb (length answer) size h) (f .entries);
       }

@@ -2,19 +2,23 @@
 use Prim.Native.Nat.{ℕ}
 use mathlib.Core.Bool.{cond}
 use mathlib.Core.List.{List, [], _∷_}
+use mathlib.Core.Option.{some}
 use mathlib.Core.Path.{_≡_}
 use lib.ListN.{length}
+use Rattle.rules.specs.Families.{firstStart}
 use Rattle.rules.specs.Files.{verdict, tableAfter}
 use Rattle.rules.specs.Layouts.{lineLength}
 use Rattle.rules.specs.declared.Checked.{Checked}
+use Rattle.rules.specs.declared.Family.the-variants as family
 use Rattle.rules.specs.declared.Flight.{Flight}
+use Rattle.rules.specs.declared.Seal.the-variants as seal
 use Rattle.answers.specs.Answers.{size, inNumbers, outcomeNumbers, hasRoom, AnswerGiven}
 use Rattle.answers.specs.declared.Numbers.{Numbers}
 
 -- "the date, the I and J layouts, the count of lines, of B lines and of K lines": the layouts by the lengths of their lines
 abbrev pub flightNumbers : Flight → List ℕ
 flightNumbers f =
-    f .date .day ∷ f .date .month ∷ f .date .year ∷ f .lines ∷ f .bs ∷ f .ks ∷ lineLength 36 (f .fixes) ∷ lineLength 8 (f .extras) ∷ []
+    f .date .day ∷ f .date .month ∷ f .date .year ∷ f .lines ∷ f .counts .b ∷ f .counts .k ∷ lineLength (firstStart family.B) (f .layouts .b) ∷ lineLength (firstStart family.K) (f .layouts .k) ∷ []
 
 -- the answer on a file
 unfoldable pub checkedNumbers : Checked → Numbers
@@ -22,5 +26,5 @@ checkedNumbers c = outcomeNumbers (flightNumbers (c .flight)) (c .outcome)
 
 -- the check of a file, with the table of its lines' offsets
 pub record CheckAnswered (file table answer : List ℕ) (r : ℕ) (tableNow answerNow : List ℕ) : Type 0 where
-  pub told : AnswerGiven answer (inNumbers flightNumbers (verdict file (length table))) r answerNow
-  pub entries : tableNow ≡ cond (hasRoom size answer) (tableAfter file table) table
+  pub told : AnswerGiven answer (inNumbers flightNumbers (verdict seal.Strict file (some (length table)))) r answerNow
+  pub entries : tableNow ≡ cond (hasRoom size answer) (tableAfter seal.Strict file table) table

@@ -10,21 +10,32 @@ use rules::Checked;
 use rules::Family;
 use rules::Flight;
 use rules::Outcome;
+use rules::Seal;
 
 // What an accepted file says.
 fn flight(f: Flight) -> Numbers
     ensures { λ r. ⌜ r ≡ accepting (flightNumbers f) ⌝ }
 {
     let date = f.date;
-    let fixes = f.fixes;
-    let extras = f.extras;
-    let b = layout::line_length(Family::B, fixes) as u64;
-    let k = layout::line_length(Family::K, extras) as u64;
+    let layouts = f.layouts;
+    let counts = f.counts;
+    let b = layout::line_length(Family::B, layouts.b) as u64;
+    let k = layout::line_length(Family::K, layouts.k) as u64;
     let day = date.day as u64;
     let month = date.month as u64;
     let year = date.year as u64;
     let lines = f.lines as u64;
-    accepted(day, month, year, lines, f.bs as u64, f.ks as u64, b, k, 0)
+    accepted(
+        day,
+        month,
+        year,
+        lines,
+        counts.b as u64,
+        counts.k as u64,
+        b,
+        k,
+        0,
+    )
 }
 
 // What is said of a file.
@@ -46,6 +57,6 @@ pub fn check(file: &[u8], table: &mut [u32], answer: &mut [u64]) -> u32
     if answer.len() != SIZE {
         return 17;
     }
-    let checked = file::check(file, table);
+    let checked = file::check(Seal::Strict, file, table);
     answers::give(answer, numbers(checked))
 }

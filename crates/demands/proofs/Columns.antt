@@ -1,34 +1,168 @@
--- The columns of a line: a code of the layout leads to its entry's bytes, as many as it is wide, and to the number that they spell, every other code to none, and
--- together the columns are the line's tail. Assumes nothing.
-use Prim.Native.Nat.{ℕ, zero, suc, _+_, _-_, _^_, _/_, _%_, _≤_, _<_}
+-- The columns of a line: by an allowed layout its tail is good exactly when it is the columns one behind the other; a code of the layout leads to its entry's bytes, as many
+-- as it is wide, and to the number that they spell, every other code to none, and together they are the tail. Assumes nothing.
+use Prim.Native.Nat.{ℕ, suc, _+_, _-_, _≤_, zero, _^_, _/_, _%_, _<_}
 use Prim.Native.Char.{code}
-use mathlib.Core.Bool.{Bool, true, false, cond}
-use mathlib.Core.List.{List, [], _∷_, _++_, append-assoc, append-nil}
-use mathlib.Core.Option.{Option, none, some}
+use mathlib.Core.Bool.{true, false, Bool, cond}
+use mathlib.Core.List.{List, [], _∷_, _++_, append-nil}
+use mathlib.Core.Logic.{_↔_}
 use mathlib.Core.Path.{_≡_, refl, sym, _∙_, ap, subst}
+use mathlib.Core.Option.{Option, none, some}
 use native.Mathlib.Omega.{arith}
-use borrow.Author.Tests.{le-leb, leb-true, eqb-true, eq-eqb, ne-eqb}
+use borrow.Author.Tests.{eqb-true, eq-eqb, ne-eqb, not-false, le-leb, leb-true}
 use lib.Dec.{eqb, leb}
+use lib.ListN.{length, getD, take, drop, replicate, length-append, length-drop, take-append-drop, List·getD-append}
+use lib.Seq.{drop-drop, drop-at, take-at, length-take-le, drop-length}
 use lib.IntN.{pos, negℤ}
-use lib.ListN.{length, getD, drop, length-append, length-drop, take-append-drop}
-use lib.Seq.{drop-length, drop-drop, length-take-le}
-use Rattle.rules.specs.Choice.{given, need, on, firstOf, part}
-use Rattle.rules.specs.Refusals.{says, refuses, number}
-use Rattle.rules.specs.Numbers.{numberAt, digitsOf, wholeOf}
-use Rattle.rules.specs.Listed.{packedOf, codeText}
-use Rattle.rules.specs.Layouts.{emptyLayout, withEntry, entriesOf, Span, spanOf, look, firstStart, allowed, lineLength, columnText}
-use Rattle.rules.specs.Reads.{lineSaid, columnSaid, columnRest, numberSaid}
-use Rattle.rules.specs.declared.Signed.{Signed}
+use Rattle.rules.specs.Choice.{part, Each, given, need, on, firstOf}
+use Rattle.rules.specs.Chars.{isValid}
+use Rattle.rules.specs.Listed.{keepsRule, packedOf, codeText}
+use Rattle.rules.specs.Layouts.{unused, entriesOf, allowed, lineLength, Span, spanOf, look, columnText}
 use Rattle.rules.specs.declared.Entry.{Entry}
 use Rattle.rules.specs.declared.Layout.{Layout}
+use Rattle.rules.specs.Limits.{isClean, badTail, goodTail}
+use Rattle.rules.specs.Families.{firstStart}
+use Rattle.rules.specs.Refusals.{says, refuses, number}
+use Rattle.rules.specs.Numbers.{numberAt, digitsOf, wholeOf}
+use Rattle.rules.specs.Reads.{entriesSaid, columnSaid, columnRest, numberSaid}
+use Rattle.rules.specs.declared.Signed.{Signed}
 use Rattle.rules.specs.declared.Family.{Family}
-use Rattle.trips.proofs.Laws.{none-some, given-inv, need-inv, byte-there}
+use Rattle.rules.proofs.Inverse.{false-true, need-inv, none-some, given-inv}
+use Rattle.trips.proofs.Texts.{clean-valid}
+use Rattle.trips.proofs.Laws.{byte-there}
 use Rattle.trips.proofs.Digits.{digits-length, digits-front, number-there, number-here}
-use Rattle.demands.specs.Grammar.{Each, widthOf, laid}
+use Rattle.demands.specs.Grammar.{laid, widthOf, IsEntry, Tiles, Columns, none, column}
 use Rattle.demands.specs.Readings.{Spells, plain, minus, NumberOf, ReadsColumn, columnTexts, IsName, ReadsColumns}
-use Rattle.demands.proofs.Laws.{each-map, each-both, none-found}
-use Rattle.demands.proofs.Tails.{end-of, end-past, line-end}
-use Rattle.demands.proofs.Entries.{unpacked, packed-back, Fits, Tiled, with-laid, Coded, carries-none, allowed-there}
+use Rattle.demands.proofs.Laws.{each-map, each-cut, each-join, are-valid, valid-are, nothing-found, none-found, nothing-given, each-both, rule-exactly}
+use Rattle.demands.proofs.LayoutLines.{allowed-there, unpacked, packed-back, Coded}
+
+-- ---- where a line ends
+
+-- where the last of the entries ends
+abbrev pub end-of : List Entry → ℕ → ℕ
+end-of [] start = start - 1
+end-of (e ∷ es) start = end-of es (e .last + 1)
+
+last-end : (e : Entry) (es : List Entry) → getD (e ∷ es) (length es) unused .last ≡ end-of es (e .last + 1)
+last-end e [] = omega arith
+last-end e (x ∷ es) = last-end x es
+
+pub line-end : (start : ℕ) (es : List Entry) → lineLength start (laid es) ≡ end-of es start
+unfolding lineLength
+line-end start [] = refl
+line-end start (e ∷ es) =
+    let n : suc (length es) - 1 ≡ length es = omega arith in
+    let g = List·getD-append (e ∷ es) (replicate (13 - suc (length es)) unused) unused (length es) (omega arith) in
+    rw (ne-eqb (suc (length es)) 0 (λ z. omega arith), n, g) (last-end e es)
+
+-- no entry ends before the first starts
+pub end-past : (es : List Entry) (from : ℕ) → Tiles from es → 1 ≤ from → from ≤ end-of es from + 1
+end-past [] from w h = omega arith
+end-past (e ∷ es) from w h =
+    let f : IsEntry from e = w .0 in
+    let r = end-past es (e .last + 1) (w .2) (omega arith) in
+    omega (arith, f .starts, f .ends)
+
+-- one column less, or more, ends where the line ends
+past-column : (first last from all left end : ℕ) → first ≡ from → first ≤ last → 1 ≤ from → last - first + 1 ≤ all → from - 1 + all ≡ end
+    → left ≡ all - (last - first + 1) → last + 1 - 1 + left ≡ end
+past-column first last from all left end a b c d e f = omega arith
+
+with-column : (first last from wide left end : ℕ) → first ≡ from → first ≤ last → 1 ≤ from → wide ≡ last - first + 1 → last + 1 - 1 + left ≡ end
+    → from - 1 + (wide + left) ≡ end
+with-column first last from wide left end a b c d e = omega arith
+
+-- ---- the columns of a tail
+
+module _ (start : ℕ) (tail : List ℕ) where
+  -- the text of an entry's column keeps its code's rule
+  abbrev Keeps : Entry → Type 0
+  Keeps e = keepsRule (e .code) (part (e .first - start) (e .last + 1 - start) tail) ≡ true
+
+  -- what is left of the tail, from byte `from` of the line on, is the text of these entries
+  record Left (es : List Entry) (from : ℕ) (rest : List ℕ) : Type 0 where
+    here : drop (from - start) tail ≡ rest
+    long : from - 1 + length rest ≡ end-of es from
+    valid : Each (λ b. isValid false b ≡ true) rest
+    ruled : Each Keeps es
+
+  module _ (low : 1 ≤ start) where
+    columns-there : (es : List Entry) (from : ℕ) (rest : List ℕ) → Tiles from es → start ≤ from → Left es from rest → Columns es rest
+    columns-there [] from [] w h c = none
+    columns-there [] from (b ∷ rest) w h c = absurd (omega (arith, c .long))
+    columns-there (e ∷ es) from rest w h c =
+        let f : IsEntry from e = w .0 in
+        let n = end-past es (e .last + 1) (w .2) (omega arith) in
+        let k : widthOf e ≤ length rest = omega (arith, f .starts, f .ends, c .long) in
+        let p : e .first - start ≡ from - start = ap (λ x. x - start) (f .starts) in
+        let q : e .last + 1 - start - (from - start) ≡ widthOf e = omega (arith, f .starts, f .ends) in
+        let t : part (e .first - start) (e .last + 1 - start) tail ≡ take (widthOf e) rest =
+        ap (λ x. take (e .last + 1 - start - x) (drop x tail)) p ∙ ap (λ x. take (e .last + 1 - start - (from - start)) x) (c .here) ∙ ap (λ x. take x rest) q in
+        let s = take-append-drop (widthOf e) rest in
+        let v = each-cut (λ b. isValid false b ≡ true) (take (widthOf e) rest) (drop (widthOf e) rest) (subst (Each (λ b. isValid false b ≡ true)) (sym s) (c .valid)) in
+        let i : from - start + widthOf e ≡ e .last + 1 - start = omega (arith, f .starts, f .ends) in
+        let r = columns-there es (e .last + 1) (drop (widthOf e) rest) (w .2) (omega (arith, f .starts, f .ends)) (record {
+          here = ap (λ x. drop x tail) (sym i) ∙ sym (drop-drop (widthOf e) (from - start) tail) ∙ ap (drop (widthOf e)) (c .here);
+          long = past-column (e .first) (e .last) from (length rest) _ _ (f .starts) (f .ends) (omega arith) k (c .long) (length-drop (widthOf e) rest);
+          valid = v .1;
+          ruled = c .ruled .1;
+        }) in
+        subst (Columns (e ∷ es)) s (column (take (widthOf e) rest) (length-take-le (widthOf e) rest k) (v .0) (rule-exactly (e .code) (take (widthOf e) rest) .0 (ap (keepsRule (e .code)) (sym t) ∙ c .ruled .0)) r)
+
+    columns-here : (es : List Entry) (from : ℕ) (rest : List ℕ) → Tiles from es → start ≤ from → drop (from - start) tail ≡ rest → Columns es rest
+        → Left es from rest
+    columns-here [] from rest w h g none = record { here = g; long = omega arith; valid = tt; ruled = tt }
+    columns-here (e ∷ es) from rest w h g (column {t = r} c n v u x) =
+        let f : IsEntry from e = w .0 in
+        let p : e .first - start ≡ from - start = ap (λ x. x - start) (f .starts) in
+        let q : e .last + 1 - start - (from - start) ≡ widthOf e = omega (arith, f .starts, f .ends) in
+        let t : part (e .first - start) (e .last + 1 - start) tail ≡ c =
+        ap (λ x. take (e .last + 1 - start - x) (drop x tail)) p ∙ ap (λ x. take (e .last + 1 - start - (from - start)) x) g ∙ ap (λ x. take x (c ++ r)) q ∙ take-at c r (widthOf e) n in
+        let i : from - start + widthOf e ≡ e .last + 1 - start = omega (arith, f .starts, f .ends) in
+        let d : drop (e .last + 1 - start) tail ≡ r =
+        ap (λ x. drop x tail) (sym i) ∙ sym (drop-drop (widthOf e) (from - start) tail) ∙ ap (drop (widthOf e)) g ∙ drop-at c r (widthOf e) n in
+        let k = columns-here es (e .last + 1) r (w .2) (omega (arith, f .starts, f .ends)) d x in
+        record {
+          here = g;
+          long = ap (λ x. from - 1 + x) (length-append c r) ∙ with-column (e .first) (e .last) from (length c) (length r) _ (f .starts) (f .ends) (omega arith) n (k .long);
+          valid = each-join (λ b. isValid false b ≡ true) c r v (k .valid);
+          ruled = (ap (keepsRule (e .code)) t ∙ rule-exactly (e .code) c .1 u, k .ruled);
+        }
+
+-- ---- the theorem
+
+pub tail-exactly : (start : ℕ) (tail : List ℕ) (layout : Layout) → 1 ≤ start → allowed start layout ≡ true → length (layout .entries) ≡ 13
+    → (goodTail start tail layout ≡ true) ↔ Columns (entriesOf layout) tail
+unfolding goodTail badTail
+tail-exactly start tail layout low good slots = (there, here)
+  where
+    es : List Entry
+    es = entriesOf layout
+
+    ends : lineLength start layout ≡ end-of (entriesOf layout) start
+    ends = ap (lineLength start) (allowed-there start layout good slots .3) ∙ line-end start (entriesOf layout)
+
+    same : start - start ≡ 0
+    same = omega arith
+
+    there : goodTail start tail layout ≡ true → Columns (entriesOf layout) tail
+    there e =
+        let a = need-inv (allowed start layout) false true _ false-true e in
+        let n = need-inv (eqb (start - 1 + length tail) (lineLength start layout)) false true _ false-true (a .1) in
+        let c = need-inv (isClean tail) false true _ false-true (n .1) in
+        let w = allowed-there start layout good slots .2 in
+        columns-there start tail low (entriesOf layout) start tail w (omega arith) (record {
+          here = ap (λ x. drop x tail) same;
+          long = eqb-true _ _ (n .0) ∙ ends;
+          valid = are-valid tail (sym (clean-valid tail) ∙ c .0);
+          ruled = each-map (entriesOf layout) (λ e h. not-false _ h) (nothing-found _ _ (entriesOf layout) 0 (nothing-given _ (c .1)));
+        })
+
+    here : Columns (entriesOf layout) tail → goodTail start tail layout ≡ true
+    here x =
+        let w = allowed-there start layout good slots .2 in
+        let k = columns-here start tail low (entriesOf layout) start tail w (omega arith) (ap (λ x. drop x tail) same) x in
+        let b : badTail start tail layout ≡ _ = none-found _ _ (entriesOf layout) 0 (each-map (entriesOf layout) (λ e h. rw h refl) (k .ruled)) in
+        rw (good, eq-eqb _ _ (k .long ∙ sym ends), clean-valid tail, valid-are tail (k .valid), b)
 
 -- ---- the number that a text spells
 
@@ -87,55 +221,31 @@ number-of t none e = (refl, λ z s. none-some (sym e ∙ whole-here t s))
 
 -- ---- looking for a code
 
--- past entries of other codes
-past-others : (x : ℕ) (pre es : List Entry) (n : ℕ) → Each (λ e. Coded x e ≡ false) pre
-    → firstOf (Coded x) (λ k e. spanOf e) (pre ++ es) n ≡ firstOf (Coded x) (λ k e. spanOf e) es (length pre + n)
-unfolding firstOf
-past-others x [] es n h = ap (λ i. firstOf (Coded x) (λ k e. spanOf e) es i) (omega arith)
-past-others x (e ∷ pre) es n h =
-    rw (h .0) (past-others x pre es (suc n) (h .1) ∙ ap (λ i. firstOf (Coded x) (λ k e. spanOf e) es i) (omega arith))
-
 -- each entry is the first of its code
-looked : (start : ℕ) (pre es : List Entry) → length pre + length es ≤ 13 → Tiled es start (laid pre)
-    → Each (λ e. firstOf (Coded (e .code)) (λ k e. spanOf e) (pre ++ es) 0 ≡ some (spanOf e)) es
+looked : (es : List Entry) (start n : ℕ) → Tiles start es → Each (λ e. firstOf (Coded (e .code)) (λ k e. spanOf e) es n ≡ some (spanOf e)) es
 unfolding firstOf
-looked start pre [] n w = tt
-looked start pre (e ∷ es) n w =
-    let f : Fits start (laid pre) e = w .1 in
-    let r = looked (e .last + 1) (pre ++ (e ∷ [])) es (omega (arith, length-append pre (e ∷ []))) (subst (Tiled es (e .last + 1)) (with-laid pre e (omega arith)) (w .2)) in (
-      past-others (e .code) pre (e ∷ es) 0 (each-map pre (λ x. ne-eqb (x .code) (e .code)) (carries-none pre (e .code) (f .once))) ∙ rw (eq-eqb (e .code) (e .code) refl),
-      each-map es (λ x h. subst (λ l. firstOf (Coded (x .code)) (λ k e. spanOf e) l 0 ≡ some (spanOf x)) (append-assoc pre (e ∷ []) es) h) r,
-    )
+looked [] start n w = tt
+looked (e ∷ es) start n w = (
+  rw (eq-eqb (e .code) (e .code) refl),
+  each-map es (λ x h. rw (ne-eqb (e .code) (x .code) (λ i. h .0 (sym i))) (h .1))
+      (each-both es (λ x. x .code ≡ e .code → ⊥) (λ x. firstOf (Coded (x .code)) (λ k e. spanOf e) es (suc n) ≡ some (spanOf x)) (w .1) (looked es (e .last + 1) (suc n) (w .2))),
+)
 
--- ---- the columns stand one behind the other, up to the line's end
+-- ---- the columns stand one behind the other, each as wide as its entry says, up to the line's end
 
-texts-tail : (es : List Entry) (start : ℕ) (before : Layout) (l : List ℕ) → Tiled es start before → 1 ≤ start → length l ≡ end-of es start
-    → columnTexts l es ≡ drop (start - 1) l
+texts-are : (l : List ℕ) (es : List Entry) (from : ℕ) (rest : List ℕ) → Tiles from es → 1 ≤ from → drop (from - 1) l ≡ rest → Columns es rest
+    → (columnTexts l es ≡ rest) × Each (λ e. length (columnText l (spanOf e)) ≡ widthOf e) es
 unfolding columnTexts
-texts-tail [] start before l w h n = sym (ap (λ i. drop i l) (sym n) ∙ drop-length l)
-texts-tail (e ∷ es) start before l w h n =
-    let f : Fits start before e = w .1 in
-    let a : e .first - 1 ≡ start - 1 = omega (arith, f .starts) in
-    let b : start - 1 + (e .last - (start - 1)) ≡ e .last = omega (arith, f .starts, f .ends) in
-    let c : e .last + 1 - 1 ≡ e .last = omega arith in
-    let r = texts-tail es (e .last + 1) (withEntry before e) l (w .2) (omega arith) n in
-    let d : drop (e .last) l ≡ drop (e .last - (start - 1)) (drop (start - 1) l) = sym (drop-drop (e .last - (start - 1)) (start - 1) l ∙ ap (λ i. drop i l) b) in
-    ap (λ x. part (e .first - 1) (e .last) l ++ x) (r ∙ ap (λ i. drop i l) c ∙ d)
-    ∙ ap (λ i. part i (e .last) l ++ drop (e .last - (start - 1)) (drop (start - 1) l)) a
-    ∙ take-append-drop (e .last - (start - 1)) (drop (start - 1) l)
-
--- each is as wide as its entry says
-widths : (es : List Entry) (start : ℕ) (before : Layout) (l : List ℕ) → Tiled es start before → 1 ≤ start → length l ≡ end-of es start
-    → Each (λ e. length (columnText l (spanOf e)) ≡ widthOf e) es
-widths [] start before l w h n = tt
-widths (e ∷ es) start before l w h n =
-    let f : Fits start before e = w .1 in
-    let p = end-past es (e .last + 1) (withEntry before e) (w .2) (omega arith) in
-    let a : e .last ≤ length l = omega arith in
-    let k : e .last - (e .first - 1) ≤ length (drop (e .first - 1) l) = omega (arith, length-drop (e .first - 1) l, f .starts) in (
-      length-take-le (e .last - (e .first - 1)) (drop (e .first - 1) l) k ∙ omega (arith, f .starts, f .ends),
-      widths es (e .last + 1) (withEntry before e) l (w .2) (omega arith) n,
-    )
+texts-are l [] from rest w h g none = (refl, tt)
+texts-are l (e ∷ es) from rest w h g (column {t = t} c n v u x) =
+    let f : IsEntry from e = w .0 in
+    let a : e .first - 1 ≡ from - 1 = ap (λ i. i - 1) (f .starts) in
+    let b : e .last - (e .first - 1) ≡ widthOf e = omega (arith, f .starts, f .ends) in
+    let i : from - 1 + widthOf e ≡ e .last + 1 - 1 = omega (arith, f .starts, f .ends) in
+    let here : columnText l (spanOf e) ≡ c = ap (λ k. take (e .last - (e .first - 1)) (drop k l)) a ∙ ap (λ r. take (e .last - (e .first - 1)) r) g ∙ ap (λ k. take k (c ++ t)) b ∙ take-at c t (widthOf e) n in
+    let d : drop (e .last + 1 - 1) l ≡ t = ap (λ k. drop k l) (sym i) ∙ sym (drop-drop (widthOf e) (from - 1) l) ∙ ap (drop (widthOf e)) g ∙ drop-at c t (widthOf e) n in
+    let r = texts-are l es (e .last + 1) t (w .2) (omega arith) d x in
+    (ap (λ y. y ++ columnTexts l es) here ∙ ap (λ y. c ++ y) (r .0), (ap length here ∙ n, r .1))
 
 -- ---- all columns of a line
 
@@ -146,25 +256,20 @@ name-back (a ∷ b ∷ []) w = absurd (omega (arith, w .three))
 name-back (a ∷ b ∷ c ∷ []) w = unpacked a b c (w .bytes .1 .0) (w .bytes .1 .1 .0)
 name-back (a ∷ b ∷ c ∷ d ∷ l) w = absurd (omega (arith, w .three))
 
-module _ (layout : Layout) (l : List ℕ) (said : lineSaid l layout ≡ says tt) where
+module _ (layout : Layout) (l : List ℕ) (said : entriesSaid l layout ≡ says (entriesOf layout)) where
   column-said : (name : List ℕ) (s : Span) → look layout (packedOf name) ≡ some s → columnSaid l layout name ≡ says s
-  unfolding columnSaid
+  unfolding columnSaid look
   column-said name s e = rw (said, e)
 
   column-absent : (name : List ℕ) → look layout (packedOf name) ≡ none → columnSaid l layout name ≡ refuses 19 0 0
-  unfolding columnSaid number
+  unfolding columnSaid look number
   column-absent name e = rw (said, e)
 
   column-read : (e : Entry) → look layout (e .code) ≡ some (spanOf e) → length (columnText l (spanOf e)) ≡ widthOf e → ReadsColumn layout l e
   unfolding numberSaid columnRest number
   column-read e h n =
       let s = column-said (codeText (e .code)) (spanOf e) (ap (look layout) (packed-back (e .code)) ∙ h) in
-      record {
-        span = s;
-        text = rw s;
-        wide = n;
-        number = rw s (number-of (columnText l (spanOf e)) (wholeOf (columnText l (spanOf e))) refl);
-      }
+      record { span = s; text = rw s; wide = n; number = rw s (number-of (columnText l (spanOf e)) (wholeOf (columnText l (spanOf e))) refl) }
 
   name-absent : (name : List ℕ) → IsName name → Each (λ e. codeText (e .code) ≡ name → ⊥) (entriesOf layout) → columnSaid l layout name ≡ refuses 19 0 0
   unfolding look
@@ -172,19 +277,16 @@ module _ (layout : Layout) (l : List ℕ) (said : lineSaid l layout ≡ says tt)
       column-absent name (none-found (Coded (packedOf name)) (λ k e. spanOf e) (entriesOf layout) 0
       (each-map (entriesOf layout) (λ e n. ne-eqb (e .code) (packedOf name) (λ i. n (ap codeText i ∙ name-back name w))) h))
 
-pub columns-read : (f : Family) (layout : Layout) (l : List ℕ) → 1 ≤ firstStart f → allowed (firstStart f) layout ≡ true → length (layout .entries) ≡ 13
-    → length l ≡ lineLength (firstStart f) layout → lineSaid l layout ≡ says tt → ReadsColumns f layout l
+pub columns-read : (f : Family) (layout : Layout) (l tail : List ℕ) → 1 ≤ firstStart f → allowed (firstStart f) layout ≡ true → length (layout .entries) ≡ 13
+    → drop (firstStart f - 1) l ≡ tail → Columns (entriesOf layout) tail → entriesSaid l layout ≡ says (entriesOf layout) → ReadsColumns f layout l
 unfolding look number
-columns-read f layout l low good slots long said =
-    let a = allowed-there (firstStart f) layout good slots in
-    let w = a .0 in
+columns-read f layout l tail low good slots cut is said =
+    let t = allowed-there (firstStart f) layout good slots .2 in
     let es = entriesOf layout in
-    let n : length l ≡ end-of es (firstStart f) = long ∙ ap (lineLength (firstStart f)) (a .1) ∙ line-end (firstStart f) es in
+    let r = texts-are l es (firstStart f) tail t low cut is in
     record {
       carried = each-map es (λ e h. column-read layout l said e (h .0) (h .1))
-          (each-both es (λ e. look layout (e .code) ≡ some (spanOf e)) (λ e. length (columnText l (spanOf e)) ≡ widthOf e)
-          (looked (firstStart f) [] es (omega (arith, w .count, w .few)) (w .tiled))
-          (widths es (firstStart f) emptyLayout l (w .tiled) low n));
+          (each-both es (λ e. look layout (e .code) ≡ some (spanOf e)) (λ e. length (columnText l (spanOf e)) ≡ widthOf e) (looked es (firstStart f) 0 t) (r .1));
       absent = name-absent layout l said;
-      tail = texts-tail es (firstStart f) emptyLayout l (w .tiled) low n;
+      tail = r .0 ∙ sym cut;
     }

@@ -1,7 +1,7 @@
 -- Demand 2, what is claimed. Each claim is a line from the room that proves it; its words stand in specs/ (Grammar, Faults, Readings, BothWays), the definitions that
 -- it is about in the rules. Assumes nothing.
 --
--- How these definitions are the library's answers: `file::check` answers `verdict file (length table)` and leaves `tableAfter file table` (promise FileChecked); `cut::bounds`
+-- How these definitions are the library's answers: `file::check` answers `verdict Strict file (some (length table))` and leaves `tableAfter Strict file table` (promise FileChecked); `cut::bounds`
 -- answers `boundsOf` (LineGiven), `Cursor::step` answers `stepAt` (LineStepped), the readers in `read` answer `fixSaid`, `columnSaid` and so on (FixGiven ..); the writers in
 -- `write` keep `Written` (FixWritten ..), from which `BothWays` tells what they write (proofs/Promised). By the laws `only-..` of crate laws, nothing else would keep these promises.
 use Prim.Native.Nat.{ℕ, _≤_}
@@ -9,12 +9,15 @@ use Prim.Native.Char.{code}
 use mathlib.Core.Bool.{true}
 use mathlib.Core.List.{List, [], _∷_, _++_}
 use mathlib.Core.Logic.{_↔_}
+use mathlib.Core.Option.{Option, none, some}
 use mathlib.Core.Path.{_≡_, refl, sym, _∙_, ap}
 use lib.ListN.{length, getD}
+use Rattle.rules.specs.Choice.{Each}
+use Rattle.rules.specs.Families.{firstStart}
 use Rattle.rules.specs.Refusals.{says, refuses}
-use Rattle.rules.specs.Files.{verdict}
+use Rattle.rules.specs.Files.{hasRoom, verdict}
 use Rattle.rules.specs.Listed.{widthFits, keepsRule}
-use Rattle.rules.specs.Layouts.{isSaid, firstStart, allowed}
+use Rattle.rules.specs.Layouts.{isSaid, allowed}
 use Rattle.rules.specs.Reads.{fixSaid, extraSaid, headSaid, pointSaid, layoutSaid}
 use Rattle.rules.specs.Writes.{fixText, extraText, headText, pointText, layoutText, isFix, isExtra, isHead, isPoint}
 use Rattle.rules.specs.declared.Date.{Date}
@@ -24,13 +27,17 @@ use Rattle.rules.specs.declared.Fix.{Fix}
 use Rattle.rules.specs.declared.Head.{Head}
 use Rattle.rules.specs.declared.Point.{Point}
 use Rattle.rules.specs.declared.Flight.{Flight}
+use Rattle.rules.specs.declared.Seal.{Seal}
+use Rattle.rules.specs.declared.Seal.the-variants as seal
 use Rattle.rules.proofs.Damaged.{fiveLines}
-use Rattle.trips.specs.Limits.{isDate, goodFix, goodExtra, goodHead, goodPoint}
+use Rattle.laws.proofs.Counted.{tabled}
+use Rattle.laws.proofs.Counted as counted
+use Rattle.rules.specs.Limits.{isDate, goodFix, goodExtra, goodHead, goodPoint}
 use Rattle.trips.proofs.Fixes.{fix-trip, fix-good}
 use Rattle.trips.proofs.Extras.{extra-trip, extra-good}
 use Rattle.trips.proofs.Heads.{head-trip, head-good}
 use Rattle.trips.proofs.Points.{point-trip, point-good}
-use Rattle.demands.specs.Grammar.{Each, IsDay, Listing, Holds, IsLayoutLine, IsBLine, IsKLine, IsHeadLine, IsPointLine, linesIn, Meets, flightOf}
+use Rattle.demands.specs.Grammar.{IsDay, Listing, Holds, IsLayoutLine, IsBLine, IsKLine, IsHeadLine, IsPointLine, linesIn, Meets, flightOf}
 use Rattle.demands.specs.Faults.{PassAfter, Refused}
 use Rattle.demands.specs.FieldTexts.{FieldsTold}
 use Rattle.demands.specs.Coming.{Meant}
@@ -39,33 +46,36 @@ use Rattle.demands.specs.BothWays.{Slotted, ReadsAs, BothWays}
 use Rattle.demands.proofs.Accepted as acceptance
 use Rattle.demands.proofs.Refusing as refusing
 use Rattle.demands.proofs.FieldsThere as fields-there
-use Rattle.demands.proofs.Meaning.{meant}
-use Rattle.demands.proofs.Days.{day-exactly}
-use Rattle.demands.proofs.Rows.{width-exactly, rule-exactly}
+use Rattle.demands.proofs.Refusing.{meant}
+use Rattle.demands.proofs.Laws.{day-exactly, width-exactly, rule-exactly}
 use Rattle.demands.proofs.Reading as reading
 use Rattle.demands.proofs.LayoutLines.{layout-exactly, layout-line-exactly}
-use Rattle.demands.proofs.Valued.{fix-reads, fix-read, extra-reads, extra-read, head-reads, head-read, point-reads, point-read}
+use Rattle.demands.proofs.EachLine.{fix-reads, fix-read, extra-reads, extra-read, head-reads, head-read, point-reads, point-read}
 use Rattle.demands.proofs.Writers.{both-ways, trip-ways}
 use Rattle.demands.proofs.Worked as worked
 
--- ---- the verdict on a file, with a table of `room` entries
+-- ---- the verdict on a file, for each thing that it may need at its end, with a table of `room` entries or none
 
-module _ (file : List ℕ) (room : ℕ) where
+module _ (seal : Seal) (file : List ℕ) (room : Option ℕ) where
   -- a file is accepted exactly when it meets the grammar and its lines fit the table
-  pub accepted-exactly : (isSaid (verdict file room) ≡ true) ↔ ((m : Meets file) × (length (linesIn (m .parts)) ≤ room))
-  accepted-exactly = acceptance.accepted-exactly file room
+  pub accepted-exactly : (isSaid (verdict seal file room) ≡ true) ↔ ((m : Meets seal file) × (hasRoom room (length (linesIn (m .parts))) ≡ true))
+  accepted-exactly = acceptance.accepted-exactly seal file room
 
-  -- and then the date, the layouts (`fixes` of the B lines, `extras` of the K lines) and the counts of the answer are the grammar's
-  pub accepted-as : (f : Flight) → (verdict file room ≡ says f) ↔ ((m : Meets file) × (length (linesIn (m .parts)) ≤ room) × (flightOf m ≡ f))
-  accepted-as f = acceptance.accepted-as file room f
+  -- and then the date, the layouts and the counts of the answer are the grammar's
+  pub accepted-as : (f : Flight) → (verdict seal file room ≡ says f) ↔ ((m : Meets seal file) × (hasRoom room (length (linesIn (m .parts))) ≡ true) × (flightOf m ≡ f))
+  accepted-as f = acceptance.accepted-as seal file room f
 
   -- it is refused with a number, line and byte exactly when that refusal's meaning holds of it
-  pub refused-first : (number line byte : ℕ) → (verdict file room ≡ refuses number line byte) ↔ Refused file room number line byte
-  refused-first number line byte = refusing.refused-first file room number line byte
+  pub refused-first : (number line byte : ℕ) → (verdict seal file room ≡ refuses number line byte) ↔ Refused seal file room number line byte
+  refused-first number line byte = refusing.refused-first seal file room number line byte
+
+-- with a table only 15 is added
+pub table-adds : (seal : Seal) (file : List ℕ) (entries : ℕ) → verdict seal file (some entries) ≡ tabled entries (verdict seal file none)
+table-adds = counted.table-adds
 
 -- ---- what the checks of a refusal read and test, apart from how
 
--- the kind and each field: it is read exactly where the text of a value within its limits stands
+-- the role of a line by its letter, and each field: it is read exactly where the text of a value within its limits stands
 pub fields-told : FieldsTold
 fields-told = fields-there.fields-told
 
@@ -86,25 +96,25 @@ texts-meant = rule-exactly
 -- ---- the grammar by itself
 
 -- it says one thing of a file, over one cut of it into lines
-pub said-once : (file : List ℕ) (m n : Meets file) → flightOf m ≡ flightOf n
+pub said-once : (seal : Seal) (file : List ℕ) (m n : Meets seal file) → flightOf m ≡ flightOf n
 said-once = acceptance.one-reading
 
-pub cut-once : (file : List ℕ) (m n : Meets file) → linesIn (m .parts) ≡ linesIn (n .parts)
-cut-once file m n = sym (reading.lines-are file m) ∙ reading.lines-are file n
+pub cut-once : (seal : Seal) (file : List ℕ) (m n : Meets seal file) → linesIn (m .parts) ≡ linesIn (n .parts)
+cut-once seal file m n = sym (reading.lines-are file m) ∙ reading.lines-are file n
 
 -- document 01's file of five lines meets it, put together by hand
-pub five-meet : Meets fiveLines
+pub five-meet : Meets seal.Strict fiveLines
 five-meet = worked.five-meet
 
 -- "So a B after G is refused": no file that meets it has a B line behind a G line
-pub no-b-after-g : {file : List ℕ} (m : Meets file) (before : List (List ℕ)) (g : List ℕ) (after : List (List ℕ)) → linesIn (m .parts) ≡ before ++ (g ∷ after)
+pub no-b-after-g : {seal : Seal} {file : List ℕ} (m : Meets seal file) (before : List (List ℕ)) (g : List ℕ) (after : List (List ℕ)) → linesIn (m .parts) ≡ before ++ (g ∷ after)
     → getD g 0 0 ≡ code "G" → Each (λ l. getD l 0 0 ≡ code "B" → ⊥) after
 no-b-after-g = worked.no-b-after-g
 
 -- ---- what can be read from an accepted file, with the table that it was checked with: its lines by number and step by step, each B and K line column by column, and the
 -- declaration
 
-pub readable : (file table : List ℕ) (f : Flight) → verdict file (length table) ≡ says f → Readable file table f
+pub readable : (seal : Seal) (file table : List ℕ) (f : Flight) → verdict seal file (some (length table)) ≡ says f → Readable seal file table f
 readable = reading.readable
 
 -- ---- a reader says a value of a line exactly when the line is, by the grammar, a line of that value

@@ -1,42 +1,176 @@
--- The check of a line, where it stands behind the lines before, against the list of the line's checks: it says a state exactly where all pass, and else refuses with
--- the number and byte of the first that fails. Assumes nothing.
-use Prim.Native.Nat.{ℕ, zero, suc, _+_, _-_, _*_, _%_, _≤_}
+-- The check of a line, where it stands behind the lines before, against the list of the line's checks: it may come exactly where they tell that it may; a state is said
+-- exactly where all pass, and else the check refuses with the number and byte of the first that fails. Assumes nothing.
+use Prim.Native.Nat.{ℕ, zero, suc, _-_, _+_, _*_, _≤_}
 use Prim.Native.Char.{code}
-use mathlib.Core.Bool.{Bool, true, false, not, _&&_, _||_, cond}
-use mathlib.Core.List.{List, [], _∷_, _++_, append-assoc}
-use mathlib.Core.Logic.{_⊎_, inl, inr}
+use mathlib.Core.Bool.{Bool, true, false, not, _&&_, _||_, cond, and-true, and-false, Bool·not-not}
+use mathlib.Core.List.{List, [], _∷_, _++_}
 use mathlib.Core.Option.{Option, none, some}
 use mathlib.Core.Path.{_≡_, refl, sym, _∙_, ap, subst}
+use mathlib.Core.Logic.{_⊎_, inl, inr}
 use native.Mathlib.Omega.{arith}
-use borrow.Author.Tests.{le-leb, lt-leb, eqb-true, eqb-false, eq-eqb, ne-eqb}
+use borrow.Author.Tests.{le-leb, lt-leb, leb-false, eqb-true, ne-eqb, eq-eqb}
 use lib.Dec.{eqb, leb, ltb}
-use lib.ListN.{length, getD, drop, replicate, length-append}
-use Rattle.rules.specs.Choice.{given, need, on, firstOf}
-use Rattle.rules.specs.Refusals.{number, Said, says, refuses, andThen}
-use Rattle.rules.specs.Chars.{isValid, isCode, codesAt, firstInvalid, characters}
-use Rattle.rules.specs.Numbers.{numberAt}
-use Rattle.rules.specs.Fields.{timeAt, dateAt, latitudeAt, longitudeAt, altitudeAt, isEither}
-use Rattle.rules.specs.Listed.{codeAt, widthFits, keepsRule}
-use Rattle.rules.specs.Layouts.{unused, firstStart, withEntry, lineLength, spanOf, look, carries, placed, entryAt, entriesFrom, layoutFields, columnText, badColumn, columns}
-use Rattle.rules.specs.Lines.{kindOf, isSized, shaped, aLine, isDateMark, dateLine, hLine, layoutLine, plannedAt, headFields, headLine, pointLine, dLine, eLine, badPair, fLine, fixFields, shapedBy, bLine, kLine, lLine, gLine, otherLine}
-use Rattle.rules.specs.Order.{isKind, orderOf, moved, dated, withFixes, withExtras, counted, begun, pointed, onward, nextDay, back, isBack, passing, timed, ruled, judge}
-use Rattle.rules.specs.declared.Entry.{Entry}
+use lib.ListN.{length, length-append}
+use Rattle.rules.specs.Roles.{isDeclaring, atStart, afterA, afterH, afterLayout, inBody, afterG, afterLastG, leading, bodyAfter, stageAfter, isRole}
+use Rattle.rules.specs.Choice.{need, bytes, given, on, firstOf}
+use Rattle.rules.specs.Order.{fitsDeclaration, orderOf, moved, laidOut, counted, onward, nextDay, back, isBack, passing, timed, declarationLine, headerLine, ruled, judge}
 use Rattle.rules.specs.declared.Family.{Family}
 use Rattle.rules.specs.declared.Family.the-variants as family
-use Rattle.rules.specs.declared.Kind.{Kind}
-use Rattle.rules.specs.declared.Kind.the-variants as kind
+use Rattle.rules.specs.declared.Role.{Role}
+use Rattle.rules.specs.declared.Role.the-variants as role
 use Rattle.rules.specs.declared.State.{State}
-use Rattle.trips.proofs.Laws.{false-true}
+use Rattle.rules.specs.Families.{firstStart, layoutOf}
+use Rattle.rules.specs.Refusals.{number, Said, says, refuses, andThen}
+use Rattle.rules.specs.Chars.{isValid, isCode, firstInvalid, characters}
+use Rattle.rules.specs.Numbers.{numberAt}
+use Rattle.rules.specs.Fields.{timeAt}
+use Rattle.rules.specs.Listed.{codeAt, widthFits, keepsRule}
+use Rattle.rules.specs.Layouts.{withEntry, lineLength, spanOf, look, carries, placed, entryAt, entriesFrom, layoutFields, columnText, badColumn, columns}
+use Rattle.rules.specs.Lines.{isSized, shaped, aLine, dateLine, hLine, layoutLine, headFields, headLine, pointLine, dLine, eLine, badPair, fLine, fixFields, shapedBy, bLine, kLine, columnedLine}
+use Rattle.rules.specs.declared.Entry.{Entry}
+use Rattle.rules.proofs.Inverse.{false-true, bool-eq}
+use Rattle.laws.proofs.Passing.{roleIn}
+use Rattle.demands.specs.Coming.{isAmong, only, without, isOpen, isBody, lettersBefore, mayCome, orZero, entryOf, entriesTold, endsAt, sizeOf, lastTime, isInTime}
+use Rattle.demands.specs.Checks.{isThere, Check, check, AllPass, FailsFirst, oneEach, shapeChecks, columnChecks, timeCheck, pairChecks, hasCode, entryChecks, layoutChecks, dateChecks, headerChecks, headChecks, pointChecks, thenTime, roleChecks, checksOf, lineChecks, eventChecks, satelliteChecks}
 use Rattle.demands.specs.Grammar.{laid}
-use Rattle.demands.specs.Coming.{orZero, isOpen, entryOf, entriesTold, endsAt, lastTime, isInTime}
-use Rattle.demands.specs.Checks.{Check, check, AllPass, FailsFirst, isThere, oneEach, shapeChecks, columnChecks, timeCheck, pairChecks, hasCode, entryChecks, layoutChecks, dateChecks, headerChecks, headChecks, pointChecks, sizeChecks, fixChecks, kindChecks, checksOf}
-use Rattle.demands.specs.FieldTexts.{Letter}
+use Rattle.demands.proofs.Leading.{letter-tests, none-pass}
+use Rattle.demands.proofs.Standing.{only-without, none-open, declaration-told, laid-out, Stands}
 use Rattle.demands.proofs.Laws.{each-join, shape-there}
-use Rattle.demands.proofs.Carried.{e-inv, f-inv}
-use Rattle.demands.proofs.Entries.{entries-laid, with-laid}
-use Rattle.demands.proofs.Leading.{letter}
-use Rattle.demands.proofs.Standing.{there, b-time, k-time, entry-is, open-left, Stands}
-use Rattle.demands.proofs.Ordered.{order-told}
+use Rattle.demands.proofs.EachLine.{e-inv, f-inv, columned-time}
+use Rattle.demands.proofs.LayoutLines.{there, entry-there, entries-laid, with-laid}
+use Rattle.demands.proofs.Columns.{end-of, line-end}
+
+-- ---- tests
+
+-- what the last test brings with it
+implied : (o x h : Bool) → (h ≡ true → o ≡ false) → (not o && (x && h)) ≡ (x && h)
+implied o x true f = rw (f refl)
+implied true true false f = refl
+implied true false false f = refl
+implied false x false f = refl
+
+there-need : (t : Bool) (o : Option ℕ) → isThere (need t none λ u. o) ≡ (t && isThere o)
+there-need true o = refl
+there-need false o = refl
+
+there-leading : (low high next stage : ℕ) → isThere (leading low high next stage) ≡ (leb low stage && leb stage high)
+there-leading low high next stage = go (leb low stage && leb stage high)
+  where
+    go : (t : Bool) → isThere (need t none λ u. some next) ≡ t
+    go true = refl
+    go false = refl
+
+-- ---- the declaration
+
+module _ (ls : List (List ℕ)) (st : State) (w : Stands ls st) where
+  open-is : leb 1 (st .points) ≡ isOpen ls
+  open-is = declaration-told ls (w .declaration) .0
+
+  plain-fits : fitsDeclaration false st ≡ not (isOpen ls)
+  unfolding fitsDeclaration
+  plain-fits = rw open-is (go (isOpen ls))
+    where
+      go : (o : Bool) → cond o false true ≡ not o
+      go true = refl
+      go false = refl
+
+  c-fits : fitsDeclaration true st ≡ (isOpen ls || (without (code "C") ls && without (code "B") ls))
+  unfolding fitsDeclaration
+  c-fits = rw (open-is, declaration-told ls (w .declaration) .1, w .counts family.B, Bool·not-not) (go (isOpen ls))
+    where
+      go : (o : Bool) → cond o true (without (code "C") ls && without (code "B") ls) ≡ (o || (without (code "C") ls && without (code "B") ls))
+      go true = refl
+      go false = refl
+
+  -- among A, H, I and J lines there is no declaration
+  closed : (xs : List ℕ) → isAmong xs (code "C") ≡ false → only xs ls ≡ true → isOpen ls ≡ false
+  closed xs n e = none-open ls (only-without xs (code "C") ls n e)
+
+  -- ---- role by role
+
+  fitted : (r : Role) → isThere (orderOf r st) ≡ (fitsDeclaration (isDeclaring r) st && isThere (stageAfter r (st .stage)))
+  unfolding orderOf
+  fitted r = there-need (fitsDeclaration (isDeclaring r) st) (stageAfter r (st .stage))
+
+  -- a line of another role than C, from the parts that lead on
+  early : (r : Role) (low high next : ℕ) → isDeclaring r ≡ false → stageAfter r (st .stage) ≡ leading low high next (st .stage)
+      → isThere (orderOf r st) ≡ (not (isOpen ls) && (leb low (st .stage) && leb (st .stage) high))
+  early r low high next c e = fitted r ∙ rw (c, e, plain-fits) (ap (λ t. not (isOpen ls) && t) (there-leading low high next (st .stage)))
+
+  in-body : (leb afterH (st .stage) && leb (st .stage) inBody) ≡ isBody ls
+  unfolding isBody
+  in-body = rw (w .staged .two-lines, w .staged .unsealed)
+
+  plain-body : (r : Role) → isDeclaring r ≡ false → stageAfter r (st .stage) ≡ bodyAfter (st .stage) → isThere (orderOf r st) ≡ (not (isOpen ls) && isBody ls)
+  plain-body r c e = early r afterH inBody inBody c e ∙ ap (λ t. not (isOpen ls) && t) in-body
+
+  c-body : isThere (orderOf role.Declares st) ≡ mayCome role.Declares ls
+  unfolding stageAfter mayCome
+  c-body = fitted role.Declares ∙ rw (c-fits, there-leading afterH inBody inBody (st .stage), in-body)
+
+  a-first : isThere (orderOf role.Opens st) ≡ mayCome role.Opens ls
+  unfolding stageAfter mayCome isOpen
+  a-first =
+      early role.Opens atStart atStart afterA refl refl
+      ∙ rw (le-leb atStart (st .stage) (omega arith), no-more (st .stage) .0, w .staged .some-line, ← no-more (length ls) .1)
+      (implied (isOpen ls) true (eqb (length ls) 0) (λ e. nothing ls (eqb-true (length ls) 0 e)))
+    where
+      no-more : (n : ℕ) → (leb n 0 ≡ not (leb 1 n)) × (eqb n 0 ≡ not (leb 1 n))
+      no-more zero = (refl, refl)
+      no-more (suc n) = rw (lt-leb (suc n) 0 (omega arith), ne-eqb (suc n) 0 (λ z. omega arith), le-leb 1 (suc n) (omega arith)) (refl, refl)
+
+      nothing : (ls : List (List ℕ)) → length ls ≡ 0 → isOpen ls ≡ false
+      nothing [] e = refl
+      nothing (l ∷ ls) e = absurd (omega arith)
+
+  h-told : isThere (orderOf role.Heads st) ≡ mayCome role.Heads ls
+  unfolding stageAfter mayCome isAmong bytes
+  h-told =
+      early role.Heads afterA afterH afterH refl refl
+      ∙ rw (w .staged .some-line, w .staged .untold family.B) (implied (isOpen ls) (leb 1 (length ls)) (only (bytes "AH") ls) (closed (bytes "AH") refl))
+
+  layout-told : (f : Family) → isThere (orderOf (role.Tells f) st) ≡ mayCome (role.Tells f) ls
+  unfolding stageAfter mayCome isAmong bytes
+  layout-told f =
+      early (role.Tells f) afterH (afterLayout f - 1) (afterLayout f) refl refl
+      ∙ rw (w .staged .two-lines, w .staged .untold f)
+      (implied (isOpen ls) (leb 2 (length ls)) (only (lettersBefore f) ls) (closed (lettersBefore f) (none-pass (λ f. isAmong (lettersBefore f) (code "C")) refl f)))
+
+  g-told : isThere (orderOf role.Seals st) ≡ mayCome role.Seals ls
+  unfolding stageAfter mayCome
+  g-told =
+      early role.Seals afterH afterG afterG refl refl ∙ rw (w .staged .two-lines, w .staged .sealing)
+
+  l-stages : isThere (stageAfter role.Remark (st .stage)) ≡ leb 2 (length ls)
+  unfolding stageAfter
+  l-stages = go (leb (st .stage) inBody) refl ∙ w .staged .two-lines
+    where
+      go : (b : Bool) → leb (st .stage) inBody ≡ b → isThere (cond b (bodyAfter (st .stage)) (leading afterG afterLastG afterLastG (st .stage))) ≡ leb afterH (st .stage)
+      go true e = there-leading afterH inBody inBody (st .stage) ∙ rw e (and-true (leb afterH (st .stage)))
+      go false e =
+          let h = leb-false (st .stage) inBody e in
+          let m = w .staged .most in
+          there-leading afterG afterLastG afterLastG (st .stage)
+          ∙ rw (le-leb afterG (st .stage) (omega arith), le-leb (st .stage) afterLastG m, le-leb afterH (st .stage) (omega arith))
+
+  l-told : isThere (orderOf role.Remark st) ≡ mayCome role.Remark ls
+  unfolding mayCome
+  l-told = fitted role.Remark ∙ rw (plain-fits, l-stages)
+
+  pub order-told : (r : Role) → isThere (orderOf r st) ≡ mayCome r ls
+  unfolding stageAfter mayCome
+  order-told role.Opens = a-first
+  order-told role.Heads = h-told
+  order-told (role.Tells f) = layout-told f
+  order-told (role.Columned f) = plain-body (role.Columned f) refl refl
+  order-told role.Declares = c-body
+  order-told role.Event = plain-body role.Event refl refl
+  order-told role.Satellites = plain-body role.Satellites refl refl
+  order-told role.Differential = plain-body role.Differential refl refl
+  order-told role.Seals = g-told
+  order-told role.Remark = l-told
+  order-told role.Other = plain-body role.Other refl refl
+  order-told role.NoRole = fitted role.NoRole ∙ and-false (fitsDeclaration false st)
 
 -- ---- the first that fails
 
@@ -126,81 +260,28 @@ in-time (some t) now = go (leb t now) (ltb 43200 (t - now))
     go false true = refl
     go false false = refl
 
-timed-agrees : (t : ℕ) (st : State) → Agrees (timed t st) (check 14 2 (not (isBack (passing (st .clock) t))) ∷ [])
-unfolding timed number
-timed-agrees t st = agree-need 14 2 (not (isBack (passing (st .clock) t))) _ [] λ e. tt
-
-on-time : (ls : List (List ℕ)) (l : List ℕ) (t : ℕ) (st : State) → st .clock ≡ orZero (lastTime ls) → timeAt l 1 ≡ some t → Agrees (timed t st) (timeCheck ls l ∷ [])
-on-time ls l t st c e =
-    let i : not (isBack (passing (st .clock) t)) ≡ isInTime (lastTime ls) (orZero (timeAt l 1)) =
-    ap (λ x. not (isBack (passing x t))) c ∙ in-time (lastTime ls) t ∙ ap (isInTime (lastTime ls)) (sym (there (timeAt l 1) e)) in
-    subst (λ x. Agrees (timed t st) (check 14 2 x ∷ [])) i (timed-agrees t st)
-
--- ---- kind by kind
-
-a-agrees : (ls : List (List ℕ)) (l : List ℕ) (st : State) → Agrees (ruled kind.A l st) (kindChecks kind.A ls l)
-unfolding ruled aLine number
-a-agrees ls l st =
-    agree-last (aLine l) (λ u. st) (kindChecks kind.A ls l)
-    (agree-then (shaped 7 255 false l) _ (shapeChecks 7 255 false l) _ (shape-agrees 7 255 false l) λ u e.
-    agree-need 9 2 (codesAt l 1 3) _ _ λ e.
-    agree-need 9 5 (codesAt l 4 3) _ [] λ e. tt)
-
-d-agrees : (ls : List (List ℕ)) (l : List ℕ) (st : State) → Agrees (ruled kind.D l st) (kindChecks kind.D ls l)
-unfolding ruled dLine on number
-d-agrees ls l st =
-    agree-last (dLine l) (λ u. st) (kindChecks kind.D ls l)
-    (agree-then (shaped 6 6 false l) _ (shapeChecks 6 6 false l) _ (shape-agrees 6 6 false l) λ u e.
-    agree-need 9 2 (isEither (getD l 1 0) (code "1") (code "2")) _ _ λ e.
-    agree-need 9 3 (codesAt l 2 4) _ [] λ e. tt)
-
-date-agrees : (l : List ℕ) → Agrees (dateLine l) (dateChecks l)
-unfolding dateLine number
-date-agrees l =
-    agree-then (shaped 11 11 true l) _ (shapeChecks 11 11 true l) _ (shape-agrees 11 11 true l) λ u e.
-    agree-need 9 2 (isDateMark l) _ _ λ e.
-    agree-given 9 6 (dateAt l 5) _ [] λ d e. tt
-
-header-agrees : (l : List ℕ) → Agrees (hLine l) (headerChecks l)
-unfolding hLine on number
-header-agrees l =
-    agree-then (shaped 5 255 true l) _ (shapeChecks 5 255 true l) _ (shape-agrees 5 255 true l) λ u e.
-    agree-need 9 2 (isEither (getD l 1 0) (code "F") (code "O")) _ _ λ e.
-    agree-need 9 3 (codesAt l 2 3) _ [] λ e. tt
-
-head-agrees : (l : List ℕ) → Agrees (headLine l) (headChecks l)
-unfolding headLine headFields number
-head-agrees l =
-    agree-then (shaped 25 255 false l) _ (shapeChecks 25 255 false l) _ (shape-agrees 25 255 false l) λ u e.
-    agree-given 9 2 (dateAt l 1) _ _ λ d e.
-    agree-given 9 8 (timeAt l 7) _ _ λ t e.
-    agree-given 9 14 (plannedAt l 13) _ _ λ f e.
-    agree-given 9 20 (numberAt l 19 4) _ _ λ n e.
-    agree-given 9 24 (numberAt l 23 2) _ [] λ k e. tt
-
-point-agrees : (l : List ℕ) → Agrees (pointLine l) (pointChecks l)
-unfolding pointLine number
-point-agrees l =
-    agree-then (shaped 18 255 false l) _ (shapeChecks 18 255 false l) _ (shape-agrees 18 255 false l) λ u e.
-    agree-given 9 2 (latitudeAt l 1) _ _ λ a e.
-    agree-given 9 10 (longitudeAt l 9) _ [] λ o e. tt
-
--- ---- lines with a time
-
 -- the checks of a line, and then of its time
-time-last : (s : Said State) (a b : List Check) (c : Check) → Agrees s ((a ++ b) ++ (c ∷ [])) → Agrees s (a ++ (b ++ (c ∷ [])))
-time-last s a b c h = rw append-assoc at h
+module _ (ls : List (List ℕ)) (l : List ℕ) where
+  then-time : (s : Said ℕ) (st : State) (cs : List Check) → st .clock ≡ orZero (lastTime ls) → ((t : ℕ) → s ≡ says t → timeAt l 1 ≡ some t) → Agrees s cs
+      → Agrees (andThen s (λ t. timed t st)) (thenTime cs ls l)
+  unfolding timed number
+  then-time s st cs c at-time h =
+      agree-then s (λ t. timed t st) cs (timeCheck ls l ∷ []) h λ t e.
+      let i : not (isBack (passing (st .clock) t)) ≡ isInTime (lastTime ls) (orZero (timeAt l 1)) =
+      ap (λ x. not (isBack (passing x t))) c ∙ in-time (lastTime ls) t ∙ ap (isInTime (lastTime ls)) (sym (there (timeAt l 1) (at-time t e))) in
+      subst (λ x. Agrees (timed t st) (check 14 2 x ∷ [])) i (agree-need 14 2 (not (isBack (passing (st .clock) t))) _ [] λ e. tt)
 
-e-agrees : (ls : List (List ℕ)) (l : List ℕ) (st : State) → st .clock ≡ orZero (lastTime ls) → Agrees (ruled kind.E l st) (kindChecks kind.E ls l)
-unfolding ruled eLine number
-e-agrees ls l st c =
-    let cs = check 9 2 (isThere (timeAt l 1)) ∷ check 9 8 (codesAt l 7 3) ∷ [] in
-    let h : Agrees (eLine l) (shapeChecks 10 255 false l ++ cs) =
-    agree-then (shaped 10 255 false l) _ (shapeChecks 10 255 false l) _ (shape-agrees 10 255 false l) λ u e.
-    agree-given 9 2 (timeAt l 1) _ _ λ t e.
-    agree-need 9 8 (codesAt l 7 3) _ [] λ e. tt in
-    time-last (ruled kind.E l st) (shapeChecks 10 255 false l) cs (timeCheck ls l)
-    (agree-then (eLine l) (λ t. timed t st) _ (timeCheck ls l ∷ []) h λ t e. on-time ls l t st c (e-inv l t e .1))
+-- ---- lines with columns
+
+ends-same : (es : List Entry) (start : ℕ) → end-of es start ≡ endsAt (start - 1) es
+unfolding endsAt
+ends-same [] start = refl
+ends-same (e ∷ es) start = let n : e .last + 1 - 1 ≡ e .last = omega arith in ends-same es (e .last + 1) ∙ ap (λ x. endsAt x es) n
+
+-- the length that a layout gives is where its last column ends
+length-laid : (f : Family) (es : List Entry) → lineLength (firstStart f) (laid es) ≡ sizeOf f es
+length-laid family.B es = line-end 36 es ∙ ends-same es 36
+length-laid family.K es = line-end 8 es ∙ ends-same es 8
 
 pairs-agree : {A : Type 0} (v : A) (l : List ℕ) (at : ℕ) → Agrees (given (badPair at l) (says v) λ i. refuses 9 0 (i + 1)) (pairChecks at l)
 unfolding badPair pairChecks
@@ -213,78 +294,13 @@ pairs-agree v (a ∷ b ∷ l) at = go (isCode a && isCode b) (pairs-agree v l (a
     go true h = one-more (given (badPair (at + 2) l) (says v) λ i. refuses 9 0 (i + 1)) (check 9 (at + 1) true) (pairChecks (at + 2) l) refl h
     go false h = (refl, inl (refl, refl, refl))
 
-f-agrees : (ls : List (List ℕ)) (l : List ℕ) (st : State) → st .clock ≡ orZero (lastTime ls) → Agrees (ruled kind.F l st) (kindChecks kind.F ls l)
-unfolding ruled fLine number
-f-agrees ls l st c =
-    let cs = check 9 2 (isThere (timeAt l 1)) ∷ check 9 8 (eqb ((length l - 7) % 2) 0) ∷ pairChecks 7 (drop 7 l) in
-    let h : Agrees (fLine l) (shapeChecks 7 255 false l ++ cs) =
-    agree-then (shaped 7 255 false l) _ (shapeChecks 7 255 false l) _ (shape-agrees 7 255 false l) λ u e.
-    agree-given 9 2 (timeAt l 1) _ _ λ t e.
-    agree-need 9 8 (eqb ((length l - 7) % 2) 0) _ _ λ e.
-    pairs-agree t (drop 7 l) 7 in
-    time-last (ruled kind.F l st) (shapeChecks 7 255 false l) cs (timeCheck ls l)
-    (agree-then (fLine l) (λ t. timed t st) _ (timeCheck ls l ∷ []) h λ t e. on-time ls l t st c (f-inv l t e .1))
+-- link by link
+ruleset agreeing = (agree-last, agree-need, agree-given, agree-then, shape-agrees, columns-agree, pairs-agree)
 
--- ---- B and K lines
-
-last-ends : (e : Entry) (es r : List Entry) → getD ((e ∷ es) ++ r) (length es) unused .last ≡ endsAt (e .last) es
-unfolding endsAt
-last-ends e [] r = refl
-last-ends e (x ∷ es) r = last-ends x es r
-
--- the length that a layout gives is where its last column ends
-length-laid : (first : ℕ) (es : List Entry) → lineLength first (laid es) ≡ endsAt (first - 1) es
-unfolding lineLength endsAt
-length-laid first [] = refl
-length-laid first (e ∷ es) =
-    let n : suc (length es) - 1 ≡ length es = omega arith in
-    rw (ne-eqb (suc (length es)) 0 (λ z. omega arith), n) (last-ends e es (replicate (13 - suc (length es)) unused))
-
-fields-agree : (l : List ℕ) → Agrees (fixFields l) (fixChecks l)
-unfolding fixFields on number
-fields-agree l =
-    agree-given 9 2 (timeAt l 1) _ _ λ t e.
-    agree-given 9 8 (latitudeAt l 7) _ _ λ a e.
-    agree-given 9 16 (longitudeAt l 15) _ _ λ o e.
-    agree-need 9 25 (isEither (getD l 24 0) (code "A") (code "V")) _ _ λ e.
-    agree-given 9 26 (altitudeAt l 25) _ _ λ p e.
-    agree-given 9 31 (altitudeAt l 30) _ [] λ g e. tt
-
-b-line-agrees : (es : List Entry) (l : List ℕ) → Agrees (bLine (laid es) l) (sizeChecks family.B es l ++ (fixChecks l ++ columnChecks l es))
-unfolding bLine shapedBy
-b-line-agrees es l =
-    rw (length-laid 36 es)
-    (agree-then (shaped (endsAt 35 es) (endsAt 35 es) false l) _ (sizeChecks family.B es l) _ (shape-agrees (endsAt 35 es) (endsAt 35 es) false l) λ u e.
-    agree-then (fixFields l) _ (fixChecks l) (columnChecks l es) (fields-agree l) λ f e.
-    agree-last (columns l (laid es)) (λ v. f) (columnChecks l es) (columns-agree l es))
-
-b-agrees : (ls : List (List ℕ)) (l : List ℕ) (st : State) → st .clock ≡ orZero (lastTime ls) → st .flight .fixes ≡ laid (entriesTold family.B ls)
-    → Agrees (ruled kind.B l st) (kindChecks kind.B ls l)
-unfolding ruled
-b-agrees ls l st c i =
-    let es = entriesTold family.B ls in
-    time-last (ruled kind.B l st) (sizeChecks family.B es l) (fixChecks l ++ columnChecks l es) (timeCheck ls l)
-    (agree-then (bLine (st .flight .fixes) l) (λ f. timed (f .time) (counted 1 0 st)) _ (timeCheck ls l ∷ [])
-    (subst (λ x. Agrees (bLine x l) (sizeChecks family.B es l ++ (fixChecks l ++ columnChecks l es))) (sym i) (b-line-agrees es l)) λ f e.
-    on-time ls l (f .time) (counted 1 0 st) c (b-time (st .flight .fixes) l f e))
-
-k-line-agrees : (es : List Entry) (l : List ℕ) → Agrees (kLine (laid es) l) (sizeChecks family.K es l ++ (check 9 2 (isThere (timeAt l 1)) ∷ columnChecks l es))
-unfolding kLine shapedBy number
-k-line-agrees es l =
-    rw (length-laid 8 es)
-    (agree-then (shaped (endsAt 7 es) (endsAt 7 es) false l) _ (sizeChecks family.K es l) _ (shape-agrees (endsAt 7 es) (endsAt 7 es) false l) λ u e.
-    agree-given 9 2 (timeAt l 1) _ _ λ t e.
-    agree-last (columns l (laid es)) (λ v. t) (columnChecks l es) (columns-agree l es))
-
-k-agrees : (ls : List (List ℕ)) (l : List ℕ) (st : State) → st .clock ≡ orZero (lastTime ls) → st .flight .extras ≡ laid (entriesTold family.K ls)
-    → Agrees (ruled kind.K l st) (kindChecks kind.K ls l)
-unfolding ruled
-k-agrees ls l st c i =
-    let es = entriesTold family.K ls in
-    time-last (ruled kind.K l st) (sizeChecks family.K es l) (check 9 2 (isThere (timeAt l 1)) ∷ columnChecks l es) (timeCheck ls l)
-    (agree-then (kLine (st .flight .extras) l) (λ t. timed t (counted 0 1 st)) _ (timeCheck ls l ∷ [])
-    (subst (λ x. Agrees (kLine x l) (sizeChecks family.K es l ++ (check 9 2 (isThere (timeAt l 1)) ∷ columnChecks l es))) (sym i) (k-line-agrees es l)) λ t e.
-    on-time ls l t (counted 0 1 st) c (k-time (st .flight .extras) l t e))
+line-agrees : (f : Family) (es : List Entry) (l : List ℕ) → Agrees (columnedLine f (laid es) l) (lineChecks f es l)
+unfolding columnedLine bLine kLine fixFields shapedBy on number
+line-agrees family.B es l = rw (length-laid family.B es) (search agreeing depth 20)
+line-agrees family.K es l = rw (length-laid family.K es) (search agreeing depth 20)
 
 -- ---- I and J lines
 
@@ -309,25 +325,10 @@ placed-agrees : (start : ℕ) (before : List Entry) (e : Entry) (n : ℕ) → Ag
     ∷ [])
 unfolding placed number
 placed-agrees start before e n =
-    rw (carries-has before (e .code))
-    (agree-need 10 n (eqb (e .first) start) _ _ λ p.
-    agree-need 10 n (leb (e .first) (e .last)) _ _ λ p.
-    agree-need 11 n (not (hasCode before (e .code))) _ _ λ p.
-    agree-need 12 n (widthFits (e .code) (e .last - e .first + 1)) _ [] λ p. tt)
+    rw (carries-has before (e .code)) (search agreeing depth 12)
 
-entry-checks : List ℕ → ℕ → ℕ → List Entry → List Check
-entry-checks l at start before =
-    check 9 (at + 1) (isThere (numberAt l at 2))
-    ∷ check 9 (at + 3) (isThere (numberAt l (at + 2) 2))
-    ∷ check 9 (at + 5) (isThere (codeAt l (at + 4)))
-    ∷ check 10 (at + 1) (eqb (entryOf l at .first) start)
-    ∷ check 10 (at + 1) (leb (entryOf l at .first) (entryOf l at .last))
-    ∷ check 11 (at + 1) (not (hasCode before (entryOf l at .code)))
-    ∷ check 12 (at + 1) (widthFits (entryOf l at .code) (entryOf l at .last - entryOf l at .first + 1))
-    ∷ []
-
-entry-agrees : (l : List ℕ) (at start : ℕ) (before : List Entry) → Agrees (entryAt l at start (laid before)) (entry-checks l at start before)
-unfolding entryAt entry-checks number
+entry-agrees : (l : List ℕ) (at start : ℕ) (before : List Entry) → Agrees (entryAt l at start (laid before)) (entryChecks 1 l at start before)
+unfolding entryAt entryChecks number
 entry-agrees l at start before =
     agree-given 9 (at + 1) (numberAt l at 2) _ _ λ ss p.
     agree-given 9 (at + 3) (numberAt l (at + 2) 2) _ _ λ ff q.
@@ -337,13 +338,13 @@ entry-agrees l at start before =
 
 entries-agree : (left : ℕ) (l : List ℕ) (at start : ℕ) (before : List Entry) → length before + left ≤ 13
     → Agrees (entriesFrom left l at start (laid before)) (entryChecks left l at start before)
-unfolding entriesFrom entryChecks entry-checks
+unfolding entriesFrom entryChecks
 entries-agree zero l at start before n = tt
 entries-agree (suc left) l at start before n =
-    agree-then (entryAt l at start (laid before)) _ (entry-checks l at start before) (entryChecks left l (at + 7) (entryOf l at .last + 1) (before ++ (entryOf l at ∷ [])))
+    agree-then (entryAt l at start (laid before)) _ (entryChecks 1 l at start before) (entryChecks left l (at + 7) (entryOf l at .last + 1) (before ++ (entryOf l at ∷ [])))
     (entry-agrees l at start before) λ e h.
     subst (λ x. Agrees (entriesFrom left l (at + 7) (e .last + 1) (withEntry (laid before) e)) (entryChecks left l (at + 7) (x .last + 1) (before ++ (x ∷ []))))
-    (sym (entry-is l at start (laid before) e h))
+    (sym (entry-there l at (at + 7) start (laid before) e refl h .3))
     (subst (λ x. Agrees (entriesFrom left l (at + 7) (e .last + 1) x) (entryChecks left l (at + 7) (e .last + 1) (before ++ (e ∷ []))))
     (sym (with-laid before e (omega arith)))
     (entries-agree left l (at + 7) (e .last + 1) (before ++ (e ∷ [])) (omega (arith, length-append before (e ∷ [])))))
@@ -366,94 +367,64 @@ agree-cond true u a b cs ds e h g = rw (← e) h
 agree-cond false u a b cs ds e h g = rw (← e) g
 
 second-line : (n : ℕ) → eqb (n + 1) 2 ≡ eqb n 1
-second-line n = go (eqb n 1) refl
-  where
-    go : (t : Bool) → eqb n 1 ≡ t → eqb (n + 1) 2 ≡ t
-    go true e = let i = eqb-true n 1 e in eq-eqb (n + 1) 2 (omega arith)
-    go false e = let i = eqb-false n 1 e in ne-eqb (n + 1) 2 (λ z. i (omega arith))
+second-line n =
+    bool-eq (eqb (n + 1) 2) (eqb n 1) (λ e. let i = eqb-true (n + 1) 2 e in eq-eqb n 1 (omega arith)) (λ e. let i = eqb-true n 1 e in eq-eqb (n + 1) 2 (omega arith))
 
 -- a C line is a point where the declaration is open
 open-points : (ls : List (List ℕ)) (st : State) → Stands ls st → not (eqb (st .points) 0) ≡ isOpen ls
-open-points ls st w = go (eqb (st .points) 0) refl ∙ ap (leb 1) (w .points) ∙ sym (open-left ls)
+open-points ls st w = go (st .points) ∙ declaration-told ls (w .declaration) .0
   where
-    go : (b : Bool) → eqb (st .points) 0 ≡ b → not b ≡ leb 1 (st .points)
-    go true e = let i = eqb-true (st .points) 0 e in rw i
-    go false e = let i = eqb-false (st .points) 0 e in sym (le-leb 1 (st .points) (omega arith))
+    go : (n : ℕ) → not (eqb n 0) ≡ leb 1 n
+    go zero = refl
+    go (suc n) = rw (ne-eqb (suc n) 0 (λ z. omega arith), le-leb 1 (suc n) (omega arith))
 
 either-way : (t u : Bool) {A : Type 0} (a b : Said A) (cs ds : List Check) → not t ≡ u → Agrees a cs → Agrees b ds → Agrees (cond t a b) (cond u ds cs)
 either-way true u a b cs ds e h g = rw (← e) h
 either-way false u a b cs ds e h g = rw (← e) g
 
--- the kinds are A to Z
-kind-letters : (k : Kind) (b : ℕ) → Letter k b → isKind k ≡ (leb (code "A") b && leb b (code "Z"))
-kind-letters kind.A b h = rw h
-kind-letters kind.B b h = rw h
-kind-letters kind.C b h = rw h
-kind-letters kind.D b h = rw h
-kind-letters kind.E b h = rw h
-kind-letters kind.F b h = rw h
-kind-letters kind.G b h = rw h
-kind-letters kind.H b h = rw h
-kind-letters kind.I b h = rw h
-kind-letters kind.J b h = rw h
-kind-letters kind.K b h = rw h
-kind-letters kind.L b h = rw h
-kind-letters kind.Other b h = rw (le-leb 65 b (omega arith), le-leb b 90 (h .1))
-kind-letters kind.NoKind b (inl h) = rw (lt-leb 65 b h)
-kind-letters kind.NoKind b (inr h) = rw (le-leb 65 b (omega arith), lt-leb b 90 h)
-
 module _ (ls : List (List ℕ)) (l : List ℕ) (st : State) (w : Stands ls st) where
-  ruled-agrees : (k : Kind) (stage : ℕ) → isKind k ≡ true → Agrees (ruled k l (moved stage st)) (kindChecks k ls l)
-  unfolding ruled
-  ruled-agrees kind.A stage i = a-agrees ls l (moved stage st)
-  ruled-agrees kind.B stage i = b-agrees ls l (moved stage st) (w .clock) (w .fixes)
-  ruled-agrees kind.C stage i =
-      either-way (eqb (st .points) 0) (isOpen ls) _ _ (headChecks l) (pointChecks l) (open-points ls st w)
-      (agree-last (headLine l) (λ h. begun h (moved stage st)) (headChecks l) (head-agrees l))
-      (agree-last (pointLine l) (λ p. pointed (moved stage st)) (pointChecks l) (point-agrees l))
-  ruled-agrees kind.D stage i = d-agrees ls l (moved stage st)
-  ruled-agrees kind.E stage i = e-agrees ls l (moved stage st) (w .clock)
-  ruled-agrees kind.F stage i = f-agrees ls l (moved stage st) (w .clock)
-  ruled-agrees kind.G stage i = agree-last (gLine l) (λ u. moved stage st) (shapeChecks 2 255 false l) (shape-agrees 2 255 false l)
-  ruled-agrees kind.H stage i =
+  ruled-agrees : (r : Role) (stage : ℕ) → isRole r ≡ true → Agrees (ruled r l (moved stage st)) (roleChecks r ls l)
+  unfolding ruled headerLine declarationLine aLine dateLine hLine headLine headFields pointLine dLine eLine fLine on number
+  ruled-agrees role.Opens stage i = search agreeing depth 20
+  ruled-agrees role.Heads stage i =
       agree-cond (eqb (st .flight .lines + 1) 2) (eqb (length ls) 1) _ _ (dateChecks l) (headerChecks l) (second-line (st .flight .lines) ∙ ap (λ n. eqb n 1) (w .lines))
-      (agree-last (dateLine l) (λ d. dated d (moved stage st)) (dateChecks l) (date-agrees l))
-      (agree-last (hLine l) (λ u. moved stage st) (headerChecks l) (header-agrees l))
-  ruled-agrees kind.I stage i = agree-last (layoutLine 36 l) (λ x. withFixes x (moved stage st)) (layoutChecks family.B l) (layout-agrees family.B l)
-  ruled-agrees kind.J stage i = agree-last (layoutLine 8 l) (λ x. withExtras x (moved stage st)) (layoutChecks family.K l) (layout-agrees family.K l)
-  ruled-agrees kind.K stage i = k-agrees ls l (moved stage st) (w .clock) (w .extras)
-  ruled-agrees kind.L stage i = agree-last (lLine l) (λ u. moved stage st) (shapeChecks 1 99 false l) (shape-agrees 1 99 false l)
-  ruled-agrees kind.Other stage i = agree-last (otherLine l) (λ u. moved stage st) (shapeChecks 1 255 false l) (shape-agrees 1 255 false l)
-  ruled-agrees kind.NoKind stage i = absurd (false-true i)
+      (search agreeing depth 20)
+      (search agreeing depth 20)
+  ruled-agrees (role.Tells f) stage i = agree-last (layoutLine (firstStart f) l) (λ x. laidOut f x (moved stage st)) (layoutChecks f l) (layout-agrees f l)
+  ruled-agrees (role.Columned f) stage i =
+      let es = entriesTold f ls in
+      let cs = lineChecks f es l in
+      let x = layoutOf f (st .flight .layouts) in
+      then-time ls l (columnedLine f x l) (counted f (moved stage st)) cs (w .clock) (λ t. columned-time f x t l) (subst (λ y. Agrees (columnedLine f y l) cs) (sym (laid-out f (w .told f))) (line-agrees f es l))
+  ruled-agrees role.Declares stage i =
+      either-way (eqb (st .points) 0) (isOpen ls) _ _ (headChecks l) (pointChecks l) (open-points ls st w) (search agreeing depth 20) (search agreeing depth 20)
+  ruled-agrees role.Event stage i = then-time ls l (eLine l) (moved stage st) (eventChecks l) (w .clock) (λ t e. e-inv l t e .1) (search agreeing depth 20)
+  ruled-agrees role.Satellites stage i = then-time ls l (fLine l) (moved stage st) (satelliteChecks l) (w .clock) (λ t e. f-inv l t e .1) (search agreeing depth 20)
+  ruled-agrees role.Differential stage i = search agreeing depth 20
+  ruled-agrees role.Seals stage i = search agreeing depth 20
+  ruled-agrees role.Remark stage i = search agreeing depth 20
+  ruled-agrees role.Other stage i = search agreeing depth 20
+  ruled-agrees role.NoRole stage i = absurd (false-true i)
 
   judge-agrees : Agrees (judge l st) (checksOf ls l)
   unfolding judge checksOf on number
   judge-agrees =
-      let k = kindOf (getD l 0 0) in
+      let r = roleIn l in
       agree-need 4 1 (leb 1 (length l)) _ _ λ e.
-      rw (← kind-letters k (getD l 0 0) (letter (getD l 0 0)))
-      (agree-need 5 1 (isKind k) _ _ λ i.
-      subst (λ t. Agrees (given (orderOf k st) (refuses 6 0 1) λ stage. ruled k l (moved stage st)) (check 6 1 t ∷ kindChecks k ls l)) (order-told ls st w k)
-      (agree-given 6 1 (orderOf k st) _ (kindChecks k ls l) λ stage e. ruled-agrees k stage i))
+      rw (← letter-tests l .0)
+      (agree-need 5 1 (isRole r) _ _ λ i.
+      subst (λ t. Agrees (given (orderOf r st) (refuses 6 0 1) λ stage. ruled r l (moved stage st)) (check 6 1 t ∷ roleChecks r ls l)) (order-told ls st w r)
+      (agree-given 6 1 (orderOf r st) _ (roleChecks r ls l) λ stage e. ruled-agrees r stage i))
 
 -- ---- the first that fails, told apart
 
 fails-first : (cs : List Check) (n b : ℕ) → First cs n b → FailsFirst cs n b
 fails-first [] n b f = absurd f
-fails-first (c ∷ cs) n b (inl f) =
-    record { before = []; failed = c; after = cs; order = refl; passed = tt; fails = f .0; numbered = f .1; placed = f .2 }
+fails-first (c ∷ cs) n b (inl f) = record { before = []; failed = c; after = cs; order = refl; passed = tt; fails = f .0; numbered = f .1; placed = f .2 }
 fails-first (c ∷ cs) n b (inr f) =
     let r = fails-first cs n b (f .1) in
-    record {
-      before = c ∷ r .before;
-      failed = r .failed;
-      after = r .after;
-      order = ap (λ x. c ∷ x) (r .order);
-      passed = (f .0, r .passed);
-      fails = r .fails;
-      numbered = r .numbered;
-      placed = r .placed;
-    }
+    let order = ap (λ x. c ∷ x) (r .order) in
+    record { before = c ∷ r .before; failed = r .failed; after = r .after; order = order; passed = (f .0, r .passed); fails = r .fails; numbered = r .numbered; placed = r .placed }
 
 first-fails : (cs : List Check) (n b : ℕ) → FailsFirst cs n b → First cs n b
 first-fails cs n b w =

@@ -1,7 +1,7 @@
 -- Each field could be read exactly where the text of a value within its limits stands. From the laws of each field both ways. Assumes nothing.
 use Prim.Native.Nat.{ℕ, zero, suc, _+_, _≤_, _^_}
 use Prim.Native.Char.{code}
-use mathlib.Core.Bool.{Bool, true, false, _&&_, _||_}
+use mathlib.Core.Bool.{Bool, true, false, _||_, or-true}
 use mathlib.Core.List.{List, [], _∷_, _++_}
 use mathlib.Core.Logic.{_↔_, _⊎_, inl, inr}
 use mathlib.Core.Option.{Option, none, some}
@@ -9,14 +9,14 @@ use mathlib.Core.Path.{_≡_, refl, _∙_, ap}
 use native.Mathlib.Omega.{arith}
 use borrow.Author.Tests.{lt-ltb, ltb-true, eqb-true, eq-eqb}
 use lib.Dec.{eqb, ltb}
-use lib.ListN.{length, getD, drop}
-use Rattle.rules.specs.Choice.{leads}
+use lib.ListN.{length, drop}
+use Rattle.rules.specs.Choice.{leads, Each}
 use Rattle.rules.specs.Chars.{isCode, codesAt}
 use Rattle.rules.specs.Numbers.{numberAt, digitsOf}
 use Rattle.rules.specs.Listed.{codeAt, codeText, isCodeWord}
 use Rattle.rules.specs.Lines.{isDateMark}
 use Rattle.rules.specs.Fields.{isEither}
-use Rattle.trips.proofs.Laws.{false-true, and-inv, past, byte-there, byte-here}
+use Rattle.rules.proofs.Inverse.{false-true, and-inv}
 use Rattle.trips.proofs.Digits.{number-there, number-here}
 use Rattle.trips.proofs.Trip.{Trip}
 use Rattle.trips.proofs.Times.{time-trip}
@@ -24,10 +24,10 @@ use Rattle.trips.proofs.Dates.{date-trip}
 use Rattle.trips.proofs.Plans.{planned-trip}
 use Rattle.trips.proofs.Positions.{latitude-trip, longitude-trip}
 use Rattle.trips.proofs.Altitudes.{altitude-trip}
-use Rattle.demands.specs.Grammar.{Each}
 use Rattle.demands.specs.Checks.{isThere}
 use Rattle.demands.specs.FieldTexts.{Stood, Field, Codes, FieldsTold}
-use Rattle.demands.proofs.Entries.{code-there, code-here}
+use Rattle.demands.proofs.EachLine.{mark-there}
+use Rattle.demands.proofs.LayoutLines.{code-there, code-here}
 use Rattle.demands.proofs.Leading.{letter}
 
 -- ---- a field that reads both ways
@@ -36,17 +36,14 @@ module _ {A : Type 0} (read : List ℕ → ℕ → Option A) (text : A → List 
   is-field : ((l : List ℕ) (at : ℕ) (v : A) → read l at ≡ some v → (within v ≡ true) × Stood l at (text v))
       → ((l : List ℕ) (at : ℕ) (v : A) → (within v ≡ true) × Stood l at (text v) → read l at ≡ some v)
       → Field read text within
-  is-field out in-again = record { reads = λ l at v. (out l at v, in-again l at v); there = λ l at. (read-there l at, there-read l at) }
+  is-field out in-again = record {
+    reads = λ l at v. (out l at v, in-again l at v);
+    there = λ l at. (read-there l at (read l at) refl, λ w. ap isThere (in-again l at (w .0) (w .1, w .2)));
+  }
     where
-      read-there : (l : List ℕ) (at : ℕ) → isThere (read l at) ≡ true → (v : A) × (within v ≡ true) × Stood l at (text v)
-      read-there l at e = go (read l at) refl e
-        where
-          go : (o : Option A) → read l at ≡ o → isThere o ≡ true → (v : A) × (within v ≡ true) × Stood l at (text v)
-          go (some v) q h = let r = out l at v q in (v, r .0, r .1)
-          go none q h = absurd (false-true h)
-
-      there-read : (l : List ℕ) (at : ℕ) → (v : A) × (within v ≡ true) × Stood l at (text v) → isThere (read l at) ≡ true
-      there-read l at w = ap isThere (in-again l at (w .0) (w .1, w .2))
+      read-there : (l : List ℕ) (at : ℕ) (o : Option A) → read l at ≡ o → isThere o ≡ true → (v : A) × (within v ≡ true) × Stood l at (text v)
+      read-there l at (some v) q h = let r = out l at v q in (v, r .0, r .1)
+      read-there l at none q h = absurd (false-true h)
 
   trip-field : (width : ℕ) → Trip read text width within → Field read text within
   trip-field width t =
@@ -73,20 +70,14 @@ word-field =
 -- ---- code characters
 
 -- the first n of a list
-record Front (n : ℕ) (l : List ℕ) : Type 0 where
-  text : List ℕ
-  codes : Codes n text
-  rest : List ℕ
-  bytes : l ≡ text ++ rest
-
-front-there : (n : ℕ) (l : List ℕ) → leads isCode n l ≡ true → Front n l
+front-there : (n : ℕ) (l : List ℕ) → leads isCode n l ≡ true → (text rest : List ℕ) × Codes n text × (l ≡ text ++ rest)
 unfolding leads
-front-there zero l e = record { text = []; codes = record { count = refl; each = tt }; rest = l; bytes = refl }
+front-there zero l e = ([], l, record { count = refl; each = tt }, refl)
 front-there (suc n) [] e = absurd (false-true e)
 front-there (suc n) (b ∷ l) e =
     let a = and-inv (isCode b) (leads isCode n l) e in
     let r = front-there n l (a .1) in
-    record { text = b ∷ r .text; codes = record { count = ap suc (r .codes .count); each = (a .0, r .codes .each) }; rest = r .rest; bytes = ap (λ x. b ∷ x) (r .bytes) }
+    (b ∷ r .0, r .1, record { count = ap suc (r .2 .count); each = (a .0, r .2 .each) }, ap (λ x. b ∷ x) (r .3))
 
 front-here : (n : ℕ) (t r : List ℕ) → length t ≡ n → Each (λ b. isCode b ≡ true) t → leads isCode n (t ++ r) ≡ true
 unfolding leads
@@ -98,7 +89,7 @@ front-here (suc n) (b ∷ t) r e h = rw (h .0) (front-here n t r (omega arith) (
 codes-field : (l : List ℕ) (at n : ℕ) → (codesAt l at n ≡ true) ↔ ((t : List ℕ) × Codes n t × Stood l at t)
 unfolding codesAt
 codes-field l at n = (
-  λ e. let f = front-there n (drop at l) e in (f .text, f .codes, record { rest = f .rest; bytes = f .bytes }),
+  λ e. let f = front-there n (drop at l) e in (f .0, f .2, record { rest = f .1; bytes = f .3 }),
   λ w. ap (leads isCode n) (w .2 .bytes) ∙ front-here n (w .0) (w .2 .rest) (w .1 .count) (w .1 .each),
 )
 
@@ -106,28 +97,11 @@ codes-field l at n = (
 
 mark-field : (l : List ℕ) → (isDateMark l ≡ true) ↔ Stood l 1 (code "F" ∷ code "D" ∷ code "T" ∷ code "E" ∷ [])
 unfolding isDateMark
-mark-field l = (out, in-again)
+mark-field l = (λ e. record { rest = drop 5 l; bytes = mark-there l e }, in-again l)
   where
-    out : isDateMark l ≡ true → Stood l 1 (70 ∷ 68 ∷ 84 ∷ 69 ∷ [])
-    out e =
-        let p₃ = and-inv (eqb (getD l 1 0) 70 && eqb (getD l 2 0) 68 && eqb (getD l 3 0) 84) _ e in
-        let p₂ = and-inv (eqb (getD l 1 0) 70 && eqb (getD l 2 0) 68) _ (p₃ .0) in
-        let p₁ = and-inv (eqb (getD l 1 0) 70) _ (p₂ .0) in
-        record {
-          rest = drop 5 l;
-          bytes = byte-there l 1 2 70 refl (omega arith) (eqb-true _ _ (p₁ .0))
-              ∙ ap (λ x. 70 ∷ x) (byte-there l 2 3 68 refl (omega arith) (eqb-true _ _ (p₁ .1))
-              ∙ ap (λ x. 68 ∷ x) (byte-there l 3 4 84 refl (omega arith) (eqb-true _ _ (p₂ .1))
-              ∙ ap (λ x. 84 ∷ x) (byte-there l 4 5 69 refl (omega arith) (eqb-true _ _ (p₃ .1)))));
-        }
-
-    in-again : Stood l 1 (70 ∷ 68 ∷ 84 ∷ 69 ∷ []) → isDateMark l ≡ true
-    in-again w =
-        let a = byte-here l 1 70 _ (w .bytes) in
-        let b = byte-here l 2 68 _ (past l 1 1 2 (70 ∷ []) _ refl refl (w .bytes)) in
-        let c = byte-here l 3 84 _ (past l 1 2 3 (70 ∷ 68 ∷ []) _ refl refl (w .bytes)) in
-        let d = byte-here l 4 69 (w .rest) (past l 1 3 4 (70 ∷ 68 ∷ 84 ∷ []) _ refl refl (w .bytes)) in
-        simp (a, b, c, d)
+    in-again : (l : List ℕ) → Stood l 1 (70 ∷ 68 ∷ 84 ∷ 69 ∷ []) → isDateMark l ≡ true
+    in-again [] w = let n = ap length (w .bytes) in absurd (omega arith)
+    in-again (x ∷ t) w = ap (λ y. isDateMark (x ∷ y)) (w .bytes)
 
 -- ---- one of two letters
 
@@ -140,19 +114,15 @@ either-field x a b = (out (eqb x a) (eqb x b) refl refl, back)
     out false true p q e = inr (eqb-true x b q)
     out false false p q e = absurd (false-true e)
 
-    second : (s : Bool) → (s || true) ≡ true
-    second true = refl
-    second false = refl
-
     back : (x ≡ a) ⊎ (x ≡ b) → (eqb x a || eqb x b) ≡ true
     back (inl h) = rw (eq-eqb x a h)
-    back (inr h) = rw (eq-eqb x b h) (second (eqb x a))
+    back (inr h) = rw (eq-eqb x b h) (or-true (eqb x a))
 
 -- ---- all of them
 
 pub fields-told : FieldsTold
 fields-told = record {
-  kind = letter;
+  role = letter;
   time = trip-field _ _ _ 6 time-trip;
   date = trip-field _ _ _ 6 date-trip;
   planned = trip-field _ _ _ 6 planned-trip;

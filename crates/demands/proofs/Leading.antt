@@ -1,83 +1,100 @@
--- One line after those before it: the check of a line says a state exactly when the line is one that may come there, and leads to that state. Assumes nothing.
-use Prim.Native.Nat.{ℕ, suc, _+_, _-_, _≤_, _<_}
+-- One line after those before it: the check of a line says a state exactly when the line is one that may come there, and leads to that state. First its letter: which
+-- role it tells, and what the tests of a first byte say of that role. Assumes nothing.
+use Prim.Native.Nat.{ℕ, suc, _+_, _-_, _≤_}
 use Prim.Native.Char.{code}
-use mathlib.Core.Bool.{Bool, true, false, not, _&&_, cond}
+use mathlib.Core.Bool.{Bool, true, false, _&&_, cond, not}
 use mathlib.Core.List.{List, [], _∷_}
-use mathlib.Core.Logic.{_⊎_, inl, inr}
+use mathlib.Core.Logic.{inl, inr}
+use mathlib.Core.Path.{_≡_, refl, sym, _∙_}
 use mathlib.Core.Option.{none, some}
-use mathlib.Core.Path.{_≡_, refl, ap}
 use native.Mathlib.Omega.{arith}
-use borrow.Author.Tests.{le-leb, lt-leb, leb-true, leb-false, eqb-true, eqb-false, eq-eqb, ne-eqb, ltb-true, ltb-false, lt-ltb, le-ltb, not-true}
+use borrow.Author.Tests.{le-leb, lt-leb, leb-true, leb-false, eqb-true, eqb-false, ne-eqb, ltb-true, ltb-false, le-ltb, lt-ltb}
 use lib.Dec.{leb, eqb, ltb}
 use lib.ListN.{length, getD}
-use Rattle.rules.specs.Choice.{on, leads}
-use Rattle.rules.specs.Refusals.{Said, says, andThen}
-use Rattle.rules.specs.Layouts.{isUnused, allPlaced, allowed}
-use Rattle.rules.specs.Lines.{kindOf, aLine, dateLine, hLine, layoutLine, headLine, pointLine, dLine, eLine, fLine, bLine, kLine, lLine, gLine, otherLine}
-use Rattle.rules.specs.Order.{start, leading, stageAfter, isC, isKind, fitsDeclaration, orderOf, moved, dated, withFixes, withExtras, counted, begun, pointed, clocked, onward, nextDay, back, passing, isBack, timed, ruled, judge}
-use Rattle.rules.specs.declared.Date.{Date}
+use Rattle.rules.specs.Choice.{bytes, leads}
+use Rattle.rules.specs.Families.{lineLetter, layoutLetter, layoutOf, withLayout, countOf, oneMore}
+use Rattle.rules.specs.Refusals.{says}
+use Rattle.rules.specs.Lines.{kindOf}
+use Rattle.rules.specs.Roles.{roleOf, isRole, isDeclaring, isOf, sameFamily, afterA, afterH, afterLayout, inBody, afterG, atStart, afterLastG, leading, stageAfter}
+use Rattle.rules.specs.Order.{judge, start, fitsDeclaration, orderOf, withFlight, moved, dated, laidOut, counted, begun, pointed, clocked, onward, nextDay, back, passing, isBack}
 use Rattle.rules.specs.declared.Layout.{Layout}
+use Rattle.rules.specs.declared.Layouts.{Layouts}
+use Rattle.rules.specs.declared.Family.{Family}
 use Rattle.rules.specs.declared.Family.the-variants as family
-use Rattle.rules.specs.declared.Fix.{Fix}
-use Rattle.rules.specs.declared.Head.{Head}
 use Rattle.rules.specs.declared.Kind.{Kind}
 use Rattle.rules.specs.declared.Kind.the-variants as kind
+use Rattle.rules.specs.declared.Role.{Role}
+use Rattle.rules.specs.declared.Role.the-variants as role
 use Rattle.rules.specs.declared.State.{State}
-use Rattle.trips.proofs.Laws.{none-some, refuses-says, false-true, given-inv, need-inv, then-inv, and-inv}
-use Rattle.demands.specs.Grammar.{Follows, IsALine, IsDateLine, IsHLine, IsLayoutLine, IsHeadLine, IsPointLine, IsELine, IsFLine, IsBLine, IsKLine, IsLLine, IsGLine, Untimed, differential, remark, other}
+use Rattle.rules.specs.Layouts.{isUnused, allPlaced, allowed}
+use Rattle.rules.specs.declared.Date.{Date}
+use Rattle.rules.specs.declared.Counts.{Counts}
+use Rattle.rules.specs.declared.Head.{Head}
+use Rattle.rules.proofs.Inverse.{false-true, none-some, need-inv, and-inv, not-inv}
+use Rattle.laws.proofs.Passing.{roleIn, leading-so, leading-inv, Onward, Leaves, judged, judged-so}
+use Rattle.laws.proofs.Counted.{judged-more}
+use Rattle.laws.proofs.Passing as passes
+use Rattle.demands.specs.Coming.{isAmong, lettersBefore}
 use Rattle.demands.specs.FieldTexts.{Letter}
-use Rattle.demands.proofs.Carried.{a-there, a-said, date-there, date-said, h-there, h-said, d-there, d-said, e-there, e-said, f-there, f-said, l-there, l-said, g-there, g-said, other-there, other-said}
-use Rattle.demands.proofs.Valued.{IsTold, b-there, b-said, k-there, k-said, head-there, head-said, point-there, point-said}
-use Rattle.demands.proofs.LayoutLines.{layout-there, layout-said, layout-allowed}
+use Rattle.demands.specs.Grammar.{Follows, IsALine, IsDateLine, IsHLine, IsLayoutLine, IsHeadLine, IsPointLine, IsLLine, IsGLine, Timed, columned, event, satellites, Untimed, differential, remark, other}
+use Rattle.demands.proofs.Laws.{cond-false}
+use Rattle.demands.proofs.EachLine.{a-there, a-said, date-there, date-said, h-there, h-said, d-there, d-said, e-there, e-said, f-there, f-said, l-there, l-said, g-there, g-said, other-there, other-said, columned-letter, columned-there, columned-said, head-there, head-said, point-there, point-said}
+use Rattle.demands.proofs.LayoutLines.{IsTold, layout-there, layout-said, layout-allowed}
 
--- ---- what is claimed
+-- ---- the families, one by one
 
--- the part of the file that a line leads to
-pub data Part : Type 0 where
-  recorder header fixLayout extraLayout body seal remarks : Part
+-- what holds of each family
+abbrev pub every : (P : Family → Type 0) → P family.B → P family.K → (f : Family) → P f
+every P b k family.B = b
+every P b k family.K = k
 
--- a line of the body may come, and the state after it
-pub data InBody (st : State) (l : List ℕ) : State → Type 0 where
-  head : (h : Head) → st .points ≡ 0 → st .declared ≡ false → st .flight .bs ≡ 0 → IsHeadLine h l → InBody st l (begun h (moved 5 st))
-  point : 1 ≤ st .points → IsPointLine l → InBody st l (pointed (moved 5 st))
-  fix : (f : Fix) → st .points ≡ 0 → Follows (st .clock) (f .time) → IsTold 36 (st .flight .fixes) × IsBLine (st .flight .fixes) f l → InBody st l (clocked (f .time) (counted 1 0 (moved 5 st)))
-  extra : (t : ℕ) → st .points ≡ 0 → Follows (st .clock) t → IsTold 8 (st .flight .extras) × IsKLine (st .flight .extras) t l → InBody st l (clocked t (counted 0 1 (moved 5 st)))
-  event : (t : ℕ) → st .points ≡ 0 → Follows (st .clock) t → IsELine t l ⊎ IsFLine t l → InBody st l (clocked t (moved 5 st))
-  quiet : st .points ≡ 0 → Untimed l → InBody st l (moved 5 st)
+-- a test that each of them passes, and one that each fails
+pub all-pass : (test : Family → Bool) → (test family.B && test family.K) ≡ true → (f : Family) → test f ≡ true
+all-pass test e = let a = and-inv (test family.B) (test family.K) e in every (λ f. test f ≡ true) (a .0) (a .1)
 
--- a line may come, its part, and the state after it
-pub data Leads (st : State) (l : List ℕ) : Part → State → Type 0 where
-  first : st .stage ≡ 0 → st .points ≡ 0 → IsALine l → Leads st l recorder (moved 1 st)
-  second : (d : Date) → 1 ≤ st .stage → st .stage ≤ 2 → st .points ≡ 0 → st .flight .lines + 1 ≡ 2 → IsDateLine d l → Leads st l header (dated d (moved 2 st))
-  further : 1 ≤ st .stage → st .stage ≤ 2 → st .points ≡ 0 → (st .flight .lines + 1 ≡ 2 → ⊥) → IsHLine l → Leads st l header (moved 2 st)
-  fixing : (layout : Layout) → st .stage ≡ 2 → st .points ≡ 0 → IsLayoutLine family.B layout l → Leads st l fixLayout (withFixes layout (moved 3 st))
-  noting : (layout : Layout) → 2 ≤ st .stage → st .stage ≤ 3 → st .points ≡ 0 → IsLayoutLine family.K layout l → Leads st l extraLayout (withExtras layout (moved 4 st))
-  flying : {m : State} → 2 ≤ st .stage → st .stage ≤ 5 → InBody st l m → Leads st l body m
-  sealing : 2 ≤ st .stage → st .stage ≤ 6 → st .points ≡ 0 → IsGLine l → Leads st l seal (moved 6 st)
-  remarking : 6 ≤ st .stage → st .stage ≤ 7 → st .points ≡ 0 → IsLLine l → Leads st l remarks (moved 7 st)
+pub none-pass : (test : Family → Bool) → (not (test family.B) && not (test family.K)) ≡ true → (f : Family) → test f ≡ false
+none-pass test e f = not-inv (test f) (all-pass (λ g. not (test g)) e f)
 
--- both layouts are ones that a line can tell
-abbrev pub Sound : State → Type 0
-Sound st = IsTold 36 (st .flight .fixes) × IsTold 8 (st .flight .extras)
+pub all-layouts : (a b : Layouts) → ((f : Family) → layoutOf f a ≡ layoutOf f b) → a ≡ b
+all-layouts a b h = λ i. record { b = h family.B i; k = h family.K i }
 
-pub sound-start : Sound start
-unfolding allowed allPlaced leads isUnused
-sound-start = ((refl, refl), (refl, refl))
+-- what holds of the layout that is put in, and of each that stays
+pub put-by : (P : Family → Layout → Type 0) (f : Family) (i : Layout) (ls : Layouts) → P f i → ((g : Family) → sameFamily g f ≡ false → P g (layoutOf g ls))
+    → (g : Family) → P g (layoutOf g (withLayout f i ls))
+put-by P family.B i ls h k = every (λ g. P g (layoutOf g (withLayout family.B i ls))) h (k family.K refl)
+put-by P family.K i ls h k = every (λ g. P g (layoutOf g (withLayout family.K i ls))) (k family.B refl) h
 
--- ---- kinds and letters
+pub put-own : (f : Family) (i : Layout) (ls : Layouts) → layoutOf f (withLayout f i ls) ≡ i
+put-own f i ls = every (λ f. layoutOf f (withLayout f i ls) ≡ i) refl refl f
+
+pub same-family : (f : Family) → sameFamily f f ≡ true
+same-family = all-pass (λ f. sameFamily f f) refl
+
+pub is-same : (f g : Family) → sameFamily g f ≡ true → g ≡ f
+is-same family.B = every (λ g. sameFamily g family.B ≡ true → g ≡ family.B) (λ e. refl) (λ e. absurd (false-true e))
+is-same family.K = every (λ g. sameFamily g family.K ≡ true → g ≡ family.K) (λ e. absurd (false-true e)) (λ e. refl)
+
+pub put-others : (f : Family) (i : Layout) (ls : Layouts) (g : Family) → sameFamily g f ≡ false → layoutOf g (withLayout f i ls) ≡ layoutOf g ls
+put-others f i ls = put-by (λ g x. sameFamily g f ≡ false → x ≡ layoutOf g ls) f i ls (λ n. absurd (false-true (sym n ∙ same-family f))) (λ g n m. refl)
+
+pub same-letter : (f g : Family) → lineLetter f ≡ lineLetter g → f ≡ g
+same-letter family.B = every (λ g. lineLetter family.B ≡ lineLetter g → family.B ≡ g) (λ e. refl) (λ e. absurd (omega arith))
+same-letter family.K = every (λ g. lineLetter family.K ≡ lineLetter g → family.K ≡ g) (λ e. absurd (omega arith)) (λ e. refl)
+
+-- ---- the role of a letter
 
 -- no byte is between two letters that follow one another
 past : (n b : ℕ) → n ≤ b → eqb b n ≡ false → suc n ≤ b
 past n b h e = let z = eqb-false b n e in omega arith
 
-tell : (P : Kind → Type 0) (t : Bool) (k r : Kind) → (t ≡ true → P k) → (t ≡ false → P r) → P (cond t k r)
+tell : (P : Role → Type 0) (t : Bool) (k r : Kind) → (t ≡ true → P (roleOf k)) → (t ≡ false → P (roleOf r)) → P (roleOf (cond t k r))
 tell P true k r f g = f refl
 tell P false k r f g = g refl
 
-pub letter : (b : ℕ) → Letter (kindOf b) b
+pub letter : (b : ℕ) → Letter (roleOf (kindOf b)) b
 unfolding kindOf
 letter b =
-    let P : Kind → Type 0 = λ k. Letter k b in
+    let P : Role → Type 0 = λ r. Letter r b in
     tell P (eqb b 65) kind.A _ (eqb-true b 65) λ a.
     tell P (eqb b 66) kind.B _ (eqb-true b 66) λ b₁.
     tell P (eqb b 67) kind.C _ (eqb-true b 67) λ c.
@@ -98,293 +115,310 @@ letter b =
     ))
     (λ r. inr (leb-false b 90 r))
 
-kind-other : (b : ℕ) → code "M" ≤ b → b ≤ code "Z" → kindOf b ≡ kind.Other
+pub tells-letter : (f : Family) {b : ℕ} → Letter (role.Tells f) b → b ≡ layoutLetter f
+tells-letter f {b} = every (λ f. Letter (role.Tells f) b → b ≡ layoutLetter f) (λ e. e) (λ e. e) f
+
+pub line-letter : (f : Family) {b : ℕ} → Letter (role.Columned f) b → b ≡ lineLetter f
+line-letter f {b} = every (λ f. Letter (role.Columned f) b → b ≡ lineLetter f) (λ e. e) (λ e. e) f
+
+pub tells-role : (f : Family) → roleOf (kindOf (layoutLetter f)) ≡ role.Tells f
 unfolding kindOf
-kind-other b p q =
-    simp (
-      ne-eqb b 65 (omega arith),
-      ne-eqb b 66 (omega arith),
-      ne-eqb b 67 (omega arith),
-      ne-eqb b 68 (omega arith),
-      ne-eqb b 69 (omega arith),
-      ne-eqb b 70 (omega arith),
-      ne-eqb b 71 (omega arith),
-      ne-eqb b 72 (omega arith),
-      ne-eqb b 73 (omega arith),
-      ne-eqb b 74 (omega arith),
-      ne-eqb b 75 (omega arith),
-      ne-eqb b 76 (omega arith),
-      le-ltb b 65 (omega arith),
-      le-leb b 90 q,
+tells-role = every (λ f. roleOf (kindOf (layoutLetter f)) ≡ role.Tells f) refl refl
+
+pub line-role : (f : Family) → roleOf (kindOf (lineLetter f)) ≡ role.Columned f
+unfolding kindOf
+line-role = every (λ f. roleOf (kindOf (lineLetter f)) ≡ role.Columned f) refl refl
+
+-- a line with a role has bytes
+pub not-empty : (l : List ℕ) → isRole (roleIn l) ≡ true → 1 ≤ length l
+unfolding kindOf
+not-empty [] h = absurd (false-true h)
+not-empty (b ∷ l) h = omega arith
+
+-- ---- tests of a role
+
+-- tells the layout of a family
+abbrev pub isTelling : Family → Role → Bool
+isTelling g = elim [ role.Opens ↦ false | role.Heads ↦ false | role.Tells f ↦ sameFamily g f | role.Columned f ↦ false | role.Declares ↦ false | role.Event ↦ false | role.Satellites ↦ false | role.Differential ↦ false | role.Seals ↦ false | role.Remark ↦ false | role.Other ↦ false | role.NoRole ↦ false ]
+
+-- has a time
+abbrev pub isTiming : Role → Bool
+isTiming = elim [ role.Opens ↦ false | role.Heads ↦ false | role.Tells f ↦ false | role.Columned f ↦ true | role.Declares ↦ false | role.Event ↦ true | role.Satellites ↦ true | role.Differential ↦ false | role.Seals ↦ false | role.Remark ↦ false | role.Other ↦ false | role.NoRole ↦ false ]
+
+-- the first part of a file that a line of this role leads to
+abbrev pub leadsTo : Role → ℕ
+leadsTo = elim [ role.Opens ↦ afterA | role.Heads ↦ afterH | role.Tells f ↦ afterLayout f | role.Columned f ↦ inBody | role.Declares ↦ inBody | role.Event ↦ inBody | role.Satellites ↦ inBody | role.Differential ↦ inBody | role.Seals ↦ afterG | role.Remark ↦ inBody | role.Other ↦ inBody | role.NoRole ↦ inBody ]
+
+abbrev pub isSealing : Role → Bool
+isSealing r = eqb (leadsTo r) afterG
+
+-- the tests of a first byte by the role, and those that ask for a family
+abbrev Plainly : Role → ℕ → Type 0
+Plainly r b = (eqb b (code "C") ≡ isDeclaring r) × (eqb b (code "G") ≡ isSealing r) × (isAmong (bytes "BEFK") b ≡ isTiming r)
+
+abbrev ByFamily : Role → ℕ → Family → Type 0
+ByFamily r b f = (eqb b (lineLetter f) ≡ isOf f r) × (eqb b (layoutLetter f) ≡ isTelling f r) × (isAmong (lettersBefore f) b ≡ leb (leadsTo r) (afterLayout f - 1))
+
+abbrev pub Tests : Role → ℕ → Type 0
+Tests r b = (isRole r ≡ (leb (code "A") b && leb b (code "Z"))) × Plainly r b × ((f : Family) → ByFamily r b f)
+
+-- another byte than A to L
+outside : (b : ℕ) → ((x : ℕ) → code "A" ≤ x → x ≤ code "L" → eqb b x ≡ false) → Plainly role.Other b × ((f : Family) → ByFamily role.Other b f)
+unfolding isAmong bytes
+outside b n =
+    let no : (x : ℕ) → leb 65 x ≡ true → leb x 76 ≡ true → eqb b x ≡ false = λ x p q. n x (leb-true 65 x p) (leb-true x 76 q) in (
+      (no 67 refl refl, no 71 refl refl, simp (no 66 refl refl, no 69 refl refl, no 70 refl refl, no 75 refl refl)),
+      every (ByFamily role.Other b) (no 66 refl refl, no 73 refl refl, simp (no 65 refl refl, no 72 refl refl)) (no 75 refl refl, no 74 refl refl, simp (no 65 refl refl, no 72 refl refl, no 73 refl refl)),
     )
 
--- ---- the order of kinds
+other-role : (b : ℕ) → code "M" ≤ b → b ≤ code "Z" → roleOf (kindOf b) ≡ role.Other
+unfolding kindOf
+other-role b p q =
+    let no : (x : ℕ) → leb x 76 ≡ true → eqb b x ≡ false = λ x h. let i = leb-true x 76 h in ne-eqb b x (λ z. omega arith) in
+    rw (no 65 refl, no 66 refl, no 67 refl, no 68 refl, no 69 refl, no 70 refl, no 71 refl, no 72 refl, no 73 refl, no 74 refl, no 75 refl, no 76 refl, le-ltb b 65 (omega arith), le-leb b 90 q)
 
-lead-inv : (low high next stage s : ℕ) → leading low high next stage ≡ some s → (low ≤ stage) × (stage ≤ high) × (next ≡ s)
-lead-inv low high next stage s e =
-    let n = need-inv (leb low stage && leb stage high) none (some s) _ none-some e in
-    let r = and-inv (leb low stage) (leb stage high) (n .0) in
-    (leb-true _ _ (r .0), leb-true _ _ (r .1), cc)
+-- a letter of its own
+row : (r : Role) (x b : ℕ) → b ≡ x → isRole r ≡ (leb (code "A") x && leb x (code "Z")) → Plainly r x → ByFamily r x family.B → ByFamily r x family.K → Tests r b
+row r x b h known plain at-b at-k = rw h (known, plain, every (ByFamily r x) at-b at-k)
 
-lead : (low high next stage : ℕ) → low ≤ stage → stage ≤ high → leading low high next stage ≡ some next
-lead low high next stage p q = rw (le-leb low stage p, le-leb stage high q)
+tests-by : (r : Role) (b : ℕ) → Letter r b → Tests r b
+unfolding isAmong bytes
+tests-by role.Opens b h = row role.Opens _ b h refl (refl, refl, refl) (refl, refl, refl) (refl, refl, refl)
+tests-by role.Heads b h = row role.Heads _ b h refl (refl, refl, refl) (refl, refl, refl) (refl, refl, refl)
+tests-by (role.Tells family.B) b h = row (role.Tells family.B) _ b h refl (refl, refl, refl) (refl, refl, refl) (refl, refl, refl)
+tests-by (role.Tells family.K) b h = row (role.Tells family.K) _ b h refl (refl, refl, refl) (refl, refl, refl) (refl, refl, refl)
+tests-by (role.Columned family.B) b h = row (role.Columned family.B) _ b h refl (refl, refl, refl) (refl, refl, refl) (refl, refl, refl)
+tests-by (role.Columned family.K) b h = row (role.Columned family.K) _ b h refl (refl, refl, refl) (refl, refl, refl) (refl, refl, refl)
+tests-by role.Declares b h = row role.Declares _ b h refl (refl, refl, refl) (refl, refl, refl) (refl, refl, refl)
+tests-by role.Event b h = row role.Event _ b h refl (refl, refl, refl) (refl, refl, refl) (refl, refl, refl)
+tests-by role.Satellites b h = row role.Satellites _ b h refl (refl, refl, refl) (refl, refl, refl) (refl, refl, refl)
+tests-by role.Differential b h = row role.Differential _ b h refl (refl, refl, refl) (refl, refl, refl) (refl, refl, refl)
+tests-by role.Seals b h = row role.Seals _ b h refl (refl, refl, refl) (refl, refl, refl) (refl, refl, refl)
+tests-by role.Remark b h = row role.Remark _ b h refl (refl, refl, refl) (refl, refl, refl) (refl, refl, refl)
+tests-by role.Other b h = let o = outside b λ x p q. ne-eqb b x (λ z. omega arith) in (rw (le-leb 65 b (omega arith), le-leb b 90 (h .1)), o .0, o .1)
+tests-by role.NoRole b (inl h) = let o = outside b λ x p q. ne-eqb b x (λ z. omega arith) in (rw (lt-leb 65 b h), o .0, o .1)
+tests-by role.NoRole b (inr h) = let o = outside b λ x p q. ne-eqb b x (λ z. omega arith) in (rw (le-leb 65 b (omega arith), lt-leb b 90 h), o .0, o .1)
+
+pub letter-tests : (l : List ℕ) → Tests (roleIn l) (getD l 0 0)
+letter-tests l = tests-by (roleIn l) (getD l 0 0) (letter (getD l 0 0))
+
+-- a line that passes is one line of its family more
+pub counts-more : (l : List ℕ) (st after : State) → judge l st ≡ says after → (f : Family)
+    → countOf f (after .flight .counts) ≡ countOf f (st .flight .counts) + cond (eqb (getD l 0 0) (lineLetter f)) 1 0
+counts-more l st after e f = rw (letter-tests l .2 f .0) (judged-more l st after e .count f)
+
+-- ---- what is claimed
+
+-- the part of the file that a line leads to
+pub data Part : Type 0 where
+  recorder header body seal remarks : Part
+  telling : Family → Part
+
+-- a line with a time is counted in its family, where it has one
+abbrev pub countedBy : {layouts : Layouts} {t : ℕ} {l : List ℕ} → Timed layouts t l → Counts → Counts
+countedBy (columned f w) ns = oneMore f ns
+countedBy (event w) ns = ns
+countedBy (satellites w) ns = ns
+
+abbrev pub noted : {layouts : Layouts} {t : ℕ} {l : List ℕ} → Timed layouts t l → State → State
+noted {t = t} w st =
+    clocked t (withFlight st (record { date = st .flight .date; layouts = st .flight .layouts; lines = st .flight .lines; counts = countedBy w (st .flight .counts) }))
+
+-- a line of the body may come, and the state after it
+pub data InBody (st : State) (l : List ℕ) : State → Type 0 where
+  head : (h : Head) → st .points ≡ 0 → st .declared ≡ false → countOf family.B (st .flight .counts) ≡ 0 → IsHeadLine h l → InBody st l (begun h (moved inBody st))
+  point : 1 ≤ st .points → IsPointLine l → InBody st l (pointed (moved inBody st))
+  timed : (t : ℕ) (w : Timed (st .flight .layouts) t l) → st .points ≡ 0 → Follows (st .clock) t → InBody st l (noted w (moved inBody st))
+  quiet : st .points ≡ 0 → Untimed l → InBody st l (moved inBody st)
+
+-- a line may come, its part, and the state after it
+pub data Leads (st : State) (l : List ℕ) : Part → State → Type 0 where
+  a-line : st .stage ≡ atStart → st .points ≡ 0 → IsALine l → Leads st l recorder (moved afterA st)
+  date-line : (d : Date) → afterA ≤ st .stage → st .stage ≤ afterH → st .points ≡ 0 → st .flight .lines + 1 ≡ 2 → IsDateLine d l → Leads st l header (dated d (moved afterH st))
+  h-line : afterA ≤ st .stage → st .stage ≤ afterH → st .points ≡ 0 → (st .flight .lines + 1 ≡ 2 → ⊥) → IsHLine l → Leads st l header (moved afterH st)
+  layout-line : (f : Family) (i : Layout) → afterH ≤ st .stage → st .stage ≤ afterLayout f - 1 → st .points ≡ 0 → IsLayoutLine f i l
+      → Leads st l (telling f) (laidOut f i (moved (afterLayout f) st))
+  body-line : {m : State} → afterH ≤ st .stage → st .stage ≤ inBody → InBody st l m → Leads st l body m
+  g-line : afterH ≤ st .stage → st .stage ≤ afterG → st .points ≡ 0 → IsGLine l → Leads st l seal (moved afterG st)
+  l-line : afterG ≤ st .stage → st .stage ≤ afterLastG → st .points ≡ 0 → IsLLine l → Leads st l remarks (moved afterLastG st)
+
+-- each layout is one that a line can tell
+abbrev pub Sound : State → Type 0
+Sound st = (f : Family) → IsTold f (layoutOf f (st .flight .layouts))
+
+pub sound-start : Sound start
+unfolding allowed allPlaced leads isUnused
+sound-start = every (λ f. IsTold f (layoutOf f (start .flight .layouts))) (refl, refl) (refl, refl)
+
+-- ---- the order of roles
 
 -- while points are to come only a C line may
-plain-fits : (st : State) → fitsDeclaration false st ≡ true → st .points ≡ 0
+pub plain-fits : (st : State) → fitsDeclaration false st ≡ true → st .points ≡ 0
 unfolding fitsDeclaration
-plain-fits st e = go (leb 1 (st .points)) refl e
-  where
-    go : (b : Bool) → leb 1 (st .points) ≡ b → cond b false true ≡ true → st .points ≡ 0
-    go true q e = absurd (false-true e)
-    go false q e = let h = leb-false 1 (st .points) q in omega arith
+plain-fits st e =
+    let c = cond-false (leb 1 (st .points)) false _ true false-true e in
+    let h = leb-false 1 (st .points) (c .0) in
+    omega arith
 
 fits-plain : (st : State) → st .points ≡ 0 → fitsDeclaration false st ≡ true
 unfolding fitsDeclaration
 fits-plain st e = rw e
 
--- a C line is a point, or it begins a declaration
-c-fits : (st : State) → fitsDeclaration true st ≡ true → (1 ≤ st .points) ⊎ ((st .points ≡ 0) × (st .declared ≡ false) × (st .flight .bs ≡ 0))
+-- a C line where no point is to come begins a declaration
+pub head-fits : (st : State) → st .points ≡ 0 → fitsDeclaration true st ≡ true → (st .declared ≡ false) × (countOf family.B (st .flight .counts) ≡ 0)
 unfolding fitsDeclaration
-c-fits st e = go (leb 1 (st .points)) refl e
-  where
-    go : (b : Bool) → leb 1 (st .points) ≡ b → cond b true (not (st .declared) && eqb (st .flight .bs) 0) ≡ true
-        → (1 ≤ st .points) ⊎ ((st .points ≡ 0) × (st .declared ≡ false) × (st .flight .bs ≡ 0))
-    go true q e = inl (leb-true 1 (st .points) q)
-    go false q e =
-        let h = leb-false 1 (st .points) q in
-        let r = and-inv (not (st .declared)) (eqb (st .flight .bs) 0) e in
-        inr (omega arith, not-true (st .declared) (r .0), eqb-true _ _ (r .1))
+head-fits st z e = let r = and-inv (not (st .declared)) (eqb (countOf family.B (st .flight .counts)) 0) (rw z at e) in (not-inv (st .declared) (r .0), eqb-true _ _ (r .1))
 
 fits-point : (st : State) → 1 ≤ st .points → fitsDeclaration true st ≡ true
 unfolding fitsDeclaration
 fits-point st h = rw (le-leb 1 (st .points) h)
 
-fits-head : (st : State) → st .points ≡ 0 → st .declared ≡ false → st .flight .bs ≡ 0 → fitsDeclaration true st ≡ true
+fits-head : (st : State) → st .points ≡ 0 → st .declared ≡ false → countOf family.B (st .flight .counts) ≡ 0 → fitsDeclaration true st ≡ true
 unfolding fitsDeclaration
 fits-head st p d b = rw (p, d, b)
 
+pub order-inv : (r : Role) (st : State) (stage : ℕ) → orderOf r st ≡ some stage → (fitsDeclaration (isDeclaring r) st ≡ true) × (stageAfter r (st .stage) ≡ some stage)
+unfolding orderOf
+order-inv r st stage e = need-inv (fitsDeclaration (isDeclaring r) st) none (some stage) _ none-some e
+
 -- ---- the time order
 
-pub time-follows : (before now : ℕ) → not (isBack (passing before now)) ≡ true → Follows before now
+pub time-follows : (before now : ℕ) → Onward before now → Follows before now
 unfolding passing
 time-follows before now e = go (leb before now) (ltb 43200 (before - now)) refl refl e
   where
-    go : (x y : Bool) → leb before now ≡ x → ltb 43200 (before - now) ≡ y → not (isBack (cond x onward (cond y nextDay back))) ≡ true → Follows before now
+    go : (x y : Bool) → leb before now ≡ x → ltb 43200 (before - now) ≡ y → isBack (cond x onward (cond y nextDay back)) ≡ false → Follows before now
     go true y p q e = inl (leb-true _ _ p)
     go false true p q e = inr (ltb-true _ _ q)
-    go false false p q e = absurd (false-true e)
+    go false false p q e = absurd (false-true (sym e))
 
-pub follows-time : (before now : ℕ) → Follows before now → not (isBack (passing before now)) ≡ true
+pub follows-time : (before now : ℕ) → Follows before now → Onward before now
 unfolding passing
 follows-time before now (inl h) = rw (le-leb before now h)
 follows-time before now (inr h) = rw (lt-leb before now (omega arith), lt-ltb 43200 (before - now) h)
 
-timed-there : (t : ℕ) (st m : State) → timed t st ≡ says m → Follows (st .clock) t × (clocked t st ≡ m)
-unfolding timed
-timed-there t st m e =
-    let n = need-inv (not (isBack (passing (st .clock) t))) _ (says m) _ refuses-says e in
-    (time-follows (st .clock) t (n .0), cc)
-
-timed-said : (t : ℕ) (st : State) → Follows (st .clock) t → timed t st ≡ says (clocked t st)
-unfolding timed
-timed-said t st h = rw (follows-time (st .clock) t h)
-
 -- ---- a line that is judged good leads on
 
-says-inv : {A : Type 0} (s : Said A) (f : A → State) (m : State) → andThen s (λ v. says (f v)) ≡ says m → (v : A) × (s ≡ says v) × (f v ≡ m)
-says-inv s f m e = let r = then-inv s m (λ v. says (f v)) e in (r .0, r .1, cc)
+pub some-points : (n : ℕ) → (n ≡ 0 → ⊥) → 1 ≤ n
+some-points n h = omega arith
 
-module _ (l : List ℕ) (st m : State) where
-  judge-inv : judge l st ≡ says m → (stage : ℕ)
-      × (fitsDeclaration (isC (kindOf (getD l 0 0))) st ≡ true)
-      × (stageAfter (kindOf (getD l 0 0)) (st .stage) ≡ some stage)
-      × (ruled (kindOf (getD l 0 0)) l (moved stage st) ≡ says m)
-  unfolding judge on orderOf
-  judge-inv e =
-      let k = kindOf (getD l 0 0) in
-      let a = need-inv (leb 1 (length l)) _ (says m) _ refuses-says e in
-      let b = need-inv (isKind k) _ (says m) _ refuses-says (a .1) in
-      let c = given-inv (orderOf k st) _ (says m) _ refuses-says (b .1) in
-      let d = need-inv (fitsDeclaration (isC k) st) none (some (c .0)) _ none-some (c .1) in
-      (c .0, d .0, d .1, c .2)
+module _ (l : List ℕ) (st : State) where
+  abbrev Led : State → Type 0
+  Led m = (p : Part) × Leads st l p m
 
-  abbrev Led : Type 0
-  Led = (p : Part) × Leads st l p m
+  -- an L line, before the first G and after it
+  l-led : (stage : ℕ) (b : Bool) → st .points ≡ 0 → IsLLine l → cond b (leading afterH inBody inBody (st .stage)) (leading afterG afterLastG afterLastG (st .stage)) ≡ some stage
+      → Led (moved stage st)
+  l-led stage true p w o = let s = leading-inv afterH inBody inBody (st .stage) stage o in rw (← s .2) (body, body-line (s .0) (s .1) (quiet p (remark w)))
+  l-led stage false p w o = let s = leading-inv afterG afterLastG afterLastG (st .stage) stage o in rw (← s .2) (remarks, l-line (s .0) (s .1) p w)
 
-  -- the state after, from the part that the order names
-  to : {p : Part} (stage next : ℕ) (f : ℕ → State) → next ≡ stage → f stage ≡ m → Leads st l p (f next) → Leads st l p m
-  to stage next f e i w = rw (← i, ← e) w
+  -- and C, D, E, F, B, K and other lines, which are of the body
+  to-body : (F : ℕ → State) (stage : ℕ) → leading afterH inBody inBody (st .stage) ≡ some stage → InBody st l (F inBody) → Led (F stage)
+  to-body F stage o w = let s = leading-inv afterH inBody inBody (st .stage) stage o in rw (← s .2) (body, body-line (s .0) (s .1) w)
 
-  -- C, D, E, F, B, K, L and other lines lead to the body, from the same parts
-  to-body : (stage : ℕ) (P : State → Type 0) → leading 2 5 5 (st .stage) ≡ some stage → P (moved stage st) → (P (moved 5 st) → InBody st l m) → Led
-  to-body stage P o e f =
-      let s = lead-inv 2 5 5 (st .stage) stage o in
-      (body, flying (s .0) (s .1) (f (rw (← s .2) at e)))
+  by-role : (stage : ℕ) {r : Role} {m : State} → Sound st → Letter r (getD l 0 0) → fitsDeclaration (isDeclaring r) st ≡ true → stageAfter r (st .stage) ≡ some stage
+      → Leaves l (moved stage st) r m → Led m
+  unfolding stageAfter
+  by-role stage g k f o (passes.opens e) =
+      let s = leading-inv atStart atStart afterA (st .stage) stage o in
+      rw (← s .2) (recorder, a-line (omega arith) (plain-fits st f) (a-there l tt k e))
+  by-role stage g k f o (passes.date d n e) =
+      let s = leading-inv afterA afterH afterH (st .stage) stage o in
+      rw (← s .2) (header, date-line d (s .0) (s .1) (plain-fits st f) n (date-there l d k e))
+  by-role stage g k f o (passes.header n e) =
+      let s = leading-inv afterA afterH afterH (st .stage) stage o in
+      rw (← s .2) (header, h-line (s .0) (s .1) (plain-fits st f) n (h-there l tt k e))
+  by-role stage g k f o (passes.layout x i e) =
+      let s = leading-inv afterH (afterLayout x - 1) (afterLayout x) (st .stage) stage o in
+      rw (← s .2) (telling x, layout-line x i (s .0) (s .1) (plain-fits st f) (layout-there x i l e (tells-letter x k)))
+  by-role stage g k f o (passes.columned x t e w) =
+      let c = columned-there x (layoutOf x (st .flight .layouts)) t l (g x) (line-letter x k) e in
+      to-body (λ c. clocked t (counted x (moved c st))) stage o (timed t (columned x c) (plain-fits st f) (time-follows (st .clock) t w))
+  by-role stage g k f o (passes.head h n e) = let d = head-fits st n f in to-body (λ c. begun h (moved c st)) stage o (head h n (d .0) (d .1) (head-there h l k e))
+  by-role stage g k f o (passes.point p n e) = to-body (λ c. pointed (moved c st)) stage o (point (some-points (st .points) n) (point-there p l k e))
+  by-role stage g k f o (passes.event t e w) =
+      to-body (λ c. clocked t (moved c st)) stage o (timed t (event (e-there l t k e)) (plain-fits st f) (time-follows (st .clock) t w))
+  by-role stage g k f o (passes.satellites t e w) =
+      to-body (λ c. clocked t (moved c st)) stage o (timed t (satellites (f-there l t k e)) (plain-fits st f) (time-follows (st .clock) t w))
+  by-role stage g k f o (passes.differential e) = to-body (λ c. moved c st) stage o (quiet (plain-fits st f) (differential (d-there l tt k e)))
+  by-role stage g k f o (passes.seals e) =
+      let s = leading-inv afterH afterG afterG (st .stage) stage o in
+      rw (← s .2) (seal, g-line (s .0) (s .1) (plain-fits st f) (g-there l tt k e))
+  by-role stage g k f o (passes.remark e) = l-led stage (leb (st .stage) inBody) (plain-fits st f) (l-there l tt k e) o
+  by-role stage g k f o (passes.other e) = to-body (λ c. moved c st) stage o (quiet (plain-fits st f) (other (other-there l tt (k .0) (k .1) e)))
 
-  h-led : (stage : ℕ) (b : Bool) → eqb (st .flight .lines + 1) 2 ≡ b → getD l 0 0 ≡ code "H" → st .points ≡ 0 → leading 1 2 2 (st .stage) ≡ some stage
-      → cond b (andThen (dateLine l) λ d. says (dated d (moved stage st))) (andThen (hLine l) λ u. says (moved stage st)) ≡ says m → Led
-  h-led stage true q k p o e =
-      let s = lead-inv 1 2 2 (st .stage) stage o in
-      let r = says-inv (dateLine l) (λ d. dated d (moved stage st)) m e in
-      (header, to stage 2 (λ x. dated (r .0) (moved x st)) (s .2) (r .2) (second (r .0) (s .0) (s .1) p (eqb-true _ _ q) (date-there l (r .0) k (r .1))))
-  h-led stage false q k p o e =
-      let s = lead-inv 1 2 2 (st .stage) stage o in
-      let r = says-inv (hLine l) (λ u. moved stage st) m e in
-      (header, to stage 2 (λ x. moved x st) (s .2) (r .2) (further (s .0) (s .1) p (eqb-false _ _ q) (h-there l (r .0) k (r .1))))
-
-  c-led : getD l 0 0 ≡ code "C" → (1 ≤ st .points) ⊎ ((st .points ≡ 0) × (st .declared ≡ false) × (st .flight .bs ≡ 0))
-      → ruled kind.C l (moved 5 st) ≡ says m → InBody st l m
-  unfolding ruled
-  c-led k (inl h) e =
-      let n : eqb (st .points) 0 ≡ false = ne-eqb (st .points) 0 (λ z. omega arith) in
-      let r = says-inv (pointLine l) (λ p. pointed (moved 5 st)) m (rw n at e) in
-      rw (← r .2) (point h (point-there (r .0) l k (r .1)))
-  c-led k (inr h) e =
-      let r = says-inv (headLine l) (λ x. begun x (moved 5 st)) m (rw (h .0) at e) in
-      rw (← r .2) (head (r .0) (h .0) (h .1) (h .2) (head-there (r .0) l k (r .1)))
-
-  l-led : (stage : ℕ) (b : Bool) → getD l 0 0 ≡ code "L" → st .points ≡ 0
-      → cond b (leading 2 5 5 (st .stage)) (leading 6 7 7 (st .stage)) ≡ some stage → andThen (lLine l) (λ u. says (moved stage st)) ≡ says m → Led
-  l-led stage true k p o e = to-body stage (λ x. andThen (lLine l) (λ u. says x) ≡ says m) o e λ e.
-      let r = says-inv (lLine l) (λ u. moved 5 st) m e in
-      rw (← r .2) (quiet p (remark (l-there l (r .0) k (r .1))))
-  l-led stage false k p o e =
-      let s = lead-inv 6 7 7 (st .stage) stage o in
-      let r = says-inv (lLine l) (λ u. moved stage st) m e in
-      (remarks, to stage 7 (λ x. moved x st) (s .2) (r .2) (remarking (s .0) (s .1) p (l-there l (r .0) k (r .1))))
-
-  by-kind : (k : Kind) (stage : ℕ) → Sound st → Letter k (getD l 0 0) → fitsDeclaration (isC k) st ≡ true → stageAfter k (st .stage) ≡ some stage
-      → ruled k l (moved stage st) ≡ says m → Led
-  unfolding stageAfter ruled
-  by-kind kind.A stage g k f o e =
-      let s = lead-inv 0 0 1 (st .stage) stage o in
-      let r = says-inv (aLine l) (λ u. moved stage st) m e in
-      (recorder, to stage 1 (λ x. moved x st) (s .2) (r .2) (first (omega arith) (plain-fits st f) (a-there l (r .0) k (r .1))))
-  by-kind kind.B stage g k f o e = to-body stage (λ x. ruled kind.B l x ≡ says m) o e λ e.
-      let r = then-inv (bLine (st .flight .fixes) l) m _ e in
-      let t = timed-there (r .0 .time) (counted 1 0 (moved 5 st)) m (r .2) in
-      rw (← t .1) (fix (r .0) (plain-fits st f) (t .0) (g .0, b-there (st .flight .fixes) (r .0) l (g .0) k (r .1)))
-  by-kind kind.C stage g k f o e = to-body stage (λ x. ruled kind.C l x ≡ says m) o e λ e. c-led k (c-fits st f) e
-  by-kind kind.D stage g k f o e = to-body stage (λ x. ruled kind.D l x ≡ says m) o e λ e.
-      let r = says-inv (dLine l) (λ u. moved 5 st) m e in
-      rw (← r .2) (quiet (plain-fits st f) (differential (d-there l (r .0) k (r .1))))
-  by-kind kind.E stage g k f o e = to-body stage (λ x. ruled kind.E l x ≡ says m) o e λ e.
-      let r = then-inv (eLine l) m _ e in
-      let t = timed-there (r .0) (moved 5 st) m (r .2) in
-      rw (← t .1) (event (r .0) (plain-fits st f) (t .0) (inl (e-there l (r .0) k (r .1))))
-  by-kind kind.F stage g k f o e = to-body stage (λ x. ruled kind.F l x ≡ says m) o e λ e.
-      let r = then-inv (fLine l) m _ e in
-      let t = timed-there (r .0) (moved 5 st) m (r .2) in
-      rw (← t .1) (event (r .0) (plain-fits st f) (t .0) (inr (f-there l (r .0) k (r .1))))
-  by-kind kind.G stage g k f o e =
-      let s = lead-inv 2 6 6 (st .stage) stage o in
-      let r = says-inv (gLine l) (λ u. moved stage st) m e in
-      (seal, to stage 6 (λ x. moved x st) (s .2) (r .2) (sealing (s .0) (s .1) (plain-fits st f) (g-there l (r .0) k (r .1))))
-  by-kind kind.H stage g k f o e = h-led stage (eqb (st .flight .lines + 1) 2) refl k (plain-fits st f) o e
-  by-kind kind.I stage g k f o e =
-      let s = lead-inv 2 2 3 (st .stage) stage o in
-      let r = says-inv (layoutLine 36 l) (λ i. withFixes i (moved stage st)) m e in
-      (fixLayout, to stage 3 (λ x. withFixes (r .0) (moved x st)) (s .2) (r .2) (fixing (r .0) (omega arith) (plain-fits st f) (layout-there family.B (r .0) l k (r .1))))
-  by-kind kind.J stage g k f o e =
-      let s = lead-inv 2 3 4 (st .stage) stage o in
-      let r = says-inv (layoutLine 8 l) (λ j. withExtras j (moved stage st)) m e in
-      (extraLayout, to stage 4 (λ x. withExtras (r .0) (moved x st)) (s .2) (r .2) (noting (r .0) (s .0) (s .1) (plain-fits st f) (layout-there family.K (r .0) l k (r .1))))
-  by-kind kind.K stage g k f o e = to-body stage (λ x. ruled kind.K l x ≡ says m) o e λ e.
-      let r = then-inv (kLine (st .flight .extras) l) m _ e in
-      let t = timed-there (r .0) (counted 0 1 (moved 5 st)) m (r .2) in
-      rw (← t .1) (extra (r .0) (plain-fits st f) (t .0) (g .1, k-there (st .flight .extras) (r .0) l (g .1) k (r .1)))
-  by-kind kind.L stage g k f o e = l-led stage (leb (st .stage) 5) k (plain-fits st f) o e
-  by-kind kind.Other stage g k f o e = to-body stage (λ x. ruled kind.Other l x ≡ says m) o e λ e.
-      let r = says-inv (otherLine l) (λ u. moved 5 st) m e in
-      rw (← r .2) (quiet (plain-fits st f) (other (other-there l (r .0) (k .0) (k .1) (r .1))))
-  by-kind kind.NoKind stage g k f o e = absurd (none-some o)
-
-  pub judge-leads : Sound st → judge l st ≡ says m → (p : Part) × Leads st l p m
-  judge-leads g e = let j = judge-inv e in by-kind (kindOf (getD l 0 0)) (j .0) g (letter (getD l 0 0)) (j .1) (j .2) (j .3)
+  pub judge-leads : (m : State) → Sound st → judge l st ≡ says m → (p : Part) × Leads st l p m
+  judge-leads m g e =
+      let j = judged l st m e in
+      let o = order-inv (roleIn l) st (j .stage) (j .order) in
+      by-role (j .stage) g (letter (getD l 0 0)) (o .0) (o .1) (j .left)
 
 -- ---- a line that leads on is judged good
 
-not-empty : (l : List ℕ) → 0 < getD l 0 0 → 1 ≤ length l
-not-empty [] h = h
-not-empty (b ∷ l) h = omega arith
+module _ (l : List ℕ) (st : State) where
+  role-judged : (r : Role) (stage : ℕ) {m : State} → roleIn l ≡ r → isRole r ≡ true → fitsDeclaration (isDeclaring r) st ≡ true → stageAfter r (st .stage) ≡ some stage
+      → Leaves l (moved stage st) r m → judge l st ≡ says m
+  unfolding orderOf
+  role-judged r stage {m} k i f o w = judged-so l st m (record { long = not-empty l (rw k i); known = rw k i; stage = stage; order = rw (k, f) o; left = rw k w })
 
-judge-said : (l : List ℕ) (st m : State) (k : Kind) (stage : ℕ) → 0 < getD l 0 0 → kindOf (getD l 0 0) ≡ k → isKind k ≡ true → fitsDeclaration (isC k) st ≡ true
-    → stageAfter k (st .stage) ≡ some stage → ruled k l (moved stage st) ≡ says m → judge l st ≡ says m
-unfolding judge on orderOf
-judge-said l st m k stage n e i f o r = rw (le-leb 1 (length l) (not-empty l n), e, i, f, o) r
+  body-judge : {m : State} → Sound st → afterH ≤ st .stage → st .stage ≤ inBody → InBody st l m → judge l st ≡ says m
+  unfolding stageAfter kindOf
+  body-judge g p q (head h z d b w) =
+      let s = head-said h l w in
+      role-judged role.Declares inBody (rw (s .0)) refl (fits-head st z d b) (leading-so afterH inBody inBody (st .stage) p q) (passes.head h z (s .1))
+  body-judge g p q (point h w) =
+      let s = point-said l w in
+      role-judged role.Declares inBody (rw (s .0)) refl (fits-point st h) (leading-so afterH inBody inBody (st .stage) p q) (passes.point (w .point) (λ z. omega arith) (s .1))
+  body-judge g p q (timed t (columned f w) z o) =
+      let k = columned-letter f (layoutOf f (st .flight .layouts)) t l w in
+      role-judged (role.Columned f) inBody (rw k (line-role f)) refl (fits-plain st z) (leading-so afterH inBody inBody (st .stage) p q)
+      (passes.columned f t (columned-said f (layoutOf f (st .flight .layouts)) t l (g f) w) (follows-time (st .clock) t o))
+  body-judge g p q (timed t (event w) z o) =
+      let s = e-said l t w in
+      role-judged role.Event inBody (rw (s .0)) refl (fits-plain st z) (leading-so afterH inBody inBody (st .stage) p q) (passes.event t (s .1) (follows-time (st .clock) t o))
+  body-judge g p q (timed t (satellites w) z o) =
+      let s = f-said l t w in
+      role-judged role.Satellites inBody (rw (s .0)) refl (fits-plain st z) (leading-so afterH inBody inBody (st .stage) p q) (passes.satellites t (s .1) (follows-time (st .clock) t o))
+  body-judge g p q (quiet z (differential w)) =
+      role-judged role.Differential inBody (rw (w .letter)) refl (fits-plain st z) (leading-so afterH inBody inBody (st .stage) p q) (passes.differential (d-said l w))
+  body-judge g p q (quiet z (remark w)) =
+      role-judged role.Remark inBody (rw (w .letter)) refl (fits-plain st z) (rw (le-leb (st .stage) inBody q, le-leb afterH (st .stage) p)) (passes.remark (l-said l w))
+  body-judge g p q (quiet z (other w)) =
+      role-judged role.Other inBody (other-role _ (w .from) (w .to)) refl (fits-plain st z) (leading-so afterH inBody inBody (st .stage) p q) (passes.other (other-said l w))
 
--- a line of a letter of its own
-letter-said : (l : List ℕ) (st m : State) (b : ℕ) (k : Kind) (stage : ℕ) → 0 < b → kindOf b ≡ k → isKind k ≡ true → getD l 0 0 ≡ b
-    → fitsDeclaration (isC k) st ≡ true → stageAfter k (st .stage) ≡ some stage → ruled k l (moved stage st) ≡ says m → judge l st ≡ says m
-letter-said l st m b k stage n e i a f o r = judge-said l st m k stage (rw a n) (rw a e) i f o r
+  pub leads-judge : {p : Part} {m : State} → Sound st → Leads st l p m → judge l st ≡ says m
+  unfolding stageAfter kindOf
+  leads-judge g (a-line z p w) =
+      role-judged role.Opens afterA (rw (w .letter)) refl (fits-plain st p) (leading-so atStart atStart afterA (st .stage) (omega arith) (omega arith)) (passes.opens (a-said l w))
+  leads-judge g (date-line d a b p n w) =
+      role-judged role.Heads afterH (rw (w .text)) refl (fits-plain st p) (leading-so afterA afterH afterH (st .stage) a b) (passes.date d n (date-said l d w))
+  leads-judge g (h-line a b p n w) =
+      role-judged role.Heads afterH (rw (w .letter)) refl (fits-plain st p) (leading-so afterA afterH afterH (st .stage) a b) (passes.header n (h-said l w))
+  leads-judge g (layout-line f i a b p w) =
+      let s = layout-said f i l w in
+      role-judged (role.Tells f) (afterLayout f) (rw (s .0) (tells-role f)) refl (fits-plain st p) (leading-so afterH (afterLayout f - 1) (afterLayout f) (st .stage) a b)
+      (passes.layout f i (s .1))
+  leads-judge g (body-line a b w) = body-judge g a b w
+  leads-judge g (g-line a b p w) =
+      role-judged role.Seals afterG (rw (w .letter)) refl (fits-plain st p) (leading-so afterH afterG afterG (st .stage) a b) (passes.seals (g-said l w))
+  leads-judge g (l-line a b p w) =
+      role-judged role.Remark afterLastG (rw (w .letter)) refl (fits-plain st p)
+      (rw (lt-leb (st .stage) inBody (omega arith)) (leading-so afterG afterLastG afterLastG (st .stage) a b))
+      (passes.remark (l-said l w))
 
-l-order : (stage : ℕ) → 2 ≤ stage → stage ≤ 5 → stageAfter kind.L stage ≡ some 5
-unfolding stageAfter
-l-order stage p q = rw (le-leb stage 5 q, le-leb 2 stage p)
+  -- ---- what stays
 
-body-judge : (l : List ℕ) (st : State) {m : State} → 2 ≤ st .stage → st .stage ≤ 5 → InBody st l m → judge l st ≡ says m
-unfolding stageAfter ruled kindOf
-body-judge l st p q (head h z d b w) =
-    let s = head-said h l w in
-    letter-said l st _ 67 kind.C 5 (omega arith) refl refl (s .0) (fits-head st z d b) (lead 2 5 5 (st .stage) p q) (rw (z, s .1))
-body-judge l st p q (point h w) =
-    let s = point-said l w in
-    letter-said l st _ 67 kind.C 5 (omega arith) refl refl (s .0) (fits-point st h) (lead 2 5 5 (st .stage) p q) (rw (ne-eqb (st .points) 0 (λ z. omega arith), s .1))
-body-judge l st p q (fix f z t w) =
-    let s = b-said (st .flight .fixes) f l w in
-    letter-said l st _ 66 kind.B 5 (omega arith) refl refl (s .0) (fits-plain st z) (lead 2 5 5 (st .stage) p q) (rw (s .1) (timed-said (f .time) (counted 1 0 (moved 5 st)) t))
-body-judge l st p q (extra n z t w) =
-    let s = k-said (st .flight .extras) n l w in
-    letter-said l st _ 75 kind.K 5 (omega arith) refl refl (s .0) (fits-plain st z) (lead 2 5 5 (st .stage) p q) (rw (s .1) (timed-said n (counted 0 1 (moved 5 st)) t))
-body-judge l st p q (event n z t (inl w)) =
-    let s = e-said l n w in
-    letter-said l st _ 69 kind.E 5 (omega arith) refl refl (s .0) (fits-plain st z) (lead 2 5 5 (st .stage) p q) (rw (s .1) (timed-said n (moved 5 st) t))
-body-judge l st p q (event n z t (inr w)) =
-    let s = f-said l n w in
-    letter-said l st _ 70 kind.F 5 (omega arith) refl refl (s .0) (fits-plain st z) (lead 2 5 5 (st .stage) p q) (rw (s .1) (timed-said n (moved 5 st) t))
-body-judge l st p q (quiet z (differential w)) =
-    letter-said l st _ 68 kind.D 5 (omega arith) refl refl (w .letter) (fits-plain st z) (lead 2 5 5 (st .stage) p q) (rw (d-said l w))
-body-judge l st p q (quiet z (remark w)) =
-    letter-said l st _ 76 kind.L 5 (omega arith) refl refl (w .letter) (fits-plain st z) (l-order (st .stage) p q) (rw (l-said l w))
-body-judge l st p q (quiet z (other w)) =
-    judge-said l st _ kind.Other 5 (omega (arith, w .from)) (kind-other _ (w .from) (w .to)) refl (fits-plain st z) (lead 2 5 5 (st .stage) p q) (rw (other-said l w))
+  body-sound : {m : State} → InBody st l m → Sound st → Sound m
+  body-sound (head h z d b w) g = g
+  body-sound (point h w) g = g
+  body-sound (timed t w z o) g = g
+  body-sound (quiet z w) g = g
 
-pub leads-judge : (l : List ℕ) (st : State) {p : Part} {m : State} → Leads st l p m → judge l st ≡ says m
-unfolding stageAfter ruled kindOf
-leads-judge l st (first z p w) =
-    letter-said l st _ 65 kind.A 1 (omega arith) refl refl (w .letter) (fits-plain st p) (lead 0 0 1 (st .stage) (omega arith) (omega arith)) (rw (a-said l w))
-leads-judge l st (second d a b p n w) =
-    letter-said l st _ 72 kind.H 2 (omega arith) refl refl (ap (λ x. getD x 0 0) (w .text)) (fits-plain st p) (lead 1 2 2 (st .stage) a b) (rw (eq-eqb _ _ n, date-said l d w))
-leads-judge l st (further a b p n w) =
-    letter-said l st _ 72 kind.H 2 (omega arith) refl refl (w .letter) (fits-plain st p) (lead 1 2 2 (st .stage) a b) (rw (ne-eqb _ _ n, h-said l w))
-leads-judge l st (fixing i a p w) =
-    let s = layout-said family.B i l w in
-    letter-said l st _ 73 kind.I 3 (omega arith) refl refl (s .0) (fits-plain st p) (lead 2 2 3 (st .stage) (omega arith) (omega arith)) (rw (s .1))
-leads-judge l st (noting j a b p w) =
-    let s = layout-said family.K j l w in
-    letter-said l st _ 74 kind.J 4 (omega arith) refl refl (s .0) (fits-plain st p) (lead 2 3 4 (st .stage) a b) (rw (s .1))
-leads-judge l st (flying a b w) = body-judge l st a b w
-leads-judge l st (sealing a b p w) =
-    letter-said l st _ 71 kind.G 6 (omega arith) refl refl (w .letter) (fits-plain st p) (lead 2 6 6 (st .stage) a b) (rw (g-said l w))
-leads-judge l st (remarking a b p w) =
-    letter-said l st _ 76 kind.L 7 (omega arith) refl refl (w .letter) (fits-plain st p) (rw (lt-leb (st .stage) 5 (omega arith)) (lead 6 7 7 (st .stage) a b)) (rw (l-said l w))
-
--- ---- what stays
-
-body-sound : (l : List ℕ) (st : State) {m : State} → InBody st l m → Sound st → Sound m
-body-sound l st (head h z d b w) g = g
-body-sound l st (point h w) g = g
-body-sound l st (fix f z t w) g = g
-body-sound l st (extra n z t w) g = g
-body-sound l st (event n z t w) g = g
-body-sound l st (quiet z w) g = g
-
-pub stays-sound : (l : List ℕ) (st : State) {p : Part} {m : State} → Leads st l p m → Sound st → Sound m
-stays-sound l st (first z p w) g = g
-stays-sound l st (second d a b p n w) g = g
-stays-sound l st (further a b p n w) g = g
-stays-sound l st (fixing i a p w) g = (layout-allowed family.B i l w, g .1)
-stays-sound l st (noting j a b p w) g = (g .0, layout-allowed family.K j l w)
-stays-sound l st (flying a b w) g = body-sound l st w g
-stays-sound l st (sealing a b p w) g = g
-stays-sound l st (remarking a b p w) g = g
+  pub stays-sound : {p : Part} {m : State} → Leads st l p m → Sound st → Sound m
+  stays-sound (a-line z p w) g = g
+  stays-sound (date-line d a b p n w) g = g
+  stays-sound (h-line a b p n w) g = g
+  stays-sound (layout-line f i a b p w) g = put-by IsTold f i (st .flight .layouts) (layout-allowed f i l w) (λ x n. g x)
+  stays-sound (body-line a b w) g = body-sound w g
+  stays-sound (g-line a b p w) g = g
+  stays-sound (l-line a b p w) g = g

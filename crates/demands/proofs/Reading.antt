@@ -2,40 +2,45 @@
 -- is, column by column; and its declaration, a head with its points. Assumes nothing.
 use Prim.Native.Nat.{ℕ, zero, suc, _+_, _-_, _<_}
 use Prim.Native.Char.{code}
-use mathlib.Core.Bool.{false}
-use mathlib.Core.List.{List, [], _∷_, _++_, append-assoc, append-nil}
+use mathlib.Core.Bool.{true, false}
+use mathlib.Core.List.{List, [], _∷_, _++_, append-assoc}
+use mathlib.Core.Option.{some}
 use mathlib.Core.Path.{_≡_, refl, sym, _∙_, ap, subst}
 use native.Mathlib.Nat.{zero-add}
 use native.Mathlib.Omega.{arith}
-use borrow.Author.Tests.{eq-eqb, ne-eqb}
+use borrow.Author.Tests.{ne-eqb, eqb-false}
 use lib.Dec.{eqb}
-use lib.ListN.{length, getD, take}
+use lib.ListN.{length, getD, take, drop}
+use Rattle.rules.specs.Choice.{bytes, Each}
+use Rattle.rules.specs.Families.{firstStart, lineLetter, layoutLetter, familyOf, layoutOf}
 use Rattle.rules.specs.Refusals.{says}
-use Rattle.rules.specs.Layouts.{lineLength}
-use Rattle.rules.specs.Lines.{shapedBy}
+use Rattle.rules.specs.Layouts.{entriesOf}
 use Rattle.rules.specs.Split.{end, linesOf, offsets}
-use Rattle.rules.specs.Reads.{lineSaid}
+use Rattle.rules.specs.Reads.{entriesSaid}
 use Rattle.rules.specs.Files.{verdict, goodLines}
 use Rattle.rules.specs.declared.Date.{Date}
 use Rattle.rules.specs.declared.Layout.{Layout}
 use Rattle.rules.specs.declared.Family.{Family}
 use Rattle.rules.specs.declared.Family.the-variants as family
-use Rattle.rules.specs.declared.Fix.{Fix}
+use Rattle.rules.specs.declared.Layouts.{Layouts}
+use Rattle.rules.specs.declared.Seal.{Seal}
 use Rattle.rules.specs.declared.Flight.{Flight}
+use Rattle.rules.proofs.Inverse.{false-true}
 use Rattle.laws.proofs.Splitting.{textsOf, steps, lengths-total}
 use Rattle.laws.proofs.Splitting as splitting
 use Rattle.laws.proofs.Counted.{accepted-whole, goodIn, table-length, entry-put, entry-kept, line-by-number}
-use Rattle.trips.proofs.Fixes.{fix-there}
-use Rattle.trips.proofs.Extras.{extra-there}
-use Rattle.demands.specs.Grammar.{Each, IsLayoutLine, IsBLine, IsKLine, AtMostOne, absent, given, Timed, Untimed, differential, remark, other, Items, done, timed, untimed, Body, undeclared, Parts, linesIn, Keeps, Meets, written}
+use Rattle.trips.proofs.Fixes.{fix-trip}
+use Rattle.trips.proofs.Extras.{extra-trip}
+use Rattle.demands.specs.Grammar.{Columns, IsColumned, IsGLine, IsLLine, AtMostOne, absent, given, Timed, Untimed, differential, remark, other, Items, done, timed, untimed, Body, undeclared, Parts, linesIn, Keeps, Meets}
 use Rattle.demands.specs.Grammar as grammar
-use Rattle.demands.specs.Readings.{ReadsFix, ReadsExtra, ReadsLine, NoC, ReadsDeclaration, nowhere, declared, total, Steps, Readable}
-use Rattle.demands.proofs.Laws.{each-map, each-join, shape-there}
-use Rattle.demands.proofs.Carried.{e-said, f-said}
-use Rattle.demands.proofs.Valued.{IsTold, fix-reads, extra-reads, head-reads, point-reads, b-letter, k-letter, head-said, point-said}
-use Rattle.demands.proofs.LayoutLines.{layout-said, told}
-use Rattle.demands.proofs.Passing.{before, lines-written}
-use Rattle.demands.proofs.Accepted.{accepted-as}
+use Rattle.demands.specs.Coming.{isAmong}
+use Rattle.demands.specs.Readings.{ReadsColumns, ReadsColumned, ReadsLine, NoC, ReadsDeclaration, nowhere, declared, total, Steps, Readable}
+use Rattle.demands.proofs.Laws.{each-map, each-join}
+use Rattle.demands.proofs.EachLine.{e-said, f-said, start-low, fix-reads, extra-reads, columned-letter, columned-said, head-reads, point-reads, head-said, point-said}
+use Rattle.demands.proofs.LayoutLines.{IsTold, layout-said, told}
+use Rattle.demands.proofs.Leading.{every, same-letter, all-pass, none-pass}
+use Rattle.demands.proofs.Sections.{before}
+use Rattle.demands.proofs.Accepted.{lines-cut, accepted-as}
 use Rattle.demands.proofs.Columns.{columns-read}
 
 -- ---- the lines of the file are those of the grammar
@@ -44,13 +49,7 @@ texts-before : (ls : List (List ℕ)) → textsOf (before ls end) ≡ ls
 texts-before [] = refl
 texts-before (l ∷ ls) = ap (λ x. l ∷ x) (texts-before ls)
 
-lines-cut : (file : List ℕ) (m : Meets file) → linesOf file ≡ before (linesIn (m .parts)) end
-unfolding linesOf
-lines-cut file m =
-    let ls = linesIn (m .parts) in
-    ap linesOf (m .bytes ∙ sym (append-nil (written ls))) ∙ lines-written ls [] (m .texts)
-
-pub lines-are : (file : List ℕ) (m : Meets file) → textsOf (linesOf file) ≡ linesIn (m .parts)
+pub lines-are : {seal : Seal} (file : List ℕ) (m : Meets seal file) → textsOf (linesOf file) ≡ linesIn (m .parts)
 lines-are file m = ap textsOf (lines-cut file m) ∙ texts-before (linesIn (m .parts))
 
 -- ---- their offsets, and the steps over them
@@ -71,100 +70,95 @@ unfolding total
 total-is [] = refl
 total-is (l ∷ ls) = ap (λ n. length l + 2 + n) (total-is ls)
 
--- ---- B and K lines
+-- ---- lines with columns
 
-module _ (layout : Layout) (l : List ℕ) where
-  pub reads-fix : IsTold 36 layout → (f : Fix) → IsBLine layout f l → ReadsFix layout l
-  unfolding shapedBy lineSaid
-  reads-fix i f w =
-      let e = fix-reads layout i f l w in
-      let t = fix-there layout l f e in
-      let s = shape-there (lineLength 36 layout) (lineLength 36 layout) false l tt (t .shape) in
-      record {
-        fix = f;
-        is = w;
-        reads = e;
-        columns = columns-read family.B layout l (omega arith) (i .0) (i .1) (omega (arith, s .long, s .short)) (rw (eq-eqb _ _ (t .kind), e));
-      }
+-- the columns of a line of a family that passes its checks
+line-columns : (f : Family) (layout : Layout) (t : ℕ) (l tail : List ℕ) → IsTold f layout → IsColumned f layout t l → drop (firstStart f - 1) l ≡ tail → Columns (entriesOf layout) tail
+    → ReadsColumns f layout l
+unfolding entriesSaid familyOf
+line-columns f layout t l tail i w d c =
+    let k = columned-letter f layout t l w in
+    columns-read f layout l tail (start-low f) (i .0) (i .1) d c (rw (k, every (λ f. familyOf (lineLetter f) ≡ some f) refl refl f, i .0, columned-said f layout t l i w))
 
-  pub reads-extra : IsTold 8 layout → (t : ℕ) → IsKLine layout t l → ReadsExtra layout l
-  unfolding shapedBy lineSaid
-  reads-extra i n w =
-      let e = extra-reads layout i n l w in
-      let t = extra-there layout l n e in
-      let s = shape-there (lineLength 8 layout) (lineLength 8 layout) false l tt (t .shape) in
-      let k : eqb (getD l 0 0) (code "B") ≡ false = ne-eqb (getD l 0 0) (code "B") (λ z. omega (arith, t .kind)) in
-      record {
-        time = n;
-        is = w;
-        reads = e;
-        columns = columns-read family.K layout l (omega arith) (i .0) (i .1) (omega (arith, s .long, s .short)) (rw (k, e));
-      }
+reads-columned : (f : Family) (layout : Layout) (t : ℕ) (l : List ℕ) → IsTold f layout → IsColumned f layout t l → ReadsColumned f layout l
+reads-columned family.B layout t l i (f, e, w) = record {
+  fix = f;
+  is = w;
+  reads = fix-reads layout i f l w;
+  columns = line-columns family.B layout t l (w .tail) i (f, e, w) (ap (drop 35) (w .text) ∙ fix-trip layout .behind f (w .tail)) (w .columns);
+}
+reads-columned family.K layout t l i w = record {
+  time = t;
+  is = w;
+  reads = extra-reads layout i t l w;
+  columns = line-columns family.K layout t l (w .tail) i w (ap (drop 7) (w .text) ∙ extra-trip layout .behind t (w .tail)) (w .columns);
+}
 
 -- ---- lines that are none of these
 
--- no B, no K and no C line
-abbrev Aside : List ℕ → Type 0
-Aside l = (getD l 0 0 ≡ code "B" → ⊥) × (getD l 0 0 ≡ code "K" → ⊥) × (getD l 0 0 ≡ code "C" → ⊥)
+-- a line of no family, no C line and no G line
+abbrev pub Aside : List ℕ → Type 0
+Aside l = isAmong (bytes "BCGK") (getD l 0 0) ≡ false
 
-aside : (x : ℕ) (l : List ℕ) → getD l 0 0 ≡ x → (x ≡ 66 → ⊥) → (x ≡ 75 → ⊥) → (x ≡ 67 → ⊥) → Aside l
-aside x l e p q r = (λ z. p (sym e ∙ z), λ z. q (sym e ∙ z), λ z. r (sym e ∙ z))
+pub other-than : (xs : List ℕ) (l : List ℕ) (x : ℕ) → isAmong xs x ≡ true → isAmong xs (getD l 0 0) ≡ false → getD l 0 0 ≡ x → ⊥
+other-than xs l x y n e = false-true (sym n ∙ ap (isAmong xs) e ∙ y)
 
-untimed-aside : {l : List ℕ} → Untimed l → Aside l
-untimed-aside {l} (differential w) = aside 68 l (w .letter) (omega arith) (omega arith) (omega arith)
-untimed-aside {l} (remark w) = aside 76 l (w .letter) (omega arith) (omega arith) (omega arith)
-untimed-aside {l} (other w) = (λ z. omega (arith, w .from), λ z. omega (arith, w .from), λ z. omega (arith, w .from))
-
-layout-aside : (f : Family) (layout : Layout) (l : List ℕ) → IsLayoutLine f layout l → Aside l
-layout-aside family.B layout l w = aside 73 l (layout-said family.B layout l w .0) (omega arith) (omega arith) (omega arith)
-layout-aside family.K layout l w = aside 74 l (layout-said family.K layout l w .0) (omega arith) (omega arith) (omega arith)
+pub untimed-aside : {l : List ℕ} → Untimed l → Aside l
+unfolding isAmong bytes
+untimed-aside (differential w) = rw (w .letter)
+untimed-aside (remark w) = rw (w .letter)
+untimed-aside {l} (other w) = let no : (x : ℕ) → x < 77 → eqb (getD l 0 0) x ≡ false = λ x h. ne-eqb _ x (λ z. omega (arith, w .from)) in simp (no 66 (omega arith), no 67 (omega arith), no 71 (omega arith), no 75 (omega arith))
 
 one-aside : (f : Family) {layout : Layout} {ls : List (List ℕ)} → AtMostOne f layout ls → Each Aside ls
+unfolding isAmong bytes
 one-aside f absent = tt
-one-aside f (given {layout = i} {l = l} w) = (layout-aside f i l w, tt)
+one-aside f (given {layout = i} {l = l} w) = (rw (layout-said f i l w .0) (none-pass (λ f. isAmong (bytes "BCGK") (layoutLetter f)) refl f), tt)
 
 -- ---- the lines of a body
 
-aside-reads : (fixes extras : Layout) (l : List ℕ) → Aside l → ReadsLine fixes extras l
-aside-reads fixes extras l h = record { b = λ z. absurd (h .0 z); k = λ z. absurd (h .1 z) }
+no-family : (l : List ℕ) → isAmong (bytes "BK") (getD l 0 0) ≡ false → (layouts : Layouts) → ReadsLine layouts l
+unfolding isAmong bytes
+no-family l n layouts f z = absurd (other-than (bytes "BK") l (lineLetter f) (all-pass (λ f. isAmong (bytes "BK") (lineLetter f)) refl f) n z)
 
-module _ (fixes extras : Layout) (fix-told : IsTold 36 fixes) (extra-told : IsTold 8 extras) where
+aside-reads : (layouts : Layouts) (l : List ℕ) → Aside l → ReadsLine layouts l
+unfolding isAmong bytes
+aside-reads layouts l n f z = absurd (other-than (bytes "BCGK") l (lineLetter f) (all-pass (λ f. isAmong (bytes "BCGK") (lineLetter f)) refl f) n z)
+
+aside-no-c : (l : List ℕ) → Aside l → NoC l
+unfolding isAmong bytes
+aside-no-c l n = other-than (bytes "BCGK") l (code "C") refl n
+
+module _ (layouts : Layouts) (can-tell : (f : Family) → IsTold f (layoutOf f layouts)) where
   -- each line is read as it may be, and is no C line
   abbrev Item : List ℕ → Type 0
-  Item l = ReadsLine fixes extras l × NoC l
+  Item l = ReadsLine layouts l × NoC l
 
-  timed-item : {t : ℕ} (l : List ℕ) → Timed fixes extras t l → Item l
-  timed-item l (grammar.fix f i w) =
-      let k = b-letter fixes f l w in
-      (record { b = λ z. reads-fix fixes l fix-told f w; k = λ z. absurd (omega arith) }, λ z. omega arith)
-  timed-item {t} l (grammar.event w) = let h = aside 69 l (e-said l t w .0) (omega arith) (omega arith) (omega arith) in (aside-reads fixes extras l h, h .2)
-  timed-item {t} l (grammar.satellites w) = let h = aside 70 l (f-said l t w .0) (omega arith) (omega arith) (omega arith) in (aside-reads fixes extras l h, h .2)
-  timed-item {t} l (grammar.extra w) =
-      let k = k-letter extras t l w in
-      (record { b = λ z. absurd (omega arith); k = λ z. reads-extra extras l extra-told t w }, λ z. omega arith)
+  timed-item : {t : ℕ} (l : List ℕ) → Timed layouts t l → Item l
+  unfolding isAmong bytes
+  timed-item {t} l (grammar.columned f w) =
+      let k = columned-letter f (layoutOf f layouts) t l w in (
+        (λ g z. subst (λ x. ReadsColumned x (layoutOf x layouts) l) (same-letter f g (sym k ∙ z)) (reads-columned f (layoutOf f layouts) t l (can-tell f) w)),
+        λ z. eqb-false (lineLetter f) (code "C") (none-pass (λ f. eqb (lineLetter f) (code "C")) refl f) (sym k ∙ z),
+      )
+  timed-item {t} l (grammar.event w) = let h : Aside l = rw (e-said l t w .0) in (aside-reads layouts l h, aside-no-c l h)
+  timed-item {t} l (grammar.satellites w) = let h : Aside l = rw (f-said l t w .0) in (aside-reads layouts l h, aside-no-c l h)
 
-  items-read : {ls : List (List ℕ)} {ts : List ℕ} → Items fixes extras ls ts → Each Item ls
+  items-read : {ls : List (List ℕ)} {ts : List ℕ} → Items layouts ls ts → Each Item ls
   items-read done = tt
   items-read (timed {l = l} w r) = (timed-item l w, items-read r)
-  items-read (untimed {l = l} w r) = let h = untimed-aside w in ((aside-reads fixes extras l h, h .2), items-read r)
+  items-read (untimed {l = l} w r) = let h = untimed-aside w in ((aside-reads layouts l h, aside-no-c l h), items-read r)
 
-  -- C lines are neither
-  c-reads : (l : List ℕ) → getD l 0 0 ≡ code "C" → ReadsLine fixes extras l
-  c-reads l e = record { b = λ z. absurd (omega arith); k = λ z. absurd (omega arith) }
-
-  lines-of : (ls : List (List ℕ)) → Each Item ls → Each (ReadsLine fixes extras) ls
-  lines-of ls h = each-map ls (λ l x. x .0) h
-
-  body-reads : {ls : List (List ℕ)} {ts : List ℕ} → Body fixes extras ls ts → Each (ReadsLine fixes extras) ls
-  body-reads (undeclared {ls = ls} i) = lines-of ls (items-read i)
+  body-reads : {ls : List (List ℕ)} {ts : List ℕ} → Body layouts ls ts → Each (ReadsLine layouts) ls
+  unfolding isAmong bytes
+  body-reads (undeclared {ls = ls} i) = each-map ls (λ l x. x .0) (items-read i)
   body-reads (grammar.declared pre hd points after h i no-b w ps c j) =
-      each-join (ReadsLine fixes extras) pre (hd ∷ (points ++ after)) (lines-of pre (items-read i)) (
-        c-reads hd (head-said h hd w .0),
-        each-join (ReadsLine fixes extras) points after (each-map points (λ l v. c-reads l (point-said l v .0)) ps) (lines-of after (items-read j)),
+      each-join (ReadsLine layouts) pre (hd ∷ (points ++ after)) (each-map pre (λ l x. x .0) (items-read i)) (
+        no-family hd (rw (head-said h hd w .0)) layouts,
+        each-join (ReadsLine layouts) points after (each-map points (λ l v. no-family l (rw (point-said l v .0)) layouts) ps) (each-map after (λ l x. x .0) (items-read j)),
       )
 
   -- the declaration of a body, between lines that are no C lines
-  body-declares : {ls : List (List ℕ)} {ts : List ℕ} (a z : List (List ℕ)) → Each NoC a → Each NoC z → Body fixes extras ls ts → ReadsDeclaration (a ++ (ls ++ z))
+  body-declares : {ls : List (List ℕ)} {ts : List ℕ} (a z : List (List ℕ)) → Each NoC a → Each NoC z → Body layouts ls ts → ReadsDeclaration (a ++ (ls ++ z))
   body-declares a z p q (undeclared {ls = ls} i) = nowhere (each-join NoC a (ls ++ z) p (each-join NoC ls z (each-map ls (λ l x. x .1) (items-read i)) q))
   body-declares a z p q (grammar.declared pre hd points after h i no-b w ps c j) =
       declared (a ++ pre) hd points (after ++ z) h
@@ -178,77 +172,73 @@ module _ (fixes extras : Layout) (fix-told : IsTold 36 fixes) (extra-told : IsTo
 
 -- ---- the lines before the body, and those behind it
 
-module _ {p : Parts} {date : Date} {fixes extras : Layout} {times : List ℕ} (w : Keeps p date fixes extras times) where
-  abbrev front : List (List ℕ)
-  front = p .recorder ∷ p .day ∷ (p .headers ++ (p .fixLayout ++ p .extraLayout))
+module _ {seal : Seal} {p : Parts} {date : Date} {layouts : Layouts} {times : List ℕ} (w : Keeps seal p date layouts times) where
+  abbrev pub front : List (List ℕ)
+  front = p .recorder ∷ p .day ∷ (p .headers ++ (p .told family.B ++ p .told family.K))
 
-  abbrev back : List (List ℕ)
+  abbrev pub back : List (List ℕ)
   back = p .seal ++ p .remarks
 
-  in-three : linesIn p ≡ front ++ (p .body ++ back)
+  pub in-three : linesIn p ≡ front ++ (p .body ++ back)
   in-three = simp append-assoc
 
-  front-aside : Each Aside front
+  pub front-aside : Each Aside front
+  unfolding isAmong bytes
   front-aside = (
-    aside 65 (p .recorder) (w .recorder .letter) (omega arith) (omega arith) (omega arith),
+    rw (w .recorder .letter),
     (
-      aside 72 (p .day) (ap (λ x. getD x 0 0) (w .day .text)) (omega arith) (omega arith) (omega arith),
-      each-join Aside (p .headers) (p .fixLayout ++ p .extraLayout)
-          (each-map (p .headers) (λ l h. aside 72 l (h .letter) (omega arith) (omega arith) (omega arith)) (w .headers))
-          (each-join Aside (p .fixLayout) (p .extraLayout) (one-aside family.B (w .fixLayout)) (one-aside family.K (w .extraLayout))),
+      rw (w .day .text),
+      each-join Aside (p .headers) (p .told family.B ++ p .told family.K) (each-map (p .headers) (λ l h. rw (h .letter)) (w .headers))
+          (each-join Aside (p .told family.B) (p .told family.K) (one-aside family.B (w .told family.B)) (one-aside family.K (w .told family.K))),
     ),
   )
 
-  back-aside : Each Aside back
-  back-aside =
-      each-join Aside (p .seal) (p .remarks)
-      (each-map (p .seal) (λ l h. aside 71 l (h .letter) (omega arith) (omega arith) (omega arith)) (w .seal))
-      (each-map (p .remarks) (λ l h. aside 76 l (h .letter) (omega arith) (omega arith) (omega arith)) (w .remarks))
+  -- G and L lines
+  pub back-by : (P : List ℕ → Type 0) → ((l : List ℕ) → IsGLine l → P l) → ((l : List ℕ) → IsLLine l → P l) → Each P back
+  back-by P g r = each-join P (p .seal) (p .remarks) (each-map (p .seal) g (w .seals)) (each-map (p .remarks) r (w .remarks))
 
-  keeps-reads : Each (ReadsLine fixes extras) (linesIn p)
+  keeps-reads : Each (ReadsLine layouts) (linesIn p)
+  unfolding isAmong bytes
   keeps-reads =
-      subst (Each (ReadsLine fixes extras)) (sym in-three)
-      (each-join (ReadsLine fixes extras) front (p .body ++ back) (each-map front (aside-reads fixes extras) front-aside)
-      (each-join (ReadsLine fixes extras) (p .body) back
-      (body-reads fixes extras (told family.B (w .fixLayout)) (told family.K (w .extraLayout)) (w .body))
-      (each-map back (aside-reads fixes extras) back-aside)))
+      subst (Each (ReadsLine layouts)) (sym in-three)
+      (each-join (ReadsLine layouts) front (p .body ++ back) (each-map front (aside-reads layouts) front-aside)
+      (each-join (ReadsLine layouts) (p .body) back (body-reads layouts (λ f. told f (w .told f)) (w .body))
+      (back-by (ReadsLine layouts) (λ l h. no-family l (rw (h .letter)) layouts) (λ l h. no-family l (rw (h .letter)) layouts))))
 
   keeps-declares : ReadsDeclaration (linesIn p)
   keeps-declares =
       subst ReadsDeclaration (sym in-three)
-      (body-declares fixes extras (told family.B (w .fixLayout)) (told family.K (w .extraLayout)) front back
-      (each-map front (λ l h. h .2) front-aside)
-      (each-map back (λ l h. h .2) back-aside)
-      (w .body))
+      (body-declares layouts (λ f. told f (w .told f)) front back (each-map front aside-no-c front-aside)
+      (back-by NoC (λ l h e. omega (arith, h .letter)) (λ l h e. omega (arith, h .letter))) (w .body))
 
 -- ---- the theorem
 
 -- what can be read from an accepted file, by the layouts of the answer
-pub readable : (file table : List ℕ) (f : Flight) → verdict file (length table) ≡ says f → Readable file table f
+pub readable : (seal : Seal) (file table : List ℕ) (f : Flight) → verdict seal file (some (length table)) ≡ says f → Readable seal file table f
 unfolding goodLines
-readable file table f e =
-    let w = accepted-as file (length table) f .0 e in
+readable seal file table f e =
+    let w = accepted-as seal file (some (length table)) f .0 e in
     let m = w .0 in
     let ls : List (List ℕ) = linesIn (m .parts) in
     let c = lines-cut file m in
     let t = lines-are file m in
     let n : f .lines ≡ length ls = sym (ap (λ x. x .lines) (w .2)) in
-    let g : goodIn file table ≡ f .lines = rw e in
+    let g : goodIn seal file table ≡ f .lines = rw e in
     record {
       lines = ls;
       bytes = m .bytes;
       texts = m .texts;
-      lengths = sym (total-is ls) ∙ ap splitting.total (sym c) ∙ lengths-total file (accepted-whole file (length table) f e);
+      lengths = sym (total-is ls) ∙ ap splitting.total (sym c) ∙ lengths-total file (accepted-whole seal file (some (length table)) f e);
       counted = n;
-      bs = sym (ap (λ x. x .bs) (w .2));
-      ks = sym (ap (λ x. x .ks) (w .2));
-      entries = λ i h. entry-put file table i 0 (omega arith) ∙ ap (λ x. getD (offsets 0 x) i 0) c ∙ offset-is ls 0 i h ∙ zero-add (total (take i ls));
-      unchanged = λ i h. entry-kept file table i 0 (omega arith);
-      long = table-length file table;
+      bs = sym (ap (λ x. x .counts .b) (w .2));
+      ks = sym (ap (λ x. x .counts .k) (w .2));
+      entries = λ i h. entry-put seal file table i 0 (omega arith) ∙ ap (λ x. getD (offsets 0 x) i 0) c ∙ offset-is ls 0 i h ∙ zero-add (total (take i ls));
+      unchanged = λ i h. entry-kept seal file table i 0 (omega arith);
+      long = table-length seal file table;
       numbered = λ i h.
           let k : i + 1 - 1 ≡ i = omega arith in
-          line-by-number file table (i + 1) (omega arith) (omega arith) .bytes ∙ ap (λ x. getD x (i + 1 - 1) []) t ∙ ap (λ x. getD ls x []) k;
+          line-by-number seal file table (i + 1) (omega arith) (omega arith) .bytes ∙ ap (λ x. getD x (i + 1 - 1) []) t ∙ ap (λ x. getD ls x []) k;
       stepping = steps-over file ls 0 (subst (splitting.Steps file 0) c (steps file));
-      reads = subst (λ (x : Flight). Each (ReadsLine (x .fixes) (x .extras)) ls) (w .2) (keeps-reads (m .keeps));
+      reads = subst (λ (x : Flight). Each (ReadsLine (x .layouts)) ls) (w .2) (keeps-reads (m .keeps));
       declaration = keeps-declares (m .keeps);
     }

@@ -1,114 +1,49 @@
--- What the check carries from line to line is what the lines before tell: how far the file has come, what is still to come of a declaration, the columns of B and K
--- lines, and the last time. Assumes nothing.
-use Prim.Native.Nat.{ℕ, zero, suc, _+_, _-_, _*_, _≤_}
+-- What the check carries from line to line is what the lines before tell: how far the file has come, what is still to come of a declaration, the columns of each
+-- family's lines, and the last time. Assumes nothing.
+use Prim.Native.Nat.{ℕ, _+_, _-_, _≤_}
 use Prim.Native.Char.{code}
-use mathlib.Core.Bool.{Bool, true, false, not, _&&_, _||_, cond}
-use mathlib.Core.List.{List, [], _∷_, _++_}
-use mathlib.Core.Logic.{_⊎_, inl, inr}
-use mathlib.Core.Option.{Option, some}
+use mathlib.Core.Bool.{Bool, true, false, not, _&&_, _||_, cond, and-true, and-false, and-assoc, or-true}
+use mathlib.Core.List.{List, [], _∷_, _++_, append-assoc, append-nil}
+use mathlib.Core.Option.{Option, none, some}
 use mathlib.Core.Path.{_≡_, refl, sym, _∙_, ap}
 use native.Mathlib.Omega.{arith}
-use borrow.Author.Tests.{le-leb, lt-leb, leb-true, eqb-true, eqb-false, eq-eqb, ne-eqb, ltb-true, lt-ltb, not-false}
+use borrow.Author.Tests.{le-leb, leb-true, eqb-true, eqb-false, ne-eqb, ltb-true, lt-ltb}
 use lib.Dec.{eqb, leb, ltb}
 use lib.ListN.{length, getD, length-append}
-use Rattle.rules.specs.Choice.{bytes}
+use Rattle.rules.specs.Choice.{given, bytes, Each}
+use Rattle.rules.specs.Families.{lineLetter, layoutLetter, layoutOf, countOf}
 use Rattle.rules.specs.Refusals.{says}
 use Rattle.rules.specs.Numbers.{numberAt}
 use Rattle.rules.specs.Fields.{timeAt}
-use Rattle.rules.specs.Listed.{codeAt}
-use Rattle.rules.specs.Layouts.{firstStart, emptyLayout, withEntry, entryAt, entriesFrom, layoutFields, columns}
-use Rattle.rules.specs.Lines.{shaped, layoutLine, fixFields, shapedBy, bLine, kLine}
-use Rattle.rules.specs.Reads.{layoutLetter}
-use Rattle.rules.specs.Order.{start, moved, withFixes, withExtras, counted, begun, pointed, clocked}
-use Rattle.rules.specs.declared.Entry.{Entry}
+use Rattle.rules.specs.Roles.{isDeclaring, sameFamily, atStart, afterA, afterH, afterLayout, inBody, afterG, afterLastG, leading, stageAfter}
+use Rattle.rules.specs.Order.{start, fitsDeclaration, moved, judge}
 use Rattle.rules.specs.declared.Layout.{Layout}
 use Rattle.rules.specs.declared.Family.{Family}
-use Rattle.rules.specs.declared.Family.the-variants as family
-use Rattle.rules.specs.declared.Fix.{Fix}
 use Rattle.rules.specs.declared.Head.{Head}
+use Rattle.rules.specs.declared.Role.{Role}
+use Rattle.rules.specs.declared.Role.the-variants as role
 use Rattle.rules.specs.declared.State.{State}
-use Rattle.trips.proofs.Laws.{false-true, refuses-says, given-inv, need-inv, then-inv, and-inv, bool-eq}
-use Rattle.trips.proofs.Fixes.{fields-there}
-use Rattle.trips.proofs.Heads.{head-there}
-use Rattle.demands.specs.Grammar.{IsLayoutLine, IsHeadLine, IsELine, IsFLine, Untimed, differential, remark, other, laid, beginning}
-use Rattle.demands.specs.Coming.{orZero, isOf, only, without, endsWith, pointsOf, isOpen, entryOf, entriesIn, entriesTold, lastTime}
-use Rattle.demands.proofs.Laws.{shape-there}
-use Rattle.demands.proofs.Carried.{e-inv, e-said, f-inv, f-said}
-use Rattle.demands.proofs.Valued.{b-said, k-said, head-reads, head-said, point-said}
-use Rattle.demands.proofs.Entries.{placed-there, withAll, all-laid}
-use Rattle.demands.proofs.LayoutLines.{layout-said}
-use Rattle.demands.proofs.Leading.{Part, InBody, head, point, fix, extra, event, quiet, Leads, first, second, further, fixing, noting, flying, sealing, remarking, Sound, sound-start, stays-sound}
+use Rattle.rules.proofs.Inverse.{none-some, false-true, and-inv, bool-eq}
+use Rattle.laws.proofs.Passing.{roleIn, leading-inv, Leaves, Judged, judged}
+use Rattle.laws.proofs.Passing as passes
+use Rattle.laws.proofs.Counted.{judged-more}
+use Rattle.trips.proofs.Heads as heads
+use Rattle.demands.specs.Grammar.{IsHeadLine, IsPointLine, AtMostOne, absent, laid, beginning}
+use Rattle.demands.specs.Grammar as grammar
+use Rattle.demands.specs.Coming.{orZero, isAmong, only, without, endsWith, pointsOf, isOpen, lettersBefore, those, firstEntries, lastTime}
+use Rattle.demands.specs.FieldTexts.{Letter}
+use Rattle.demands.proofs.Laws.{each-join}
+use Rattle.demands.proofs.EachLine.{e-inv, f-inv, columned-time, head-reads, head-said, head-there, point-there}
+use Rattle.demands.proofs.LayoutLines.{there, layout-laid, layout-there, layout-said}
+use Rattle.demands.proofs.Leading.{every, put-by, same-family, is-same, letter, tells-letter, isTelling, isTiming, isSealing, leadsTo, letter-tests, counts-more, Sound, sound-start, some-points, plain-fits, head-fits, order-inv, judge-leads, stays-sound, none-pass}
+use Rattle.demands.proofs.Sections.{layout-stage}
 
 -- ---- what a line tells of itself
 
--- what was read of a field is its value
-pub there : {v : ℕ} (o : Option ℕ) → o ≡ some v → orZero o ≡ v
-there o e = rw e
-
-pub b-time : (layout : Layout) (l : List ℕ) (f : Fix) → bLine layout l ≡ says f → timeAt l 1 ≡ some (f .time)
-unfolding bLine
-b-time layout l f e =
-    let s = then-inv (shapedBy 36 layout l) f _ e in
-    let x = then-inv (fixFields l) f _ (s .2) in
-    let c = then-inv (columns l layout) f _ (x .2) in
-    let i : x .0 ≡ f = cc in
-    fields-there l f (x .1 ∙ ap says i) .at-time
-
-pub k-time : (layout : Layout) (l : List ℕ) (t : ℕ) → kLine layout l ≡ says t → timeAt l 1 ≡ some t
-unfolding kLine
-k-time layout l t e =
-    let s = then-inv (shapedBy 8 layout l) t _ e in
-    let x = given-inv (timeAt l 1) _ (says t) _ refuses-says (s .2) in
-    let c = then-inv (columns l layout) t _ (x .2) in
-    let i : x .0 ≡ t = cc in
-    x .1 ∙ ap some i
-
 pub head-points : (h : Head) (l : List ℕ) → IsHeadLine h l → pointsOf l ≡ h .turns + 4
-head-points h l w = ap (λ x. x + 4) (there (numberAt l 23 2) (head-there l h (head-reads h l w) .at-turns))
-
-pub entry-is : (l : List ℕ) (at start : ℕ) (before : Layout) (e : Entry) → entryAt l at start before ≡ says e → entryOf l at ≡ e
-unfolding entryAt
-entry-is l at start before e h =
-    let a = given-inv (numberAt l at 2) _ (says e) _ refuses-says h in
-    let b = given-inv (numberAt l (at + 2) 2) _ (says e) _ refuses-says (a .2) in
-    let c = given-inv (codeAt l (at + 4)) _ (says e) _ refuses-says (b .2) in
-    rw (there (numberAt l at 2) (a .1), there (numberAt l (at + 2) 2) (b .1), there (codeAt l (at + 4)) (c .1))
-    (placed-there start before (record { first = a .0; last = b .0; code = c .0 }) e (at + 1) (c .2) .1)
-
-entries-read : (left : ℕ) (l : List ℕ) (at start : ℕ) (before layout : Layout) → entriesFrom left l at start before ≡ says layout
-    → withAll before (entriesIn left l at) ≡ layout
-unfolding entriesFrom entriesIn
-entries-read zero l at start before layout h = cc
-entries-read (suc left) l at start before layout h =
-    let a = then-inv (entryAt l at start before) layout _ h in
-    ap (λ x. withAll (withEntry before x) (entriesIn left l (at + 7))) (entry-is l at start before (a .0) (a .1))
-    ∙ entries-read left l (at + 7) _ (withEntry before (a .0)) layout (a .2)
-
-count-in : (left : ℕ) (l : List ℕ) (at : ℕ) → length (entriesIn left l at) ≡ left
-unfolding entriesIn
-count-in zero l at = refl
-count-in (suc left) l at = ap suc (count-in left l (at + 7))
-
--- the layout of an I or a J line is that of its entries
-layout-laid : (f : Family) (layout : Layout) (l : List ℕ) → IsLayoutLine f layout l → layout ≡ laid (entriesIn (orZero (numberAt l 1 2)) l 3)
-unfolding layoutLine layoutFields
-layout-laid f layout l w =
-    let s = then-inv (shaped 3 99 false l) layout _ (layout-said f layout l w .1) in
-    let h = shape-there 3 99 false l tt (s .1) in
-    let n = given-inv (numberAt l 1 2) _ (says layout) _ refuses-says (s .2) in
-    let m = need-inv (eqb (length l) (3 + 7 * n .0)) _ (says layout) _ refuses-says (n .2) in
-    let long : length l ≡ 3 + 7 * n .0 = eqb-true _ _ (m .0) in
-    let few : n .0 ≤ 13 = omega (arith, h .short) in
-    let es = entriesIn (n .0) l 3 in
-    sym (entries-read (n .0) l 3 (firstStart f) emptyLayout layout (m .1))
-    ∙ all-laid [] es (omega (arith, count-in (n .0) l 3))
-    ∙ ap (λ x. laid (entriesIn x l 3)) (sym (there (numberAt l 1 2) (n .1)))
+head-points h l w = ap (λ x. x + 4) (there (numberAt l 23 2) (heads.head-there l h (head-reads h l w) .at-turns))
 
 -- ---- one line more
-
-pub and-assoc : (a b c : Bool) → (a && (b && c)) ≡ ((a && b) && c)
-and-assoc true b c = refl
-and-assoc false b c = refl
 
 module _ (l : List ℕ) where
   length-next : (ls : List (List ℕ)) → length (ls ++ (l ∷ [])) ≡ length ls + 1
@@ -119,14 +54,10 @@ module _ (l : List ℕ) where
   beginning-next x [] = omega arith
   beginning-next x (a ∷ ls) = omega (arith, beginning-next x ls)
 
-  only-next : (xs : List ℕ) (ls : List (List ℕ)) → only xs (ls ++ (l ∷ [])) ≡ (only xs ls && isOf xs (getD l 0 0))
+  only-next : (xs : List ℕ) (ls : List (List ℕ)) → only xs (ls ++ (l ∷ [])) ≡ (only xs ls && isAmong xs (getD l 0 0))
   unfolding only
-  only-next xs [] = go (isOf xs (getD l 0 0))
-    where
-      go : (b : Bool) → (b && true) ≡ b
-      go true = refl
-      go false = refl
-  only-next xs (a ∷ ls) = ap (λ t. isOf xs (getD a 0 0) && t) (only-next xs ls) ∙ and-assoc (isOf xs (getD a 0 0)) (only xs ls) (isOf xs (getD l 0 0))
+  only-next xs [] = and-true (isAmong xs (getD l 0 0))
+  only-next xs (a ∷ ls) = ap (λ t. isAmong xs (getD a 0 0) && t) (only-next xs ls) ∙ sym (and-assoc (isAmong xs (getD a 0 0)) (only xs ls) (isAmong xs (getD l 0 0)))
 
   ends-next : (x : ℕ) (ls : List (List ℕ)) → endsWith x (ls ++ (l ∷ [])) ≡ eqb (getD l 0 0) x
   unfolding endsWith
@@ -143,190 +74,211 @@ module _ (l : List ℕ) where
           let i : m ≡ n = omega arith in
           bool-eq (eqb m 0) (eqb n 0 && true) (λ z. rw (← i, z)) (λ z. rw i (and-inv (eqb n 0) true z .0))
 
+-- ---- letters
+
+-- no line begins with this letter
+abbrev pub Without : ℕ → List (List ℕ) → Type 0
+Without x ls = Each (λ l. getD l 0 0 ≡ x → ⊥) ls
+
 -- where each line begins with one of these letters, none begins with another
-pub only-without : (xs : List ℕ) (x : ℕ) (ls : List (List ℕ)) → isOf xs x ≡ false → only xs ls ≡ true → beginning x ls ≡ 0
-unfolding only beginning
-only-without xs x [] n e = refl
+pub only-without : (xs : List ℕ) (x : ℕ) (ls : List (List ℕ)) → isAmong xs x ≡ false → only xs ls ≡ true → Without x ls
+unfolding only
+only-without xs x [] n e = tt
 only-without xs x (l ∷ ls) n e =
-    let a = and-inv (isOf xs (getD l 0 0)) (only xs ls) e in
-    let b : eqb (getD l 0 0) x ≡ false = ne-eqb (getD l 0 0) x (λ z. false-true (sym n ∙ ap (isOf xs) (sym z) ∙ a .0)) in
-    rw b (omega (arith, only-without xs x ls n (a .1)))
+    let a = and-inv (isAmong xs (getD l 0 0)) (only xs ls) e in
+    ((λ z. false-true (sym n ∙ ap (isAmong xs) (sym z) ∙ a .0)), only-without xs x ls n (a .1))
 
--- ---- points of a declaration
+none-begin : (x : ℕ) (ls : List (List ℕ)) → Without x ls → beginning x ls ≡ 0
+unfolding beginning
+none-begin x [] h = refl
+none-begin x (l ∷ ls) h = rw (ne-eqb (getD l 0 0) x (h .0)) (omega (arith, none-begin x ls (h .1)))
 
--- how many are still to come
-pub toCome : List (List ℕ) → ℕ
-toCome [] = 0
-toCome (l ∷ ls) = cond (eqb (getD l 0 0) (code "C")) (pointsOf l - length ls) (toCome ls)
+none-those : (x : ℕ) (ls : List (List ℕ)) → Without x ls → those x ls ≡ []
+unfolding those
+none-those x [] h = refl
+none-those x (l ∷ ls) h = rw (ne-eqb (getD l 0 0) x (h .0)) (none-those x ls (h .1))
 
-pub open-left : (ls : List (List ℕ)) → isOpen ls ≡ leb 1 (toCome ls)
-unfolding isOpen toCome
-open-left [] = refl
-open-left (l ∷ ls) = go (eqb (getD l 0 0) (code "C")) (open-left ls)
+those-next : (x : ℕ) (l : List ℕ) (ls : List (List ℕ)) → those x (ls ++ (l ∷ [])) ≡ those x ls ++ cond (eqb (getD l 0 0) x) (l ∷ []) []
+unfolding those
+those-next x l [] = refl
+those-next x l (a ∷ ls) = go (eqb (getD a 0 0) x) (those-next x l ls)
   where
-    go : (b : Bool) → isOpen ls ≡ leb 1 (toCome ls) → cond b (ltb (length ls) (pointsOf l)) (isOpen ls) ≡ leb 1 (cond b (pointsOf l - length ls) (toCome ls))
-    go true r =
-        bool-eq (ltb (length ls) (pointsOf l)) (leb 1 (pointsOf l - length ls))
-        (λ e. let i = ltb-true (length ls) (pointsOf l) e in le-leb 1 (pointsOf l - length ls) (omega arith))
-        (λ e. let i = leb-true 1 (pointsOf l - length ls) e in lt-ltb (length ls) (pointsOf l) (omega arith))
+    go : (b : Bool) → those x (ls ++ (l ∷ [])) ≡ those x ls ++ cond (eqb (getD l 0 0) x) (l ∷ []) []
+        → cond b (a ∷ those x (ls ++ (l ∷ []))) (those x (ls ++ (l ∷ []))) ≡ cond b (a ∷ those x ls) (those x ls) ++ cond (eqb (getD l 0 0) x) (l ∷ []) []
+    go true r = ap (λ y. a ∷ y) r
     go false r = r
 
-pub none-left : (ls : List (List ℕ)) → beginning (code "C") ls ≡ 0 → toCome ls ≡ 0
-unfolding toCome beginning
-none-left [] e = refl
-none-left (l ∷ ls) e = go (eqb (getD l 0 0) (code "C")) e (none-left ls)
-  where
-    go : (b : Bool) → cond b 1 0 + beginning (code "C") ls ≡ 0 → (beginning (code "C") ls ≡ 0 → toCome ls ≡ 0) → cond b (pointsOf l - length ls) (toCome ls) ≡ 0
-    go true e r = absurd (omega arith)
-    go false e r = r (omega arith)
-
 module _ (l : List ℕ) where
-  -- a head
-  come-head : (ls : List (List ℕ)) → getD l 0 0 ≡ code "C" → beginning (code "C") ls ≡ 0 → toCome (ls ++ (l ∷ [])) ≡ pointsOf l
-  unfolding toCome beginning
-  come-head [] k e = rw k (omega arith)
-  come-head (a ∷ ls) k e = go (eqb (getD a 0 0) (code "C")) e (come-head ls k)
-    where
-      go : (b : Bool) → cond b 1 0 + beginning (code "C") ls ≡ 0 → (beginning (code "C") ls ≡ 0 → toCome (ls ++ (l ∷ [])) ≡ pointsOf l)
-          → cond b (pointsOf a - length (ls ++ (l ∷ []))) (toCome (ls ++ (l ∷ []))) ≡ pointsOf l
-      go true e r = absurd (omega arith)
-      go false e r = r (omega arith)
-
-  -- a point
-  come-point : (ls : List (List ℕ)) → 1 ≤ toCome ls → toCome (ls ++ (l ∷ [])) ≡ toCome ls - 1
-  unfolding toCome
-  come-point [] h = absurd (omega arith)
-  come-point (a ∷ ls) h = go (eqb (getD a 0 0) (code "C")) h (come-point ls)
-    where
-      go : (b : Bool) → 1 ≤ cond b (pointsOf a - length ls) (toCome ls) → (1 ≤ toCome ls → toCome (ls ++ (l ∷ [])) ≡ toCome ls - 1)
-          → cond b (pointsOf a - length (ls ++ (l ∷ []))) (toCome (ls ++ (l ∷ []))) ≡ cond b (pointsOf a - length ls) (toCome ls) - 1
-      go true h r = omega (arith, length-next l ls)
-      go false h r = r h
-
-  -- another line, with none to come
-  come-none : (ls : List (List ℕ)) → eqb (getD l 0 0) (code "C") ≡ false → toCome ls ≡ 0 → toCome (ls ++ (l ∷ [])) ≡ 0
-  unfolding toCome
-  come-none [] k e = rw k
-  come-none (a ∷ ls) k e = go (eqb (getD a 0 0) (code "C")) e (come-none ls k)
-    where
-      go : (b : Bool) → cond b (pointsOf a - length ls) (toCome ls) ≡ 0 → (toCome ls ≡ 0 → toCome (ls ++ (l ∷ [])) ≡ 0)
-          → cond b (pointsOf a - length (ls ++ (l ∷ []))) (toCome (ls ++ (l ∷ []))) ≡ 0
-      go true e r = omega (arith, length-next l ls)
-      go false e r = r e
-
-  -- ---- columns and times
-
-  told-same : (f : Family) (ls : List (List ℕ)) → eqb (getD l 0 0) (layoutLetter f) ≡ false → entriesTold f (ls ++ (l ∷ [])) ≡ entriesTold f ls
-  unfolding entriesTold
-  told-same f [] k = rw k
-  told-same f (a ∷ ls) k =
-      ap (cond (eqb (getD a 0 0) (layoutLetter f)) (entriesIn (orZero (numberAt a 1 2)) a 3)) (told-same f ls k)
-
-  told-here : (f : Family) (ls : List (List ℕ)) → getD l 0 0 ≡ layoutLetter f → beginning (layoutLetter f) ls ≡ 0
-      → entriesTold f (ls ++ (l ∷ [])) ≡ entriesIn (orZero (numberAt l 1 2)) l 3
-  unfolding entriesTold beginning
-  told-here f [] k e = rw (eq-eqb (getD l 0 0) (layoutLetter f) k)
-  told-here f (a ∷ ls) k e = go (eqb (getD a 0 0) (layoutLetter f)) e (told-here f ls k)
-    where
-      go : (b : Bool) → cond b 1 0 + beginning (layoutLetter f) ls ≡ 0
-          → (beginning (layoutLetter f) ls ≡ 0 → entriesTold f (ls ++ (l ∷ [])) ≡ entriesIn (orZero (numberAt l 1 2)) l 3)
-          → cond b (entriesIn (orZero (numberAt a 1 2)) a 3) (entriesTold f (ls ++ (l ∷ []))) ≡ entriesIn (orZero (numberAt l 1 2)) l 3
-      go true e r = absurd (omega arith)
-      go false e r = r (omega arith)
-
-  time-same : (ls : List (List ℕ)) → isOf (bytes "BEFK") (getD l 0 0) ≡ false → lastTime (ls ++ (l ∷ [])) ≡ lastTime ls
+  -- the last line's time, where it has one
+  time-next : (ls : List (List ℕ)) → lastTime (ls ++ (l ∷ [])) ≡ given (cond (isAmong (bytes "BEFK") (getD l 0 0)) (timeAt l 1) none) (lastTime ls) (λ t. some t)
   unfolding lastTime bytes
-  time-same [] k = rw k
-  time-same (a ∷ ls) k = rw (time-same ls k)
+  time-next [] = go (cond (isAmong (bytes "BEFK") (getD l 0 0)) (timeAt l 1) none)
+    where
+      go : (o : Option ℕ) → o ≡ given o none (λ t. some t)
+      go (some t) = refl
+      go none = refl
+  time-next (a ∷ ls) = rw (time-next ls) (go (cond (isAmong (bytes "BEFK") (getD l 0 0)) (timeAt l 1) none))
+    where
+      go : (o : Option ℕ) → given (given o (lastTime ls) (λ t. some t)) (cond (isAmong (bytes "BEFK") (getD a 0 0)) (timeAt a 1) none) (λ t. some t)
+          ≡ given o (given (lastTime ls) (cond (isAmong (bytes "BEFK") (getD a 0 0)) (timeAt a 1) none) (λ t. some t)) (λ t. some t)
+      go (some t) = refl
+      go none = refl
 
-  time-here : (ls : List (List ℕ)) (t : ℕ) → isOf (bytes "BEFK") (getD l 0 0) ≡ true → timeAt l 1 ≡ some t → lastTime (ls ++ (l ∷ [])) ≡ some t
-  unfolding lastTime bytes
-  time-here [] t k e = rw (k, e)
-  time-here (a ∷ ls) t k e = rw (time-here ls t k e)
+-- ---- the declaration
+
+-- whether there is one, and how many of its points are still to come
+pub data Declaration (ls : List (List ℕ)) : Bool → ℕ → Type 0 where
+  undeclared : Without (code "C") ls → Declaration ls false 0
+  declared : (points : ℕ) (before : List (List ℕ)) (head : List ℕ) (rest : List (List ℕ)) (h : Head) → ls ≡ before ++ (head ∷ rest) → Without (code "C") before → IsHeadLine h head
+      → points ≡ h .turns + 4 - length rest → (1 ≤ points → Each IsPointLine rest) → Declaration ls true points
+
+-- behind lines that are no C lines
+pub open-behind : (before : List (List ℕ)) (l : List ℕ) (points : List (List ℕ)) → Without (code "C") before → getD l 0 0 ≡ code "C"
+    → (isOpen (before ++ (l ∷ points)) ≡ ltb (length points) (pointsOf l)) × (1 ≤ beginning (code "C") (before ++ (l ∷ points)))
+unfolding isOpen beginning
+open-behind [] l points n k = rw k (refl, omega arith)
+open-behind (a ∷ before) l points n k = let r = open-behind before l points (n .1) k in rw (ne-eqb (getD a 0 0) (code "C") (n .0)) (r .0, omega (arith, r .1))
+
+pub none-open : (ls : List (List ℕ)) → Without (code "C") ls → isOpen ls ≡ false
+unfolding isOpen
+none-open [] h = refl
+none-open (l ∷ ls) h = rw (ne-eqb (getD l 0 0) (code "C") (h .0)) (none-open ls (h .1))
+
+-- it is open exactly while points are to come, and there is one exactly where a C line came
+pub declaration-told : (ls : List (List ℕ)) {d : Bool} {points : ℕ} → Declaration ls d points → (leb 1 points ≡ isOpen ls) × (d ≡ not (without (code "C") ls))
+declaration-told ls (undeclared n) = rw (none-open ls n, none-begin (code "C") ls n) (refl, refl)
+declaration-told ls (declared points before hd rest h o n w e ps) =
+    let b = open-behind before hd rest n (head-said h hd w .0) in
+    let t = head-points h hd w in
+    let i : leb 1 points ≡ ltb (length rest) (pointsOf hd) =
+    bool-eq (leb 1 points) (ltb (length rest) (pointsOf hd)) (λ q. let j = leb-true 1 points q in lt-ltb (length rest) (pointsOf hd) (omega arith))
+    (λ q. let j = ltb-true (length rest) (pointsOf hd) q in le-leb 1 points (omega arith)) in
+    (i ∙ sym (ap isOpen o ∙ b .0), sym (ap (λ x. not (without (code "C") x)) o ∙ ap not (ne-eqb (beginning (code "C") (before ++ (hd ∷ rest))) 0 (λ z. omega (arith, b .1)))))
+
+module _ (ls : List (List ℕ)) (l : List ℕ) where
+  -- a line of another role
+  silent : {d : Bool} {points : ℕ} → eqb (getD l 0 0) (code "C") ≡ false → points ≡ 0 → Declaration ls d points → Declaration (ls ++ (l ∷ [])) d points
+  silent n z (undeclared w) = undeclared (each-join (λ l. getD l 0 0 ≡ code "C" → ⊥) ls (l ∷ []) w (eqb-false _ _ n, tt))
+  silent n z (declared p before hd rest h o w v e ps) =
+      declared p before hd (rest ++ (l ∷ [])) h (ap (λ x. x ++ (l ∷ [])) o ∙ append-assoc before (hd ∷ rest) (l ∷ [])) w v (omega (arith, length-next l rest)) (λ q. absurd (omega arith))
+
+  begins-one : {d : Bool} {points : ℕ} (h : Head) → IsHeadLine h l → d ≡ false → Declaration ls d points → Declaration (ls ++ (l ∷ [])) true (h .turns + 4)
+  begins-one h w f (undeclared n) = declared (h .turns + 4) ls l [] h refl n w (omega arith) (λ q. tt)
+  begins-one h w f (declared p before hd rest g o n v e ps) = absurd (false-true (sym f))
+
+  goes-on : {d : Bool} {points : ℕ} → IsPointLine l → 1 ≤ points → Declaration ls d points → Declaration (ls ++ (l ∷ [])) d (points - 1)
+  goes-on w p (undeclared n) = absurd (omega arith)
+  goes-on w p (declared k before hd rest h o n v e ps) =
+      declared (k - 1) before hd (rest ++ (l ∷ [])) h (ap (λ x. x ++ (l ∷ [])) o ∙ append-assoc before (hd ∷ rest) (l ∷ [])) n v (omega (arith, length-next l rest))
+      (λ q. each-join IsPointLine rest (l ∷ []) (ps p) (w, tt))
 
 -- ---- how far the file has come
 
 -- the stage against the letters of the lines before
 pub record Staged (s : ℕ) (ls : List (List ℕ)) : Type 0 where
-  pub some-line : leb 1 s ≡ leb 1 (length ls)
-  pub two-lines : leb 2 s ≡ leb 2 (length ls)
-  pub headers : leb s 2 ≡ only (bytes "AH") ls
-  pub layouts : leb s 3 ≡ only (bytes "AHI") ls
-  pub unsealed : leb s 5 ≡ without (code "G") ls
-  pub sealing : leb s 6 ≡ (without (code "G") ls || endsWith (code "G") ls)
-  pub most : s ≤ 7
+  pub some-line : leb afterA s ≡ leb 1 (length ls)
+  pub two-lines : leb afterH s ≡ leb 2 (length ls)
+  pub untold : (f : Family) → leb s (afterLayout f - 1) ≡ only (lettersBefore f) ls
+  pub unsealed : leb s inBody ≡ without (code "G") ls
+  pub sealing : leb s afterG ≡ (without (code "G") ls || endsWith (code "G") ls)
+  pub most : s ≤ afterLastG
 
-staged-start : Staged 0 []
+staged-start : Staged atStart []
 unfolding only beginning
-staged-start = record { some-line = refl; two-lines = refl; headers = refl; layouts = refl; unsealed = refl; sealing = refl; most = omega arith }
+staged-start = record { some-line = refl; two-lines = refl; untold = λ f. le-leb atStart (afterLayout f - 1) (omega arith); unsealed = refl; sealing = refl; most = omega arith }
 
-one-line : (n : ℕ) → leb 1 (n + 1) ≡ true
-one-line n = le-leb 1 (n + 1) (omega arith)
+-- from one part of the file a line of this role leads to another
+record Moves (r : Role) (s c : ℕ) : Type 0 where
+  up : s ≤ c
+  least : afterA ≤ c
+  most : c ≤ afterLastG
+  second : leb afterH c ≡ leb afterA s
+  -- among the layout lines it leads where its role does
+  early : (f : Family) → leb (leadsTo r) (afterLayout f - 1) ≡ leb c (afterLayout f - 1)
+  first : (f : Family) → isTelling f r ≡ true → s ≤ afterLayout f - 1
+  unsealed : leb c inBody ≡ (leb s inBody && not (isSealing r))
+  sealing : leb c afterG ≡ ((leb s inBody && not (isSealing r)) || isSealing r)
 
-two-lines-next : (n : ℕ) → leb 2 (n + 1) ≡ leb 1 n
-two-lines-next n = bool-eq _ _ (λ e. let i = leb-true 2 (n + 1) e in le-leb 1 n (omega arith)) (λ e. let i = leb-true 1 n e in le-leb 2 (n + 1) (omega arith))
+module _ (s c : ℕ) where
+  made : (r : Role) (next : ℕ) → next ≡ c → s ≤ next → afterA ≤ next → next ≤ afterLastG → leb afterH next ≡ leb afterA s
+      → ((f : Family) → leb (leadsTo r) (afterLayout f - 1) ≡ leb next (afterLayout f - 1)) → ((f : Family) → isTelling f r ≡ true → s ≤ afterLayout f - 1)
+      → leb next inBody ≡ (leb s inBody && not (isSealing r)) → leb next afterG ≡ ((leb s inBody && not (isSealing r)) || isSealing r) → Moves r s c
+  made r next e p q m t y z u g = rw (← e) (record { up = p; least = q; most = m; second = t; early = y; first = z; unsealed = u; sealing = g })
 
-module _ (s c : ℕ) (ls : List (List ℕ)) (l : List ℕ) (w : Staged s ls) where
-  staged-next : (b : ℕ) → getD l 0 0 ≡ b → 1 ≤ c → c ≤ 7 → leb 2 c ≡ leb 1 s → leb c 2 ≡ (leb s 2 && isOf (bytes "AH") b) → leb c 3 ≡ (leb s 3 && isOf (bytes "AHI") b)
-      → leb c 5 ≡ (leb s 5 && not (eqb b (code "G"))) → leb c 6 ≡ ((leb s 5 && not (eqb b (code "G"))) || eqb b (code "G")) → Staged c (ls ++ (l ∷ []))
-  staged-next b k p q two ah ahi g last = record {
-    some-line = rw (length-next l ls) (le-leb 1 c p ∙ sym (one-line (length ls)));
-    two-lines = rw (length-next l ls) (two ∙ w .some-line ∙ sym (two-lines-next (length ls)));
-    headers = rw (only-next l, ← w .headers, k) ah;
-    layouts = rw (only-next l, ← w .layouts, k) ahi;
-    unsealed = rw (without-next l, ← w .unsealed, k) g;
-    sealing = rw (without-next l, ends-next l, ← w .unsealed, k) last;
-    most = q;
-  }
+  both-low : (n : ℕ) → afterH ≤ n → afterA ≤ s → leb afterH n ≡ leb afterA s
+  both-low n p q = le-leb afterH n p ∙ sym (le-leb afterA s q)
 
-and-false : (t : Bool) → false ≡ (t && false)
-and-false true = refl
-and-false false = refl
+  -- from the front to the body
+  along : (r : Role) (low high : ℕ) → leading low high (leadsTo r) s ≡ some c → afterA ≤ low → high ≤ leadsTo r → afterH ≤ leadsTo r → leadsTo r ≤ inBody
+      → ((f : Family) → isTelling f r ≡ true → high ≤ afterLayout f - 1) → Moves r s c
+  along r low high o p q h g t =
+      let i = leading-inv low high (leadsTo r) s c o in
+      let n : isSealing r ≡ false = ne-eqb (leadsTo r) afterG (λ z. omega arith) in
+      made r (leadsTo r) (i .2) (omega arith) (omega arith) (omega arith) (both-low (leadsTo r) h (omega arith)) (λ f. refl) (λ f y. omega (arith, t f y))
+      (rw (n, le-leb (leadsTo r) inBody g, le-leb s inBody (omega arith)))
+      (rw (n, le-leb (leadsTo r) afterG (omega arith), le-leb s inBody (omega arith)))
 
-pub or-true : (t : Bool) → true ≡ (t || true)
-or-true true = refl
-or-true false = refl
+  to-body : (r : Role) → leadsTo r ≡ inBody → ((f : Family) → isTelling f r ≡ false) → leading afterH inBody inBody s ≡ some c → Moves r s c
+  to-body r e t o = along r afterH inBody (rw e o) (omega arith) (omega arith) (omega arith) (omega arith) (λ f y. absurd (false-true (sym (t f) ∙ y)))
 
-module _ (s : ℕ) (ls : List (List ℕ)) (l : List ℕ) (w : Staged s ls) where
-  first-staged : s ≡ 0 → getD l 0 0 ≡ code "A" → Staged 1 (ls ++ (l ∷ []))
-  unfolding isOf bytes
-  first-staged e k = staged-next s 1 ls l w 65 k (omega arith) (omega arith) (rw e) (rw e) (rw e) (rw e) (rw e)
+  remark-moves : (b : Bool) → leb s inBody ≡ b → cond b (leading afterH inBody inBody s) (leading afterG afterLastG afterLastG s) ≡ some c → Moves role.Remark s c
+  remark-moves true q o = to-body role.Remark refl (λ f. refl) o
+  remark-moves false q o =
+      let i = leading-inv afterG afterLastG afterLastG s c o in
+      made role.Remark afterLastG (i .2) (i .1) (omega arith) (omega arith) (both-low afterLastG (omega arith) (omega arith))
+      (λ f. none-pass (λ f. leb inBody (afterLayout f - 1)) refl f ∙ sym (none-pass (λ f. leb afterLastG (afterLayout f - 1)) refl f))
+      (λ f y. absurd (false-true y))
+      (rw q)
+      (rw q)
 
-  header-staged : 1 ≤ s → s ≤ 2 → getD l 0 0 ≡ code "H" → Staged 2 (ls ++ (l ∷ []))
-  unfolding isOf bytes
-  header-staged p q k =
-      staged-next s 2 ls l w 72 k (omega arith) (omega arith) (sym (le-leb 1 s p)) (rw (le-leb s 2 q)) (rw (le-leb s 3 (omega arith))) (rw (le-leb s 5 (omega arith)))
-      (rw (le-leb s 5 (omega arith)))
+  moves : (r : Role) → stageAfter r s ≡ some c → Moves r s c
+  unfolding stageAfter
+  moves role.Opens o =
+      let i = leading-inv atStart atStart afterA s c o in
+      let z : s ≡ atStart = omega arith in
+      made role.Opens afterA (i .2) (omega arith) (omega arith) (omega arith) (rw z) (λ f. refl) (λ f y. absurd (false-true y)) (rw z) (rw z)
+  moves role.Heads o = along role.Heads afterA afterH o (omega arith) (omega arith) (omega arith) (omega arith) (λ f y. absurd (false-true y))
+  moves (role.Tells f) o =
+      let k = layout-stage f in
+      along (role.Tells f) afterH (afterLayout f - 1) o (omega arith) (omega arith) (omega arith) (omega arith) (λ g y. rw (is-same f g y) (omega arith))
+  moves (role.Columned f) o = to-body (role.Columned f) refl (λ g. refl) o
+  moves role.Declares o = to-body role.Declares refl (λ g. refl) o
+  moves role.Event o = to-body role.Event refl (λ g. refl) o
+  moves role.Satellites o = to-body role.Satellites refl (λ g. refl) o
+  moves role.Differential o = to-body role.Differential refl (λ g. refl) o
+  moves role.Seals o =
+      let i = leading-inv afterH afterG afterG s c o in
+      made role.Seals afterG (i .2) (i .1) (omega arith) (omega arith) (both-low afterG (omega arith) (omega arith)) (λ f. refl) (λ f y. absurd (false-true y))
+      (sym (and-false (leb s inBody)))
+      (sym (or-true (leb s inBody && false)))
+  moves role.Remark o = remark-moves (leb s inBody) refl o
+  moves role.Other o = to-body role.Other refl (λ g. refl) o
+  moves role.NoRole o = absurd (none-some o)
 
-  fixing-staged : s ≡ 2 → getD l 0 0 ≡ code "I" → Staged 3 (ls ++ (l ∷ []))
-  unfolding isOf bytes
-  fixing-staged e k = staged-next s 3 ls l w 73 k (omega arith) (omega arith) (rw e) (rw e) (rw e) (rw e) (rw e)
+module _ (s c : ℕ) (ls : List (List ℕ)) (l : List ℕ) (w : Staged s ls) (v : Moves (roleIn l) s c) where
+  -- below n after it exactly where below before it, and the line leads below
+  still : (n : ℕ) → leb c n ≡ (leb s n && leb c n)
+  still n = go (leb c n) refl
+    where
+      go : (b : Bool) → leb c n ≡ b → b ≡ (leb s n && b)
+      go true e = let i = leb-true c n e in let j = v .up in rw (le-leb s n (omega arith))
+      go false e = sym (and-false (leb s n))
 
-  noting-staged : 2 ≤ s → s ≤ 3 → getD l 0 0 ≡ code "J" → Staged 4 (ls ++ (l ∷ []))
-  unfolding isOf bytes
-  noting-staged p q k =
-      staged-next s 4 ls l w 74 k (omega arith) (omega arith) (sym (le-leb 1 s (omega arith))) (and-false (leb s 2)) (and-false (leb s 3))
-      (rw (le-leb s 5 (omega arith)))
-      (rw (le-leb s 5 (omega arith)))
-
-  body-staged : (b : ℕ) → 2 ≤ s → s ≤ 5 → getD l 0 0 ≡ b → isOf (bytes "AHI") b ≡ false → isOf (bytes "AH") b ≡ false → eqb b (code "G") ≡ false → Staged 5 (ls ++ (l ∷ []))
-  body-staged b p q k ahi ah g =
-      staged-next s 5 ls l w b k (omega arith) (omega arith) (sym (le-leb 1 s (omega arith))) (rw ah (and-false (leb s 2))) (rw ahi (and-false (leb s 3)))
-      (rw (le-leb s 5 q, g))
-      (rw (le-leb s 5 q, g))
-
-  seal-staged : 2 ≤ s → s ≤ 6 → getD l 0 0 ≡ code "G" → Staged 6 (ls ++ (l ∷ []))
-  unfolding isOf bytes
-  seal-staged p q k =
-      staged-next s 6 ls l w 71 k (omega arith) (omega arith) (sym (le-leb 1 s (omega arith))) (and-false (leb s 2)) (and-false (leb s 3)) (and-false (leb s 5))
-      (or-true (leb s 5 && false))
-
-  remarks-staged : 6 ≤ s → getD l 0 0 ≡ code "L" → Staged 7 (ls ++ (l ∷ []))
-  unfolding isOf bytes
-  remarks-staged p k =
-      staged-next s 7 ls l w 76 k (omega arith) (omega arith) (sym (le-leb 1 s (omega arith))) (and-false (leb s 2)) (and-false (leb s 3))
-      (rw (lt-leb s 5 (omega arith)))
-      (rw (lt-leb s 5 (omega arith)))
+  staged-next : Staged c (ls ++ (l ∷ []))
+  staged-next =
+      let b = letter-tests l in
+      let n = length-next l ls in
+      record {
+        some-line = rw n (le-leb afterA c (v .least) ∙ sym (le-leb 1 (length ls + 1) (omega arith)));
+        two-lines = rw n (v .second ∙ w .some-line ∙ second-line (length ls));
+        untold = λ f. still (afterLayout f - 1) ∙ rw (only-next l, ← w .untold f, b .2 f .2, v .early f);
+        unsealed = rw (without-next l, ← w .unsealed, b .1 .1) (v .unsealed);
+        sealing = rw (without-next l, ends-next l, ← w .unsealed, b .1 .1) (v .sealing);
+        most = v .most;
+      }
+    where
+      second-line : (n : ℕ) → leb 1 n ≡ leb 2 (n + 1)
+      second-line n = bool-eq _ _ (λ e. let i = leb-true 1 n e in le-leb 2 (n + 1) (omega arith)) (λ e. let i = leb-true 2 (n + 1) e in le-leb 1 n (omega arith))
 
 -- ---- what the lines before tell of the state
 
@@ -334,285 +286,98 @@ pub record Stands (ls : List (List ℕ)) (st : State) : Type 0 where
   pub sound : Sound st
   pub staged : Staged (st .stage) ls
   pub lines : st .flight .lines ≡ length ls
-  pub bs : st .flight .bs ≡ beginning (code "B") ls
-  pub declared : st .declared ≡ not (without (code "C") ls)
-  pub points : st .points ≡ toCome ls
+  pub counts : (f : Family) → countOf f (st .flight .counts) ≡ beginning (lineLetter f) ls
+  pub declaration : Declaration ls (st .declared) (st .points)
   pub clock : st .clock ≡ orZero (lastTime ls)
-  pub fixes : st .flight .fixes ≡ laid (entriesTold family.B ls)
-  pub extras : st .flight .extras ≡ laid (entriesTold family.K ls)
+  pub told : (f : Family) → AtMostOne f (layoutOf f (st .flight .layouts)) (those (layoutLetter f) ls)
 
 pub stands-start : Stands [] start
-unfolding beginning toCome lastTime entriesTold
+unfolding beginning lastTime those
 stands-start = record {
   sound = sound-start;
   staged = staged-start;
   lines = refl;
-  bs = refl;
-  declared = refl;
-  points = refl;
+  counts = every (λ f. countOf f (start .flight .counts) ≡ beginning (lineLetter f) []) refl refl;
+  declaration = undeclared tt;
   clock = refl;
-  fixes = refl;
-  extras = refl;
+  told = every (λ f. AtMostOne f (layoutOf f (start .flight .layouts)) (those (layoutLetter f) [])) absent absent;
 }
+
+-- a family's layout is that of the entries that were told
+pub laid-out : (f : Family) {layout : Layout} {ls : List (List ℕ)} → AtMostOne f layout ls → layout ≡ laid (firstEntries ls)
+laid-out f absent = refl
+laid-out f (grammar.given {layout = i} {l = l} w) = layout-laid f i l (layout-said f i l w .1)
+
+-- what a line that passes leaves of the state m, behind the lines ls, by its role
+record Left (ls : List (List ℕ)) (l : List ℕ) (m : State) (r : Role) (after : State) : Type 0 where
+  stage : after .stage ≡ m .stage
+  declaration : Declaration (ls ++ (l ∷ [])) (after .declared) (after .points)
+  clock : after .clock ≡ given (cond (isTiming r) (timeAt l 1) none) (m .clock) (λ t. t)
+  told : (g : Family) (ks : List (List ℕ)) → (isTelling g r ≡ true → ks ≡ []) → AtMostOne g (layoutOf g (m .flight .layouts)) ks
+      → AtMostOne g (layoutOf g (after .flight .layouts)) (ks ++ cond (isTelling g r) (l ∷ []) [])
+
+module _ (ls : List (List ℕ)) (l : List ℕ) (m : State) (d : Declaration ls (m .declared) (m .points)) where
+  left : {r : Role} {after : State} → Letter r (getD l 0 0) → eqb (getD l 0 0) (code "C") ≡ isDeclaring r → fitsDeclaration (isDeclaring r) m ≡ true → Leaves l m r after → Left ls l m r after
+  left k c f (passes.opens e) = record { stage = refl; declaration = silent ls l c (plain-fits m f) d; clock = refl; told = λ g ks n a. rw append-nil a }
+  left k c f (passes.date x n e) = record { stage = refl; declaration = silent ls l c (plain-fits m f) d; clock = refl; told = λ g ks n a. rw append-nil a }
+  left k c f (passes.header n e) = record { stage = refl; declaration = silent ls l c (plain-fits m f) d; clock = refl; told = λ g ks n a. rw append-nil a }
+  left k c f (passes.layout x i e) = record {
+    stage = refl;
+    declaration = silent ls l c (plain-fits m f) d;
+    clock = refl;
+    told = put-by (λ g y. (ks : List (List ℕ)) → (sameFamily g x ≡ true → ks ≡ []) → AtMostOne g (layoutOf g (m .flight .layouts)) ks → AtMostOne g y (ks ++ cond (sameFamily g x) (l ∷ []) []))
+        x i (m .flight .layouts)
+        (λ ks n a. rw (n (same-family x), same-family x) (grammar.given (layout-there x i l e (tells-letter x k))))
+        (λ g n ks q a. rw (n, append-nil) a);
+  }
+  left k c f (passes.columned x t e o) =
+      record { stage = refl; declaration = silent ls l c (plain-fits m f) d; clock = rw (columned-time x _ t l e); told = λ g ks n a. rw append-nil a }
+  left k c f (passes.head h n e) = record { stage = refl; declaration = begins-one ls l h (head-there h l k e) (head-fits m n f .0) d; clock = refl; told = λ g ks n a. rw append-nil a }
+  left k c f (passes.point p n e) = record { stage = refl; declaration = goes-on ls l (point-there p l k e) (some-points (m .points) n) d; clock = refl; told = λ g ks n a. rw append-nil a }
+  left k c f (passes.event t e o) = record { stage = refl; declaration = silent ls l c (plain-fits m f) d; clock = rw (e-inv l t e .1); told = λ g ks n a. rw append-nil a }
+  left k c f (passes.satellites t e o) = record { stage = refl; declaration = silent ls l c (plain-fits m f) d; clock = rw (f-inv l t e .1); told = λ g ks n a. rw append-nil a }
+  left k c f (passes.differential e) = record { stage = refl; declaration = silent ls l c (plain-fits m f) d; clock = refl; told = λ g ks n a. rw append-nil a }
+  left k c f (passes.seals e) = record { stage = refl; declaration = silent ls l c (plain-fits m f) d; clock = refl; told = λ g ks n a. rw append-nil a }
+  left k c f (passes.remark e) = record { stage = refl; declaration = silent ls l c (plain-fits m f) d; clock = refl; told = λ g ks n a. rw append-nil a }
+  left k c f (passes.other e) = record { stage = refl; declaration = silent ls l c (plain-fits m f) d; clock = refl; told = λ g ks n a. rw append-nil a }
 
 -- ---- and they tell it of the state after the next line
 
--- neither B nor C, I nor J, and with no time
-record Aside (b : ℕ) : Type 0 where
-  no-b : eqb b (code "B") ≡ false
-  no-c : eqb b (code "C") ≡ false
-  no-i : eqb b (code "I") ≡ false
-  no-j : eqb b (code "J") ≡ false
-  no-time : isOf (bytes "BEFK") b ≡ false
+module _ (ls : List (List ℕ)) (l : List ℕ) (st after : State) (w : Stands ls st) (e : judge l st ≡ says after) where
+  so : Judged l st after
+  so = judged l st after e
 
-module _ (ls : List (List ℕ)) (l : List ℕ) where
-  lines-more : (n : ℕ) → n ≡ length ls → n + 1 ≡ length (ls ++ (l ∷ []))
-  lines-more n e = omega (arith, length-next l ls)
+  order : (fitsDeclaration (isDeclaring (roleIn l)) st ≡ true) × (stageAfter (roleIn l) (st .stage) ≡ some (so .stage))
+  order = order-inv (roleIn l) st (so .stage) (so .order)
 
-  bs-same : (n : ℕ) → eqb (getD l 0 0) (code "B") ≡ false → n ≡ beginning (code "B") ls → n ≡ beginning (code "B") (ls ++ (l ∷ []))
-  bs-same n k e = rw (beginning-next l, k) (omega arith)
+  leads-on : Moves (roleIn l) (st .stage) (so .stage)
+  leads-on = moves (st .stage) (so .stage) (roleIn l) (order .1)
 
-  declared-same : (d : Bool) → eqb (getD l 0 0) (code "C") ≡ false → d ≡ not (without (code "C") ls) → d ≡ not (without (code "C") (ls ++ (l ∷ [])))
-  declared-same d k e = rw (without-next l, k, e) (go (without (code "C") ls))
+  by-role : Left ls l (moved (so .stage) st) (roleIn l) after
+  unfolding fitsDeclaration
+  by-role = left ls l (moved (so .stage) st) (w .declaration) (letter (getD l 0 0)) (letter-tests l .1 .0) (order .0) (so .left)
+
+  clock-next : after .clock ≡ orZero (lastTime (ls ++ (l ∷ [])))
+  clock-next = by-role .clock ∙ rw (time-next l, letter-tests l .1 .2, w .clock) (go (cond (isTiming (roleIn l)) (timeAt l 1) none))
     where
-      go : (t : Bool) → not t ≡ not (t && true)
-      go true = refl
-      go false = refl
+      go : (o : Option ℕ) → given o (orZero (lastTime ls)) (λ t. t) ≡ orZero (given o (lastTime ls) (λ t. some t))
+      go (some t) = refl
+      go none = refl
 
-  points-same : (p : ℕ) → eqb (getD l 0 0) (code "C") ≡ false → p ≡ 0 → p ≡ toCome ls → p ≡ toCome (ls ++ (l ∷ []))
-  points-same p k z e = z ∙ sym (come-none l ls k (sym e ∙ z))
+  -- a family's layout is told once
+  untold : (f : Family) → isTelling f (roleIn l) ≡ true → those (layoutLetter f) ls ≡ []
+  unfolding isAmong bytes
+  untold f q =
+      none-those (layoutLetter f) ls (only-without (lettersBefore f) (layoutLetter f) ls (none-pass (λ f. isAmong (lettersBefore f) (layoutLetter f)) refl f)
+      (sym (w .staged .untold f) ∙ le-leb _ _ (leads-on .first f q)))
 
-  clock-same : (c : ℕ) → isOf (bytes "BEFK") (getD l 0 0) ≡ false → c ≡ orZero (lastTime ls) → c ≡ orZero (lastTime (ls ++ (l ∷ [])))
-  clock-same c k e = e ∙ ap orZero (sym (time-same l ls k))
-
-  clock-here : (t : ℕ) → isOf (bytes "BEFK") (getD l 0 0) ≡ true → timeAt l 1 ≡ some t → t ≡ orZero (lastTime (ls ++ (l ∷ [])))
-  clock-here t k e = ap orZero (sym (time-here l ls t k e))
-
-  entries-same : (f : Family) (x : Layout) → eqb (getD l 0 0) (layoutLetter f) ≡ false → x ≡ laid (entriesTold f ls) → x ≡ laid (entriesTold f (ls ++ (l ∷ [])))
-  entries-same f x k e = e ∙ ap laid (sym (told-same l f ls k))
-
-  entries-here : (f : Family) (x : Layout) → IsLayoutLine f x l → beginning (layoutLetter f) ls ≡ 0 → x ≡ laid (entriesTold f (ls ++ (l ∷ [])))
-  entries-here f x w e = layout-laid f x l w ∙ ap laid (sym (told-here l f ls (layout-said f x l w .0) e))
-
-  module _ (st : State) (w : Stands ls st) where
-    aside-stands : (b c : ℕ) → getD l 0 0 ≡ b → Aside b → st .points ≡ 0 → Staged c (ls ++ (l ∷ [])) → Stands (ls ++ (l ∷ [])) (moved c st)
-    aside-stands b c k a z s = record {
-      sound = w .sound;
-      staged = s;
-      lines = lines-more (st .flight .lines) (w .lines);
-      bs = bs-same (st .flight .bs) (rw k (a .no-b)) (w .bs);
-      declared = declared-same (st .declared) (rw k (a .no-c)) (w .declared);
-      points = points-same (st .points) (rw k (a .no-c)) z (w .points);
-      clock = clock-same (st .clock) (rw k (a .no-time)) (w .clock);
-      fixes = entries-same family.B (st .flight .fixes) (rw k (a .no-i)) (w .fixes);
-      extras = entries-same family.K (st .flight .extras) (rw k (a .no-j)) (w .extras);
-    }
-
-    -- E and F
-    event-stands : (b t : ℕ) → getD l 0 0 ≡ b → eqb b (code "B") ≡ false → eqb b (code "C") ≡ false → eqb b (code "I") ≡ false → eqb b (code "J") ≡ false
-        → isOf (bytes "BEFK") b ≡ true → timeAt l 1 ≡ some t → st .points ≡ 0 → Staged 5 (ls ++ (l ∷ [])) → Stands (ls ++ (l ∷ [])) (clocked t (moved 5 st))
-    event-stands b t k nb nc ni nj y e z s = record {
-      sound = w .sound;
-      staged = s;
-      lines = lines-more (st .flight .lines) (w .lines);
-      bs = bs-same (st .flight .bs) (rw k nb) (w .bs);
-      declared = declared-same (st .declared) (rw k nc) (w .declared);
-      points = points-same (st .points) (rw k nc) z (w .points);
-      clock = clock-here t (rw k y) e;
-      fixes = entries-same family.B (st .flight .fixes) (rw k ni) (w .fixes);
-      extras = entries-same family.K (st .flight .extras) (rw k nj) (w .extras);
-    }
-
-    fix-stands : (t : ℕ) → getD l 0 0 ≡ code "B" → timeAt l 1 ≡ some t → st .points ≡ 0 → Staged 5 (ls ++ (l ∷ []))
-        → Stands (ls ++ (l ∷ [])) (clocked t (counted 1 0 (moved 5 st)))
-    unfolding isOf bytes
-    fix-stands t k e z s = record {
-      sound = w .sound;
-      staged = s;
-      lines = lines-more (st .flight .lines) (w .lines);
-      bs = rw (beginning-next l, k, w .bs);
-      declared = declared-same (st .declared) (rw k) (w .declared);
-      points = points-same (st .points) (rw k) z (w .points);
-      clock = clock-here t (rw k) e;
-      fixes = entries-same family.B (st .flight .fixes) (rw k) (w .fixes);
-      extras = entries-same family.K (st .flight .extras) (rw k) (w .extras);
-    }
-
-    extra-stands : (t : ℕ) → getD l 0 0 ≡ code "K" → timeAt l 1 ≡ some t → st .points ≡ 0 → Staged 5 (ls ++ (l ∷ []))
-        → Stands (ls ++ (l ∷ [])) (clocked t (counted 0 1 (moved 5 st)))
-    unfolding isOf bytes
-    extra-stands t k e z s = record {
-      sound = w .sound;
-      staged = s;
-      lines = lines-more (st .flight .lines) (w .lines);
-      bs = bs-same (st .flight .bs + 0) (rw k) (omega (arith, w .bs));
-      declared = declared-same (st .declared) (rw k) (w .declared);
-      points = points-same (st .points) (rw k) z (w .points);
-      clock = clock-here t (rw k) e;
-      fixes = entries-same family.B (st .flight .fixes) (rw k) (w .fixes);
-      extras = entries-same family.K (st .flight .extras) (rw k) (w .extras);
-    }
-
-    head-stands : (h : Head) → IsHeadLine h l → getD l 0 0 ≡ code "C" → st .declared ≡ false → Staged 5 (ls ++ (l ∷ []))
-        → Stands (ls ++ (l ∷ [])) (begun h (moved 5 st))
-    unfolding isOf bytes
-    head-stands h v k d s =
-        let n : beginning (code "C") ls ≡ 0 = eqb-true _ _ (not-false _ (sym (w .declared) ∙ d)) in
-        record {
-          sound = w .sound;
-          staged = s;
-          lines = lines-more (st .flight .lines) (w .lines);
-          bs = bs-same (st .flight .bs) (rw k) (w .bs);
-          declared = rw (beginning-next l, k, n);
-          points = sym (come-head l ls k n ∙ head-points h l v);
-          clock = clock-same (st .clock) (rw k) (w .clock);
-          fixes = entries-same family.B (st .flight .fixes) (rw k) (w .fixes);
-          extras = entries-same family.K (st .flight .extras) (rw k) (w .extras);
-        }
-
-    point-stands : getD l 0 0 ≡ code "C" → 1 ≤ st .points → Staged 5 (ls ++ (l ∷ [])) → Stands (ls ++ (l ∷ [])) (pointed (moved 5 st))
-    unfolding isOf bytes
-    point-stands k h s =
-        let p = w .points in
-        let i : 1 ≤ beginning (code "C") ls = begun-there in
-        record {
-          sound = w .sound;
-          staged = s;
-          lines = lines-more (st .flight .lines) (w .lines);
-          bs = bs-same (st .flight .bs) (rw k) (w .bs);
-          declared = w .declared ∙ ap not (ne-eqb (beginning (code "C") ls) 0 (λ z. omega arith) ∙ sym (ne-eqb (beginning (code "C") (ls ++ (l ∷ []))) 0 (λ z. omega (arith, beginning-next l (code "C") ls))));
-          points = ap (λ x. x - 1) p ∙ sym (come-point l ls (omega arith));
-          clock = clock-same (st .clock) (rw k) (w .clock);
-          fixes = entries-same family.B (st .flight .fixes) (rw k) (w .fixes);
-          extras = entries-same family.K (st .flight .extras) (rw k) (w .extras);
-        }
-      where
-        begun-there : 1 ≤ beginning (code "C") ls
-        begun-there = go (eqb (beginning (code "C") ls) 0) refl
-          where
-            go : (b : Bool) → eqb (beginning (code "C") ls) 0 ≡ b → 1 ≤ beginning (code "C") ls
-            go true e = absurd (omega (arith, none-left ls (eqb-true _ _ e), w .points))
-            go false e = let i = eqb-false (beginning (code "C") ls) 0 e in omega arith
-
-    fixing-stands : (x : Layout) → IsLayoutLine family.B x l → Sound (withFixes x (moved 3 st)) → st .stage ≡ 2 → st .points ≡ 0 → Stands (ls ++ (l ∷ [])) (withFixes x (moved 3 st))
-    unfolding isOf bytes
-    fixing-stands x v g e z =
-        let k = layout-said family.B x l v .0 in
-        record {
-          sound = g;
-          staged = fixing-staged (st .stage) ls l (w .staged) e k;
-          lines = lines-more (st .flight .lines) (w .lines);
-          bs = bs-same (st .flight .bs) (rw k) (w .bs);
-          declared = declared-same (st .declared) (rw k) (w .declared);
-          points = points-same (st .points) (rw k) z (w .points);
-          clock = clock-same (st .clock) (rw k) (w .clock);
-          fixes = entries-here family.B x v (only-without (bytes "AH") (code "I") ls refl (sym (w .staged .headers) ∙ rw e));
-          extras = entries-same family.K (st .flight .extras) (rw k) (w .extras);
-        }
-
-    noting-stands : (x : Layout) → IsLayoutLine family.K x l → Sound (withExtras x (moved 4 st)) → 2 ≤ st .stage → st .stage ≤ 3 → st .points ≡ 0
-        → Stands (ls ++ (l ∷ [])) (withExtras x (moved 4 st))
-    unfolding isOf bytes
-    noting-stands x v g p q z =
-        let k = layout-said family.K x l v .0 in
-        record {
-          sound = g;
-          staged = noting-staged (st .stage) ls l (w .staged) p q k;
-          lines = lines-more (st .flight .lines) (w .lines);
-          bs = bs-same (st .flight .bs) (rw k) (w .bs);
-          declared = declared-same (st .declared) (rw k) (w .declared);
-          points = points-same (st .points) (rw k) z (w .points);
-          clock = clock-same (st .clock) (rw k) (w .clock);
-          fixes = entries-same family.B (st .flight .fixes) (rw k) (w .fixes);
-          extras = entries-here family.K x v (only-without (bytes "AHI") (code "J") ls refl (sym (w .staged .layouts) ∙ le-leb _ _ q));
-        }
-
--- M to Z
-other-aside : (b : ℕ) → code "M" ≤ b → Aside b
-unfolding isOf bytes
-other-aside b p = record {
-  no-b = ne-eqb b 66 (omega arith);
-  no-c = ne-eqb b 67 (omega arith);
-  no-i = ne-eqb b 73 (omega arith);
-  no-j = ne-eqb b 74 (omega arith);
-  no-time = simp (ne-eqb b 66 (omega arith), ne-eqb b 69 (omega arith), ne-eqb b 70 (omega arith), ne-eqb b 75 (omega arith));
-}
-
-other-later : (b : ℕ) → code "M" ≤ b → (isOf (bytes "AHI") b ≡ false) × (isOf (bytes "AH") b ≡ false)
-unfolding isOf bytes
-other-later b p =
-    (simp (ne-eqb b 65 (omega arith), ne-eqb b 72 (omega arith), ne-eqb b 73 (omega arith)), simp (ne-eqb b 65 (omega arith), ne-eqb b 72 (omega arith)))
-
-module _ (ls : List (List ℕ)) (l : List ℕ) (st : State) (w : Stands ls st) where
-  quiet-stands : 2 ≤ st .stage → st .stage ≤ 5 → st .points ≡ 0 → Untimed l → Stands (ls ++ (l ∷ [])) (moved 5 st)
-  unfolding isOf bytes
-  quiet-stands p q z (differential v) =
-      aside-stands ls l st w 68 5 (v .letter) (record { no-b = refl; no-c = refl; no-i = refl; no-j = refl; no-time = refl }) z
-      (body-staged (st .stage) ls l (w .staged) 68 p q (v .letter) refl refl refl)
-  quiet-stands p q z (remark v) =
-      aside-stands ls l st w 76 5 (v .letter) (record { no-b = refl; no-c = refl; no-i = refl; no-j = refl; no-time = refl }) z
-      (body-staged (st .stage) ls l (w .staged) 76 p q (v .letter) refl refl refl)
-  quiet-stands p q z (other v) =
-      let a = other-later (getD l 0 0) (v .from) in
-      aside-stands ls l st w (getD l 0 0) 5 refl (other-aside (getD l 0 0) (v .from)) z
-      (body-staged (st .stage) ls l (w .staged) (getD l 0 0) p q refl (a .0) (a .1) (ne-eqb (getD l 0 0) 71 (λ e. omega (arith, v .from))))
-
-  events-stand : (t : ℕ) → 2 ≤ st .stage → st .stage ≤ 5 → st .points ≡ 0 → IsELine t l ⊎ IsFLine t l → Stands (ls ++ (l ∷ [])) (clocked t (moved 5 st))
-  unfolding isOf bytes
-  events-stand t p q z (inl v) =
-      let s = e-said l t v in
-      event-stands ls l st w 69 t (s .0) refl refl refl refl refl (e-inv l t (s .1) .1) z (body-staged (st .stage) ls l (w .staged) 69 p q (s .0) refl refl refl)
-  events-stand t p q z (inr v) =
-      let s = f-said l t v in
-      event-stands ls l st w 70 t (s .0) refl refl refl refl refl (f-inv l t (s .1) .1) z (body-staged (st .stage) ls l (w .staged) 70 p q (s .0) refl refl refl)
-
-  body-stands : {m : State} → 2 ≤ st .stage → st .stage ≤ 5 → InBody st l m → Stands (ls ++ (l ∷ [])) m
-  unfolding isOf bytes
-  body-stands p q (head h z d b v) =
-      let k = head-said h l v .0 in
-      head-stands ls l st w h v k d (body-staged (st .stage) ls l (w .staged) 67 p q k refl refl refl)
-  body-stands p q (point h v) =
-      let k = point-said l v .0 in
-      point-stands ls l st w k h (body-staged (st .stage) ls l (w .staged) 67 p q k refl refl refl)
-  body-stands p q (fix f z t v) =
-      let s = b-said (st .flight .fixes) f l v in
-      fix-stands ls l st w (f .time) (s .0) (b-time (st .flight .fixes) l f (s .1)) z (body-staged (st .stage) ls l (w .staged) 66 p q (s .0) refl refl refl)
-  body-stands p q (extra n z t v) =
-      let s = k-said (st .flight .extras) n l v in
-      extra-stands ls l st w n (s .0) (k-time (st .flight .extras) l n (s .1)) z (body-staged (st .stage) ls l (w .staged) 75 p q (s .0) refl refl refl)
-  body-stands p q (event n z t v) = events-stand n p q z v
-  body-stands p q (quiet z v) = quiet-stands p q z v
-
-  header-stands : 1 ≤ st .stage → st .stage ≤ 2 → st .points ≡ 0 → getD l 0 0 ≡ code "H" → Stands (ls ++ (l ∷ [])) (moved 2 st)
-  unfolding isOf bytes
-  header-stands p q z k =
-      aside-stands ls l st w 72 2 k (record { no-b = refl; no-c = refl; no-i = refl; no-j = refl; no-time = refl }) z (header-staged (st .stage) ls l (w .staged) p q k)
-
-  pub stands-next : {p : Part} {m : State} → Leads st l p m → Stands (ls ++ (l ∷ [])) m
-  unfolding isOf bytes
-  stands-next (first z p v) =
-      aside-stands ls l st w 65 1 (v .letter) (record { no-b = refl; no-c = refl; no-i = refl; no-j = refl; no-time = refl }) p
-      (first-staged (st .stage) ls l (w .staged) z (v .letter))
-  stands-next (second d a b p n v) =
-      let s = header-stands a b p (ap (λ x. getD x 0 0) (v .text)) in
-      record {
-        sound = s .sound;
-        staged = s .staged;
-        lines = s .lines;
-        bs = s .bs;
-        declared = s .declared;
-        points = s .points;
-        clock = s .clock;
-        fixes = s .fixes;
-        extras = s .extras;
-      }
-  stands-next (further a b p n v) = header-stands a b p (v .letter)
-  stands-next (fixing i a p v) = fixing-stands ls l st w i v (stays-sound l st (fixing i a p v) (w .sound)) a p
-  stands-next (noting j a b p v) = noting-stands ls l st w j v (stays-sound l st (noting j a b p v) (w .sound)) a b p
-  stands-next (flying a b v) = body-stands a b v
-  stands-next (sealing a b p v) =
-      aside-stands ls l st w 71 6 (v .letter) (record { no-b = refl; no-c = refl; no-i = refl; no-j = refl; no-time = refl }) p
-      (seal-staged (st .stage) ls l (w .staged) a b (v .letter))
-  stands-next (remarking a b p v) =
-      aside-stands ls l st w 76 7 (v .letter) (record { no-b = refl; no-c = refl; no-i = refl; no-j = refl; no-time = refl }) p
-      (remarks-staged (st .stage) ls l (w .staged) a (v .letter))
+  pub stands-next : Stands (ls ++ (l ∷ [])) after
+  stands-next = record {
+    sound = stays-sound l st (judge-leads l st after (w .sound) e .1) (w .sound);
+    staged = rw (by-role .stage) (staged-next (st .stage) (so .stage) ls l (w .staged) leads-on);
+    lines = omega (arith, judged-more l st after e .lines, w .lines, length-next l ls);
+    counts = λ f. omega (arith, counts-more l st after e f, w .counts f, beginning-next l (lineLetter f) ls);
+    declaration = by-role .declaration;
+    clock = clock-next;
+    told = λ f. rw (those-next (layoutLetter f) l ls, letter-tests l .2 f .1) (by-role .told f (those (layoutLetter f) ls) (untold f) (w .told f));
+  }

@@ -2,48 +2,37 @@
 -- Assumes nothing.
 use Prim.Native.Nat.{ℕ}
 use Prim.Native.Char.{code}
-use mathlib.Core.Bool.{Bool, true, not, _&&_}
 use mathlib.Core.List.{List, [], _∷_, _++_, append-assoc}
-use mathlib.Core.Logic.{_⊎_, inl, inr}
-use mathlib.Core.Path.{_≡_, refl, _∙_, ap, subst}
+use mathlib.Core.Path.{_≡_, refl, sym, _∙_, ap, subst}
 use native.Mathlib.Omega.{arith}
-use borrow.Author.Tests.{eqb-false, not-true}
-use lib.Dec.{eqb, lit≤}
+use borrow.Author.Tests.{eqb-false}
+use lib.Dec.{lit≤, eqb}
 use lib.IntN.{pos}
 use lib.ListN.{getD, drop}
-use Rattle.rules.specs.Choice.{bytes}
+use Rattle.rules.specs.Choice.{bytes, Each}
+use Rattle.rules.specs.Families.{lineLetter, layoutOf}
 use Rattle.rules.specs.Degrees.{isPosition}
 use Rattle.rules.specs.Layouts.{emptyLayout}
-use Rattle.rules.specs.Writes.{headText, pointText}
 use Rattle.rules.specs.declared.Entry.{Entry}
-use Rattle.rules.specs.declared.Layout.{Layout}
-use Rattle.rules.specs.declared.Family.{Family}
 use Rattle.rules.specs.declared.Family.the-variants as family
+use Rattle.rules.specs.declared.Layouts.{Layouts}
 use Rattle.rules.specs.declared.Fix.{Fix}
+use Rattle.rules.specs.declared.Seal.{Seal}
+use Rattle.rules.specs.declared.Seal.the-variants as seal
 use Rattle.rules.proofs.Computed.{everything, fileOf}
 use Rattle.rules.proofs.Damaged.{fiveLines, fiveLayout}
-use Rattle.trips.specs.Limits.{isAltitude, goodFixFields}
-use Rattle.trips.proofs.Laws.{and-inv}
+use Rattle.rules.specs.Limits.{isAltitude, goodFixFields}
 use Rattle.trips.proofs.Texts.{areValid}
-use Rattle.demands.specs.Grammar.{Each, IsText, july, AtMostOne, absent, given, Timed, fix, event, satellites, extra, Untimed, differential, remark, other, Items, done, timed, untimed, Body, undeclared, declared, none, column, linesIn, Meets, written}
-use Rattle.demands.proofs.Laws.{each-map, each-join, each-cut, are-valid}
-use Rattle.demands.proofs.Rows.{width-exactly, rule-exactly}
-use Rattle.demands.proofs.Valued.{b-letter, k-letter}
+use Rattle.demands.specs.Coming.{isAmong}
+use Rattle.demands.specs.Grammar.{IsText, july, AtMostOne, absent, given, Timed, columned, event, satellites, Items, done, timed, untimed, Body, undeclared, declared, none, column, linesIn, Meets, joinLines}
+use Rattle.laws.proofs.Splitting.{lines-are-text}
+use Rattle.demands.proofs.Sections.{text-is}
+use Rattle.demands.proofs.Laws.{each-map, each-join, each-cut, are-valid, width-exactly, rule-exactly}
+use Rattle.demands.proofs.Leading.{every, none-pass}
+use Rattle.demands.proofs.EachLine.{columned-letter, head-said, point-said}
+use Rattle.demands.proofs.Reading.{Aside, other-than, untimed-aside, front, back, in-three, front-aside, back-by}
 
 -- ---- the file of five lines
-
--- neither CR nor LF, as a test
-isText : List ℕ → Bool
-isText [] = true
-isText (b ∷ l) = not (eqb b 13) && not (eqb b 10) && isText l
-
-text-there : (l : List ℕ) → isText l ≡ true → IsText l
-unfolding isText
-text-there [] e = tt
-text-there (b ∷ l) e =
-    let h = and-inv (not (eqb b 13) && not (eqb b 10)) (isText l) e in
-    let g = and-inv (not (eqb b 13)) (not (eqb b 10)) (h .0) in
-    ((eqb-false b 13 (not-true _ (g .0)), eqb-false b 10 (not-true _ (g .1))), text-there l (h .1))
 
 fxa : Entry
 fxa = record { first = 36; last = 38; code = 0x465841 }
@@ -61,8 +50,8 @@ theFix = record {
   gnss = record { metres = pos 120 };
 }
 
-pub five-meet : Meets fiveLines
-unfolding everything fileOf written isText areValid fxa siu theFix goodFixFields isPosition isAltitude
+pub five-meet : Meets seal.Strict fiveLines
+unfolding everything fileOf joinLines areValid fxa siu theFix goodFixFields isPosition isAltitude
 five-meet = record {
   least = lit≤ tt;
   most = lit≤ tt;
@@ -70,26 +59,18 @@ five-meet = record {
     recorder = bytes "AXYZ001";
     day = bytes "HFDTE150724";
     headers = [];
-    fixLayout = bytes "I023638FXA3940SIU" ∷ [];
-    extraLayout = [];
+    told = every (λ f. List (List ℕ)) (bytes "I023638FXA3940SIU" ∷ []) [];
     body = bytes "B1200005130000N00015000WA001000012001208" ∷ [];
     seal = bytes "GABC" ∷ [];
     remarks = [];
   };
   bytes = refl;
-  texts = (
-    text-there (bytes "AXYZ001") refl,
-    (
-      text-there (bytes "HFDTE150724") refl,
-      (
-        text-there (bytes "I023638FXA3940SIU") refl,
-        (text-there (bytes "B1200005130000N00015000WA001000012001208") refl, (text-there (bytes "GABC") refl, tt)),
-      ),
-    ),
-  );
+  texts =
+      let h = lines-are-text fiveLines in
+      let b : IsText (bytes "B1200005130000N00015000WA001000012001208") = text-is (bytes "B1200005130000N00015000WA001000012001208") (h .1 .1 .1 .0) in
+      (text-is (bytes "AXYZ001") (h .0), (text-is (bytes "HFDTE150724") (h .1 .0), (text-is (bytes "I023638FXA3940SIU") (h .1 .1 .0), (b, (text-is (bytes "GABC") (h .1 .1 .1 .1 .0), tt)))));
   date = record { day = 15; month = 7; year = 2024 };
-  fixes = fiveLayout;
-  extras = emptyLayout;
+  layouts = record { b = fiveLayout; k = emptyLayout };
   times = 43200 ∷ [];
   keeps = record {
     recorder = record {
@@ -100,7 +81,7 @@ five-meet = record {
     };
     day = record { text = refl; day = record { from = lit≤ tt; to = lit≤ tt; days = 31; month = july; low = lit≤ tt; high = lit≤ tt } };
     headers = tt;
-    fixLayout = given (record {
+    told = every (λ f. AtMostOne f (layoutOf f (record { b = fiveLayout; k = emptyLayout })) (every (λ f. List (List ℕ)) (bytes "I023638FXA3940SIU" ∷ []) [] f)) (given (record {
       entries = fxa ∷ siu ∷ [];
       tiles = (
         record { starts = refl; ends = lit≤ tt; spelt = lit≤ tt; word = refl; wide = width-exactly 0x465841 3 .0 refl },
@@ -110,17 +91,20 @@ five-meet = record {
       text = refl;
       short = lit≤ tt;
       slots = refl;
-    });
-    extraLayout = absent;
-    body = undeclared (timed (fix theFix refl (record {
-      tail = bytes "01208";
-      text = refl;
-      fields = refl;
-      columns = column (bytes "012") refl (are-valid (bytes "012") refl) (rule-exactly 0x465841 (bytes "012") .0 refl)
-          (column (bytes "08") refl (are-valid (bytes "08") refl) (rule-exactly 0x534955 (bytes "08") .0 refl) none);
-    })) done);
+    })) absent;
+    body = undeclared (timed (columned family.B (
+      theFix,
+      refl,
+      record {
+        tail = bytes "01208";
+        text = refl;
+        fields = refl;
+        columns = column (bytes "012") refl (are-valid (bytes "012") refl) (rule-exactly 0x465841 (bytes "012") .0 refl)
+            (column (bytes "08") refl (are-valid (bytes "08") refl) (rule-exactly 0x534955 (bytes "08") .0 refl) none);
+      },
+    )) done);
     order = tt;
-    seal = (record { letter = refl; shape = record { long = lit≤ tt; short = lit≤ tt; valid = are-valid (bytes "GABC") refl } }, tt);
+    seals = (record { letter = refl; shape = record { long = lit≤ tt; short = lit≤ tt; valid = are-valid (bytes "GABC") refl } }, tt);
     sealed = lit≤ tt;
     remarks = tt;
   };
@@ -132,39 +116,27 @@ five-meet = record {
 abbrev NoG : List ℕ → Type 0
 NoG l = getD l 0 0 ≡ code "G" → ⊥
 
--- a G line or an L line
-abbrev SealOrRemark : List ℕ → Type 0
-SealOrRemark l = (getD l 0 0 ≡ code "G") ⊎ (getD l 0 0 ≡ code "L")
+aside-no-g : (l : List ℕ) → Aside l → NoG l
+unfolding isAmong bytes
+aside-no-g l n = other-than (bytes "BCGK") l (code "G") refl n
 
-layout-no-g : (f : Family) {layout : Layout} {ls : List (List ℕ)} → AtMostOne f layout ls → Each NoG ls
-layout-no-g f absent = tt
-layout-no-g family.B (given w) = ((λ g. let e = ap (λ x. getD x 0 0) (w .text) in omega arith), tt)
-layout-no-g family.K (given w) = ((λ g. let e = ap (λ x. getD x 0 0) (w .text) in omega arith), tt)
-
-untimed-no-g : (l : List ℕ) → Untimed l → NoG l
-untimed-no-g l (differential w) g = omega (arith, w .letter)
-untimed-no-g l (remark w) g = omega (arith, w .letter)
-untimed-no-g l (other w) g = omega (arith, w .from)
-
-module _ {fixes extras : Layout} where
-  timed-no-g : {t : ℕ} (l : List ℕ) → Timed fixes extras t l → NoG l
-  timed-no-g l (fix f i w) g = let e = b-letter fixes f l w in omega arith
+module _ {layouts : Layouts} where
+  timed-no-g : {t : ℕ} (l : List ℕ) → Timed layouts t l → NoG l
+  timed-no-g {t} l (columned f w) g = eqb-false (lineLetter f) (code "G") (none-pass (λ f. eqb (lineLetter f) (code "G")) refl f) (sym (columned-letter f (layoutOf f layouts) t l w) ∙ g)
   timed-no-g l (event w) g = let e = ap (λ x. getD x 0 0) (w .text) in omega arith
   timed-no-g l (satellites w) g = let e = ap (λ x. getD x 0 0) (w .text) in omega arith
-  timed-no-g {t} l (extra w) g = let e = k-letter extras t l w in omega arith
 
-  items-no-g : {ls : List (List ℕ)} {ts : List ℕ} → Items fixes extras ls ts → Each NoG ls
+  items-no-g : {ls : List (List ℕ)} {ts : List ℕ} → Items layouts ls ts → Each NoG ls
   items-no-g done = tt
   items-no-g (timed {l = l} w r) = (timed-no-g l w, items-no-g r)
-  items-no-g (untimed {l = l} w r) = (untimed-no-g l w, items-no-g r)
+  items-no-g (untimed {l = l} w r) = (aside-no-g l (untimed-aside w), items-no-g r)
 
-  body-no-g : {ls : List (List ℕ)} {ts : List ℕ} → Body fixes extras ls ts → Each NoG ls
-  unfolding headText pointText
+  body-no-g : {ls : List (List ℕ)} {ts : List ℕ} → Body layouts ls ts → Each NoG ls
   body-no-g (undeclared i) = items-no-g i
   body-no-g (declared before hd points after h i no-b w ps c j) =
       each-join NoG before (hd ∷ (points ++ after)) (items-no-g i) (
-        (λ g. let e = ap (λ x. getD x 0 0) (w .text) in omega arith),
-        each-join NoG points after (each-map points (λ l v g. let e = ap (λ x. getD x 0 0) (v .text) in omega arith) ps) (items-no-g j),
+        (λ g. omega (arith, head-said h hd w .0)),
+        each-join NoG points after (each-map points (λ l v g. omega (arith, point-said l v .0)) ps) (items-no-g j),
       )
 
 -- where no line of the front is a G line, what stands behind a G line stands behind the front
@@ -174,33 +146,13 @@ behind-front [] back before g after n k e = (before, e)
 behind-front (l ∷ front) back [] g after n k e = absurd (n .0 (ap (λ x. getD (getD x 0 []) 0 0) e ∙ k))
 behind-front (l ∷ front) back (b ∷ before) g after n k e = behind-front front back before g after (n .1) k (ap (drop 1) e)
 
--- behind a G line only G and L lines come
-after-g : {file : List ℕ} (m : Meets file) (before : List (List ℕ)) (g : List ℕ) (after : List (List ℕ)) → linesIn (m .parts) ≡ before ++ (g ∷ after)
-    → getD g 0 0 ≡ code "G" → Each SealOrRemark after
-after-g m before g after e k =
+pub no-b-after-g : {seal : Seal} {file : List ℕ} (m : Meets seal file) (before : List (List ℕ)) (g : List ℕ) (after : List (List ℕ)) → linesIn (m .parts) ≡ before ++ (g ∷ after)
+    → getD g 0 0 ≡ code "G" → Each (λ l. getD l 0 0 ≡ code "B" → ⊥) after
+no-b-after-g m before g after e k =
     let p = m .parts in
     let w = m .keeps in
-    let front : List (List ℕ) = p .recorder ∷ p .day ∷ (p .headers ++ (p .fixLayout ++ (p .extraLayout ++ p .body))) in
-    let back : List (List ℕ) = p .seal ++ p .remarks in
-    let n : Each NoG front = (
-      (λ z. omega (arith, w .recorder .letter)),
-      (
-        (λ z. let i = ap (λ x. getD x 0 0) (w .day .text) in omega arith),
-        each-join NoG (p .headers) _ (each-map (p .headers) (λ l h z. omega (arith, h .letter)) (w .headers))
-            (each-join NoG (p .fixLayout) _ (layout-no-g family.B (w .fixLayout))
-            (each-join NoG (p .extraLayout) (p .body) (layout-no-g family.K (w .extraLayout)) (body-no-g (w .body)))),
-      ),
-    ) in
-    let i : front ++ back ≡ linesIn p = simp append-assoc in
-    let s = behind-front front back before g after n k (i ∙ e) in
-    let b : Each SealOrRemark back =
-    each-join SealOrRemark (p .seal) (p .remarks) (each-map (p .seal) (λ l h. inl (h .letter)) (w .seal)) (each-map (p .remarks) (λ l h. inr (h .letter)) (w .remarks)) in
-    each-cut SealOrRemark (s .0) (g ∷ after) (subst (Each SealOrRemark) (s .1) b) .1 .1
-
-pub no-b-after-g : {file : List ℕ} (m : Meets file) (before : List (List ℕ)) (g : List ℕ) (after : List (List ℕ)) → linesIn (m .parts) ≡ before ++ (g ∷ after)
-    → getD g 0 0 ≡ code "G" → Each (λ l. getD l 0 0 ≡ code "B" → ⊥) after
-no-b-after-g m before g after e k = each-map after no-b (after-g m before g after e k)
-  where
-    no-b : (l : List ℕ) → SealOrRemark l → getD l 0 0 ≡ code "B" → ⊥
-    no-b l (inl i) b = omega arith
-    no-b l (inr i) b = omega arith
+    let n : Each NoG (front w ++ p .body) = each-join NoG (front w) (p .body) (each-map (front w) aside-no-g (front-aside w)) (body-no-g (w .body)) in
+    let s = behind-front (front w ++ p .body) (back w) before g after n k (append-assoc (front w) (p .body) (back w) ∙ sym (in-three w) ∙ e) in
+    let NoB : List ℕ → Type 0 = λ l. getD l 0 0 ≡ code "B" → ⊥ in
+    let b : Each NoB (back w) = back-by w NoB (λ l h e. omega (arith, h .letter)) (λ l h e. omega (arith, h .letter)) in
+    each-cut NoB (s .0) (g ∷ after) (subst (Each NoB) (s .1) b) .1 .1

@@ -18,8 +18,8 @@ use Rattle.rules.specs.Writes.{crlf, extraText, wroteTold, written, outAfter}
 use Rattle.rules.specs.Promises.{Written}
 use Rattle.rules.specs.declared.Reason.the-variants.{BadValue, NoRoom}
 use Rattle.rules.specs.declared.Wrote.{Wrote}
-use Rattle.trips.specs.Limits.{isClean, badTail, goodTail, goodExtra}
-use Rattle.trips.proofs.Laws.{false-true, refuses-says}
+use Rattle.rules.specs.Limits.{isClean, badTail, goodTail, goodExtra}
+use Rattle.rules.proofs.Inverse.{false-true, refuses-says}
 use Rattle.trips.proofs.LineTrip.{LineTrip, line-limits}
 use Rattle.demands.specs.BothWays.{InOutput, ReadsAs, Ways, BothWays}
 

@@ -9,19 +9,20 @@ use mathlib.Core.Option.{Option}
 use mathlib.Core.Path.{_≡_}
 use lib.Dec.{eqb, leb}
 use lib.ListN.{length, getD, drop}
-use Rattle.rules.specs.Choice.{given, byte}
+use Rattle.rules.specs.Families.{firstStart}
+use Rattle.rules.specs.Choice.{given, byte, Each}
 use Rattle.rules.specs.Chars.{isValid, isCode, codesAt}
 use Rattle.rules.specs.Numbers.{numberAt}
 use Rattle.rules.specs.Fields.{timeAt, dateAt, latitudeAt, longitudeAt, altitudeAt, isEither}
 use Rattle.rules.specs.Listed.{codeAt, widthFits, keepsRule}
-use Rattle.rules.specs.Layouts.{firstStart, spanOf, columnText}
+use Rattle.rules.specs.Layouts.{spanOf, columnText}
 use Rattle.rules.specs.Lines.{kindOf, isDateMark, plannedAt}
+use Rattle.rules.specs.Roles.{roleOf}
 use Rattle.rules.specs.declared.Entry.{Entry}
 use Rattle.rules.specs.declared.Family.{Family}
 use Rattle.rules.specs.declared.Family.the-variants as family
-use Rattle.rules.specs.declared.Kind.{Kind}
-use Rattle.rules.specs.declared.Kind.the-variants as kind
-use Rattle.demands.specs.Grammar.{Each}
+use Rattle.rules.specs.declared.Role.{Role}
+use Rattle.rules.specs.declared.Role.the-variants as role
 use Rattle.demands.specs.Coming.{orZero, isOpen, mayCome, entryOf, entriesTold, sizeOf, lastTime, isInTime}
 
 -- one row of the table "No. | Name | Given when | Line, byte", and whether the line passes it
@@ -99,7 +100,7 @@ entryChecks (suc left) l at start before =
     ∷ check 12 (at + 1) (widthFits (entryOf l at .code) (entryOf l at .last - entryOf l at .first + 1))
     ∷ entryChecks left l (at + 7) (entryOf l at .last + 1) (before ++ (entryOf l at ∷ []))
 
--- ---- "in a line 3 to 15 in this order": 7 to 14, kind by kind; "9 FORM: first field against its rule; line, field's first byte"
+-- ---- "in a line 3 to 15 in this order": 7 to 14, role by role; "9 FORM: first field against its rule; line, field's first byte"
 
 -- "I, J 3 to 99"; "In I and J, NN and the length against it come first (9, byte 2), then entries from the left"; "The length is 3 + 7 × NN. The first entry starts at
 -- 36 (I) or 8 (J)"
@@ -151,49 +152,60 @@ fixChecks l =
     ∷ check 9 31 (isThere (altitudeAt l (byte 31)))
     ∷ []
 
--- 7 to 14 of a line of this kind that comes after the lines ls
-abbrev pub kindChecks : Kind → List (List ℕ) → List ℕ → List Check
--- "A 7 to 255"; "A: 3 code characters for the maker, 3 for the serial, then text."
-kindChecks kind.A ls l = shapeChecks 7 255 false l ++ (check 9 2 (codesAt l (byte 2) 3) ∷ check 9 5 (codesAt l (byte 5) 3) ∷ [])
--- "columns from 36", by the I line before
-kindChecks kind.B ls l =
-    sizeChecks family.B (entriesTold family.B ls) l ++ (fixChecks l ++ (columnChecks l (entriesTold family.B ls) ++ (timeCheck ls l ∷ [])))
--- "a C head, then at once its point lines"
-kindChecks kind.C ls l = cond (isOpen ls) (pointChecks l) (headChecks l)
--- "D 6"; "D: 1 or 2, then 4 code characters."
-kindChecks kind.D ls l =
-    shapeChecks 6 6 false l ++ (check 9 2 (isEither (getD l (byte 2) 0) (code "1") (code "2")) ∷ check 9 3 (codesAt l (byte 3) 4) ∷ [])
+-- the fields of a line of a family: of a B line those of a fix; "K: time 2 to 7"
+abbrev pub fieldChecks : Family → List ℕ → List Check
+fieldChecks family.B l = fixChecks l
+fieldChecks family.K l = check 9 2 (isThere (timeAt l (byte 2))) ∷ []
+
+-- "B and K exactly what their layout gives"; "columns from 36", "columns from 8"
+abbrev pub lineChecks : Family → List Entry → List ℕ → List Check
+lineChecks f es l = sizeChecks f es l ++ (fieldChecks f l ++ columnChecks l es)
+
 -- "E 10 to 255"; "E: time, 3 code characters, text."
-kindChecks kind.E ls l =
-    shapeChecks 10 255 false l ++ (check 9 2 (isThere (timeAt l (byte 2))) ∷ check 9 8 (codesAt l (byte 8) 3) ∷ timeCheck ls l ∷ [])
+abbrev pub eventChecks : List ℕ → List Check
+eventChecks l = shapeChecks 10 255 false l ++ (check 9 2 (isThere (timeAt l (byte 2))) ∷ check 9 8 (codesAt l (byte 8) 3) ∷ [])
+
 -- "F 7 to 255"; "F with an odd half pair is 9 at byte 8, after its time and before its pairs."
-kindChecks kind.F ls l =
+abbrev pub satelliteChecks : List ℕ → List Check
+satelliteChecks l =
     shapeChecks 7 255 false l ++ (
     check 9 2 (isThere (timeAt l (byte 2)))
     ∷ check 9 8 (eqb ((length l - 7) % 2) 0)
-    ∷ (pairChecks (byte 8) (drop (byte 8) l) ++ (timeCheck ls l ∷ [])))
--- "G 2 to 255"; "The G code is carried and never judged."
-kindChecks kind.G ls l = shapeChecks 2 255 false l
--- "line 2 is H, then further H lines"
-kindChecks kind.H ls l = cond (eqb (length ls) 1) (dateChecks l) (headerChecks l)
-kindChecks kind.I ls l = layoutChecks family.B l
-kindChecks kind.J ls l = layoutChecks family.K l
--- "K: time 2 to 7, columns from 8.", by the J line before
-kindChecks kind.K ls l =
-    sizeChecks family.K (entriesTold family.K ls) l ++ (
-    check 9 2 (isThere (timeAt l (byte 2)))
-    ∷ (columnChecks l (entriesTold family.K ls) ++ (timeCheck ls l ∷ [])))
--- "L 1 to 99"
-kindChecks kind.L ls l = shapeChecks 1 99 false l
--- "other 1 to 255"; "M to Z are 'other' and carried (h)."
-kindChecks kind.Other ls l = shapeChecks 1 255 false l
-kindChecks kind.NoKind ls l = []
+    ∷ pairChecks (byte 8) (drop (byte 8) l))
 
--- "4 EMPTY_LINE: length 0; line, 1", "5 KIND: first byte not A to Z; line, 1", "6 ORDER: kind not allowed here; line, 1", and then those of its kind, of a line l that
+-- 7 to 13 of a line with a time, and then 14
+abbrev pub thenTime : List Check → List (List ℕ) → List ℕ → List Check
+thenTime cs ls l = cs ++ (timeCheck ls l ∷ [])
+
+-- 7 to 14 of a line of this role that comes after the lines ls
+abbrev pub roleChecks : Role → List (List ℕ) → List ℕ → List Check
+-- "A 7 to 255"; "A: 3 code characters for the maker, 3 for the serial, then text."
+roleChecks role.Opens ls l = shapeChecks 7 255 false l ++ (check 9 2 (codesAt l (byte 2) 3) ∷ check 9 5 (codesAt l (byte 5) 3) ∷ [])
+-- "line 2 is H, then further H lines"
+roleChecks role.Heads ls l = cond (eqb (length ls) 1) (dateChecks l) (headerChecks l)
+roleChecks (role.Tells f) ls l = layoutChecks f l
+-- by the I line before, or by the J line before
+roleChecks (role.Columned f) ls l = thenTime (lineChecks f (entriesTold f ls) l) ls l
+-- "a C head, then at once its point lines"
+roleChecks role.Declares ls l = cond (isOpen ls) (pointChecks l) (headChecks l)
+roleChecks role.Event ls l = thenTime (eventChecks l) ls l
+roleChecks role.Satellites ls l = thenTime (satelliteChecks l) ls l
+-- "D 6"; "D: 1 or 2, then 4 code characters."
+roleChecks role.Differential ls l =
+    shapeChecks 6 6 false l ++ (check 9 2 (isEither (getD l (byte 2) 0) (code "1") (code "2")) ∷ check 9 3 (codesAt l (byte 3) 4) ∷ [])
+-- "G 2 to 255"; "The G code is carried and never judged."
+roleChecks role.Seals ls l = shapeChecks 2 255 false l
+-- "L 1 to 99"
+roleChecks role.Remark ls l = shapeChecks 1 99 false l
+-- "other 1 to 255"; "M to Z are 'other' and carried (h)."
+roleChecks role.Other ls l = shapeChecks 1 255 false l
+roleChecks role.NoRole ls l = []
+
+-- "4 EMPTY_LINE: length 0; line, 1", "5 KIND: first byte not A to Z; line, 1", "6 ORDER: kind not allowed here; line, 1", and then those of its role, of a line l that
 -- comes after the lines ls
 unfoldable pub checksOf : List (List ℕ) → List ℕ → List Check
 checksOf ls l =
     check 4 1 (leb 1 (length l))
     ∷ check 5 1 (leb (code "A") (getD l 0 0) && leb (getD l 0 0) (code "Z"))
-    ∷ check 6 1 (mayCome (kindOf (getD l 0 0)) ls)
-    ∷ kindChecks (kindOf (getD l 0 0)) ls l
+    ∷ check 6 1 (mayCome (roleOf (kindOf (getD l 0 0))) ls)
+    ∷ roleChecks (roleOf (kindOf (getD l 0 0))) ls l

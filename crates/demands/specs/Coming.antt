@@ -9,18 +9,18 @@ use mathlib.Core.Option.{Option, none, some}
 use mathlib.Core.Path.{_≡_}
 use lib.Dec.{eqb, leb, ltb}
 use lib.ListN.{length, getD}
-use Rattle.rules.specs.Choice.{given, byte, bytes}
+use Rattle.rules.specs.Families.{layoutLetter}
+use Rattle.rules.specs.Choice.{given, byte, bytes, Each}
 use Rattle.rules.specs.Numbers.{numberAt}
 use Rattle.rules.specs.Fields.{timeAt}
 use Rattle.rules.specs.Listed.{codeAt}
-use Rattle.rules.specs.Reads.{layoutLetter}
 use Rattle.rules.specs.declared.Entry.{Entry}
 use Rattle.rules.specs.declared.Family.{Family}
 use Rattle.rules.specs.declared.Family.the-variants as family
 use Rattle.rules.specs.declared.Head.{Head}
-use Rattle.rules.specs.declared.Kind.{Kind}
-use Rattle.rules.specs.declared.Kind.the-variants as kind
-use Rattle.demands.specs.Grammar.{Each, IsHeadLine, IsPointLine, Follows, AtMostOne, laid, beginning}
+use Rattle.rules.specs.declared.Role.{Role}
+use Rattle.rules.specs.declared.Role.the-variants as role
+use Rattle.demands.specs.Grammar.{IsHeadLine, IsPointLine, Follows, AtMostOne, laid, beginning}
 
 -- a field's value, 0 where it could not be read
 abbrev pub orZero : Option ℕ → ℕ
@@ -29,14 +29,14 @@ orZero o = given o 0 λ v. v
 -- ---- letters
 
 -- one of these letters
-unfoldable pub isOf : List ℕ → ℕ → Bool
-isOf [] b = false
-isOf (x ∷ xs) b = eqb b x || isOf xs b
+unfoldable pub isAmong : List ℕ → ℕ → Bool
+isAmong [] b = false
+isAmong (x ∷ xs) b = eqb b x || isAmong xs b
 
 -- each line begins with one of these letters
 unfoldable pub only : List ℕ → List (List ℕ) → Bool
 only xs [] = true
-only xs (l ∷ ls) = isOf xs (getD l 0 0) && only xs ls
+only xs (l ∷ ls) = isAmong xs (getD l 0 0) && only xs ls
 
 -- no line begins with this letter
 abbrev pub without : ℕ → List (List ℕ) → Bool
@@ -77,33 +77,36 @@ pub record Open (ls : List (List ℕ)) : Type 0 where
 unfoldable pub isBody : List (List ℕ) → Bool
 isBody ls = leb 2 (length ls) && without (code "G") ls
 
+-- "Line 1 is A, line 2 is H, then further H lines, then at most one I, then at most one J.": the letters of the lines before an I line, and before a J line
+abbrev pub lettersBefore : Family → List ℕ
+unfolding bytes
+lettersBefore family.B = bytes "AH"
+lettersBefore family.K = bytes "AHI"
+
 -- "Line 1 is A, line 2 is H, then further H lines, then at most one I, then at most one J. After these come C, D, E, F, B, K, L and other, with no further A, H,
 -- I, J. At most one declaration (h), begun before the first B: a C head, then at once its point lines .. Then one or more G lines. After the first G only G or L;
 -- after an L that follows a G, only L. So a B after G is refused, as 000 A2.3.1 demands."
-unfoldable pub mayCome : Kind → List (List ℕ) → Bool
+unfoldable pub mayCome : Role → List (List ℕ) → Bool
 unfolding bytes
 -- line 1, and "no further A"
-mayCome kind.A ls = eqb (length ls) 0
+mayCome role.Opens ls = eqb (length ls) 0
 -- behind line 1, among H lines only
-mayCome kind.H ls = leb 1 (length ls) && only (bytes "AH") ls
--- behind line 2, and behind H lines only, so there was no I yet
-mayCome kind.I ls = leb 2 (length ls) && only (bytes "AH") ls
--- likewise, perhaps behind the I
-mayCome kind.J ls = leb 2 (length ls) && only (bytes "AHI") ls
+mayCome role.Heads ls = leb 1 (length ls) && only (bytes "AH") ls
+-- behind line 2, and behind no later layout line
+mayCome (role.Tells f) ls = leb 2 (length ls) && only (lettersBefore f) ls
 -- the next point of the declaration, or the head of the only one, before the first B
-mayCome kind.C ls = isBody ls && (isOpen ls || (without (code "C") ls && without (code "B") ls))
+mayCome role.Declares ls = (isOpen ls || (without (code "C") ls && without (code "B") ls)) && isBody ls
 -- "at once its point lines": no other kind comes between them
-mayCome kind.B ls = isBody ls && not (isOpen ls)
-mayCome kind.D ls = isBody ls && not (isOpen ls)
-mayCome kind.E ls = isBody ls && not (isOpen ls)
-mayCome kind.F ls = isBody ls && not (isOpen ls)
-mayCome kind.K ls = isBody ls && not (isOpen ls)
-mayCome kind.Other ls = isBody ls && not (isOpen ls)
+mayCome (role.Columned f) ls = not (isOpen ls) && isBody ls
+mayCome role.Event ls = not (isOpen ls) && isBody ls
+mayCome role.Satellites ls = not (isOpen ls) && isBody ls
+mayCome role.Differential ls = not (isOpen ls) && isBody ls
+mayCome role.Other ls = not (isOpen ls) && isBody ls
 -- before and after the first G
-mayCome kind.L ls = leb 2 (length ls) && not (isOpen ls)
+mayCome role.Remark ls = not (isOpen ls) && leb 2 (length ls)
 -- the first G, or one right behind a G
-mayCome kind.G ls = leb 2 (length ls) && not (isOpen ls) && (without (code "G") ls || endsWith (code "G") ls)
-mayCome kind.NoKind ls = false
+mayCome role.Seals ls = not (isOpen ls) && (leb 2 (length ls) && (without (code "G") ls || endsWith (code "G") ls))
+mayCome role.NoRole ls = false
 
 -- ---- the columns that an I or a J line tells
 
@@ -116,16 +119,19 @@ unfoldable pub entriesIn : ℕ → List ℕ → ℕ → List Entry
 entriesIn zero l at = []
 entriesIn (suc left) l at = entryOf l at ∷ entriesIn left l (at + 7)
 
--- "NN, then NN entries": those of the I line, for B lines, or of the J line, for K lines; none where there is "no such line"
-unfoldable pub entriesTold : Family → List (List ℕ) → List Entry
-entriesTold f [] = []
-entriesTold f (l ∷ ls) =
-    cond (eqb (getD l 0 0) (layoutLetter f)) (entriesIn (orZero (numberAt l (byte 2) 2)) l (byte 4)) (entriesTold f ls)
-
 -- the lines that begin with this letter
 unfoldable pub those : ℕ → List (List ℕ) → List (List ℕ)
 those x [] = []
 those x (l ∷ ls) = cond (eqb (getD l 0 0) x) (l ∷ those x ls) (those x ls)
+
+-- "NN, then NN entries": those of the first of these lines
+abbrev pub firstEntries : List (List ℕ) → List Entry
+firstEntries [] = []
+firstEntries (l ∷ ls) = entriesIn (orZero (numberAt l (byte 2) 2)) l (byte 4)
+
+-- the entries of the I line, for B lines, or of the J line, for K lines; none where there is "no such line"
+abbrev pub entriesTold : Family → List (List ℕ) → List Entry
+entriesTold f ls = firstEntries (those (layoutLetter f) ls)
 
 -- the last FF, where there is one, else n
 unfoldable pub endsAt : ℕ → List Entry → ℕ
@@ -143,11 +149,11 @@ sizeOf family.K es = endsAt 7 es
 unfoldable pub lastTime : List (List ℕ) → Option ℕ
 unfolding bytes
 lastTime [] = none
-lastTime (l ∷ ls) = given (lastTime ls) (cond (isOf (bytes "BEFK") (getD l 0 0)) (timeAt l (byte 2)) none) λ t. some t
+lastTime (l ∷ ls) = given (lastTime ls) (cond (isAmong (bytes "BEFK") (getD l 0 0)) (timeAt l (byte 2)) none) λ t. some t
 
 -- "B, E, F and K lines run in time order."
 abbrev pub IsTimed : List ℕ → Type 0
-IsTimed l = isOf (code "B" ∷ code "E" ∷ code "F" ∷ code "K" ∷ []) (getD l 0 0) ≡ true
+IsTimed l = isAmong (code "B" ∷ code "E" ∷ code "F" ∷ code "K" ∷ []) (getD l 0 0) ≡ true
 
 abbrev pub NoTime : List ℕ → Type 0
 NoTime l = IsTimed l → timeAt l (byte 2) ≡ none
@@ -171,8 +177,7 @@ pub record Latest (ls : List (List ℕ)) (t : ℕ) : Type 0 where
 pub record Meant (ls : List (List ℕ)) : Type 0 where
   pub declaration : (isOpen ls ≡ true) ↔ Open ls
   -- "at most one I", "at most one J", and their entries
-  pub fixes : AtMostOne family.B (laid (entriesTold family.B ls)) (those (code "I") ls)
-  pub extras : AtMostOne family.K (laid (entriesTold family.K ls)) (those (code "J") ls)
+  pub told : (f : Family) → AtMostOne f (laid (entriesTold f ls)) (those (layoutLetter f) ls)
   -- the time before is that of the last timed line, and from it on a time is in order where it follows it
   pub latest : (t : ℕ) → lastTime ls ≡ some t → Latest ls t
   pub no-time : lastTime ls ≡ none → Each NoTime ls

@@ -1,4 +1,4 @@
--- Document 01, 'Lines' and 'Fields': the letters of each kind, and what it means that a field could be read, apart from how it is read: the bytes there are the text
+-- Document 01, 'Lines' and 'Fields': the letters of each role, and what it means that a field could be read, apart from how it is read: the bytes there are the text
 -- of a value within its limits.
 use Prim.Native.Nat.{ℕ, _≤_, _<_, _^_}
 use Prim.Native.Char.{code}
@@ -9,7 +9,7 @@ use mathlib.Core.Option.{Option, some}
 use mathlib.Core.Path.{_≡_}
 use lib.Dec.{ltb}
 use lib.ListN.{length, drop}
-use Rattle.rules.specs.Choice.{byte}
+use Rattle.rules.specs.Choice.{byte, Each}
 use Rattle.rules.specs.Chars.{isCode, codesAt}
 use Rattle.rules.specs.Numbers.{numberAt, digitsOf}
 use Rattle.rules.specs.Fields.{timeAt, timeText, dateAt, dateText, latitudeAt, latitudeText, longitudeAt, longitudeText, altitudeAt, altitudeText, isEither}
@@ -17,28 +17,29 @@ use Rattle.rules.specs.Degrees.{isLatitude, isLongitude}
 use Rattle.rules.specs.Listed.{codeAt, codeText, isCodeWord}
 use Rattle.rules.specs.Lines.{kindOf, isDateMark, plannedAt}
 use Rattle.rules.specs.Writes.{plannedText}
-use Rattle.rules.specs.declared.Kind.{Kind}
-use Rattle.rules.specs.declared.Kind.the-variants as kind
-use Rattle.trips.specs.Limits.{isTime, isDate, isPlanned, isAltitude}
-use Rattle.demands.specs.Grammar.{Each}
+use Rattle.rules.specs.Roles.{roleOf}
+use Rattle.rules.specs.declared.Family.the-variants as family
+use Rattle.rules.specs.declared.Role.{Role}
+use Rattle.rules.specs.declared.Role.the-variants as role
+use Rattle.rules.specs.Limits.{isTime, isDate, isPlanned, isAltitude}
 use Rattle.demands.specs.Checks.{isThere}
 
 -- "The first byte, A to Z, is the kind. M to Z are 'other' and carried (h)."
-abbrev pub Letter : Kind → ℕ → Type 0
-Letter kind.A b = b ≡ code "A"
-Letter kind.B b = b ≡ code "B"
-Letter kind.C b = b ≡ code "C"
-Letter kind.D b = b ≡ code "D"
-Letter kind.E b = b ≡ code "E"
-Letter kind.F b = b ≡ code "F"
-Letter kind.G b = b ≡ code "G"
-Letter kind.H b = b ≡ code "H"
-Letter kind.I b = b ≡ code "I"
-Letter kind.J b = b ≡ code "J"
-Letter kind.K b = b ≡ code "K"
-Letter kind.L b = b ≡ code "L"
-Letter kind.Other b = (code "M" ≤ b) × (b ≤ code "Z")
-Letter kind.NoKind b = (b < code "A") ⊎ (code "Z" < b)
+abbrev pub Letter : Role → ℕ → Type 0
+Letter role.Opens b = b ≡ code "A"
+Letter role.Heads b = b ≡ code "H"
+Letter (role.Tells family.B) b = b ≡ code "I"
+Letter (role.Tells family.K) b = b ≡ code "J"
+Letter (role.Columned family.B) b = b ≡ code "B"
+Letter (role.Columned family.K) b = b ≡ code "K"
+Letter role.Declares b = b ≡ code "C"
+Letter role.Event b = b ≡ code "E"
+Letter role.Satellites b = b ≡ code "F"
+Letter role.Differential b = b ≡ code "D"
+Letter role.Seals b = b ≡ code "G"
+Letter role.Remark b = b ≡ code "L"
+Letter role.Other b = (code "M" ≤ b) × (b ≤ code "Z")
+Letter role.NoRole b = (b < code "A") ⊎ (code "Z" < b)
 
 -- behind `at` bytes of the line this text stands
 pub record Stood (l : List ℕ) (at : ℕ) (text : List ℕ) : Type 0 where
@@ -55,9 +56,9 @@ pub record Codes (n : ℕ) (t : List ℕ) : Type 0 where
   pub count : length t ≡ n
   pub each : Each (λ b. isCode b ≡ true) t
 
--- the kind, and each field that a check of 9 reads; the pairs of an F line are tested by `isCode` itself
+-- the role of a line by its first byte, and each field that a check of 9 reads; the pairs of an F line are tested by `isCode` itself
 pub record FieldsTold : Type 0 where
-  pub kind : (b : ℕ) → Letter (kindOf b) b
+  pub role : (b : ℕ) → Letter (roleOf (kindOf b)) b
   -- "Time: HHMMSS, 00 to 23, 00 to 59, 00 to 59, read as seconds of the day."
   pub time : Field timeAt timeText isTime
   -- "Years 80 to 99 are 1980 to 1999, 00 to 79 are 2000 to 2079 (h). The day must exist in that month and year."

@@ -1,5 +1,5 @@
 -- Document 01's rules of a whole file as a grammar, apart from any check: what a line of each kind is, which kind may follow which, and the order of times.
--- A line with a date, a time, a layout or a position is the text of such values within their limits; the limits of a time, a position and an altitude are those of trips (Limits).
+-- A line with a date, a time, a layout or a position is the text of such values within their limits; the limits of a time, a position and an altitude are those of the rules (Limits).
 use Prim.Native.Nat.{ℕ, _+_, _-_, _%_, _≤_, _<_}
 use Prim.Native.Char.{code}
 use mathlib.Core.Bool.{Bool, true, false, cond}
@@ -8,19 +8,20 @@ use mathlib.Core.Logic.{_⊎_}
 use mathlib.Core.Path.{_≡_}
 use lib.Dec.{eqb}
 use lib.ListN.{length, getD, replicate}
-use Rattle.rules.specs.Choice.{byte}
+use Rattle.rules.specs.Families.{firstStart, layoutLetter, layoutOf}
+use Rattle.rules.specs.Choice.{byte, Each}
 use Rattle.rules.specs.Chars.{isValid, isCode, codesAt}
 use Rattle.rules.specs.Fields.{timeText, dateText, isEither}
 use Rattle.rules.specs.Numbers.{digitsOf}
 use Rattle.rules.specs.Listed.{isCodeWord, listed}
-use Rattle.rules.specs.Layouts.{unused, emptyLayout, firstStart, entriesOf}
-use Rattle.rules.specs.Reads.{layoutLetter}
+use Rattle.rules.specs.Layouts.{unused, emptyLayout, entriesOf}
 use Rattle.rules.specs.Writes.{fixText, extraText, entryTexts, headText, pointText}
 use Rattle.rules.specs.declared.Date.{Date}
 use Rattle.rules.specs.declared.Entry.{Entry}
 use Rattle.rules.specs.declared.Layout.{Layout}
 use Rattle.rules.specs.declared.Family.{Family}
 use Rattle.rules.specs.declared.Family.the-variants as family
+use Rattle.rules.specs.declared.Layouts.{Layouts}
 use Rattle.rules.specs.declared.Fix.{Fix}
 use Rattle.rules.specs.declared.Listed.{Listed}
 use Rattle.rules.specs.declared.Planned.{Planned}
@@ -28,12 +29,9 @@ use Rattle.rules.specs.declared.Planned.the-variants as planned
 use Rattle.rules.specs.declared.Head.{Head}
 use Rattle.rules.specs.declared.Point.{Point}
 use Rattle.rules.specs.declared.Flight.{Flight}
-use Rattle.trips.specs.Limits.{isTime, goodFixFields, goodPoint}
-
--- every element keeps to P
-abbrev pub Each : {A : Type 0} → (A → Type 0) → List A → Type 0
-Each P [] = Unit {0}
-Each P (a ∷ l) = P a × Each P l
+use Rattle.rules.specs.declared.Seal.{Seal}
+use Rattle.rules.specs.declared.Seal.the-variants as seal
+use Rattle.rules.specs.Limits.{isTime, goodFixFields, goodPoint}
 
 -- ---- 'Lines' and 'Fields': a line of each kind, without its CR LF
 
@@ -191,18 +189,23 @@ pub data Columns : List Entry → List ℕ → Type 0 where
 
 -- "B: time 2 to 7; latitude DDMMmmm and N or S, 8 to 15; longitude DDDMMmmm and E or W, 16 to 24; A or V, 25; pressure altitude 26 to 30; GNSS altitude 31 to 35;
 -- columns from 36."; "B .. exactly what [its] layout gives"
-pub record IsBLine (fixes : Layout) (f : Fix) (l : List ℕ) : Type 0 where
+pub record IsBLine (layout : Layout) (f : Fix) (l : List ℕ) : Type 0 where
   pub tail : List ℕ
   pub text : l ≡ fixText f tail
   pub fields : goodFixFields f ≡ true
-  pub columns : Columns (entriesOf fixes) tail
+  pub columns : Columns (entriesOf layout) tail
 
 -- "K: time 2 to 7, columns from 8."; "K .. exactly what [its] layout gives"
-pub record IsKLine (extras : Layout) (t : ℕ) (l : List ℕ) : Type 0 where
+pub record IsKLine (layout : Layout) (t : ℕ) (l : List ℕ) : Type 0 where
   pub tail : List ℕ
   pub text : l ≡ extraText t tail
   pub time : isTime t ≡ true
-  pub columns : Columns (entriesOf extras) tail
+  pub columns : Columns (entriesOf layout) tail
+
+-- a line of a family, by its layout, and its time
+abbrev pub IsColumned : Family → Layout → ℕ → List ℕ → Type 0
+IsColumned family.B layout t l = (f : Fix) × (f .time ≡ t) × IsBLine layout f l
+IsColumned family.K layout t l = IsKLine layout t l
 
 -- "L 1 to 99"
 pub record IsLLine (l : List ℕ) : Type 0 where
@@ -244,11 +247,10 @@ pub data AtMostOne (f : Family) : Layout → List (List ℕ) → Type 0 where
   given : {layout : Layout} {l : List ℕ} → IsLayoutLine f layout l → AtMostOne f layout (l ∷ [])
 
 -- a line of the body with a time t
-pub data Timed (fixes extras : Layout) (t : ℕ) (l : List ℕ) : Type 0 where
-  fix : (f : Fix) → f .time ≡ t → IsBLine fixes f l → Timed fixes extras t l
-  event : IsELine t l → Timed fixes extras t l
-  satellites : IsFLine t l → Timed fixes extras t l
-  extra : IsKLine extras t l → Timed fixes extras t l
+pub data Timed (layouts : Layouts) (t : ℕ) (l : List ℕ) : Type 0 where
+  columned : (f : Family) → IsColumned f (layoutOf f layouts) t l → Timed layouts t l
+  event : IsELine t l → Timed layouts t l
+  satellites : IsFLine t l → Timed layouts t l
 
 -- a line of the body with no time
 pub data Untimed (l : List ℕ) : Type 0 where
@@ -257,50 +259,53 @@ pub data Untimed (l : List ℕ) : Type 0 where
   other : IsOtherLine l → Untimed l
 
 -- "D, E, F, B, K, L and other" in any order, and their times in the order of the lines
-pub data Items (fixes extras : Layout) : List (List ℕ) → List ℕ → Type 0 where
-  done : Items fixes extras [] []
-  timed : {l : List ℕ} {ls : List (List ℕ)} {t : ℕ} {ts : List ℕ} → Timed fixes extras t l → Items fixes extras ls ts → Items fixes extras (l ∷ ls) (t ∷ ts)
-  untimed : {l : List ℕ} {ls : List (List ℕ)} {ts : List ℕ} → Untimed l → Items fixes extras ls ts → Items fixes extras (l ∷ ls) ts
+pub data Items (layouts : Layouts) : List (List ℕ) → List ℕ → Type 0 where
+  done : Items layouts [] []
+  timed : {l : List ℕ} {ls : List (List ℕ)} {t : ℕ} {ts : List ℕ} → Timed layouts t l → Items layouts ls ts → Items layouts (l ∷ ls) (t ∷ ts)
+  untimed : {l : List ℕ} {ls : List (List ℕ)} {ts : List ℕ} → Untimed l → Items layouts ls ts → Items layouts (l ∷ ls) ts
 
 -- "At most one declaration (h), begun before the first B: a C head, then at once its point lines, as many as its turn points plus 4"
-pub data Body (fixes extras : Layout) : List (List ℕ) → List ℕ → Type 0 where
-  undeclared : {ls : List (List ℕ)} {ts : List ℕ} → Items fixes extras ls ts → Body fixes extras ls ts
+pub data Body (layouts : Layouts) : List (List ℕ) → List ℕ → Type 0 where
+  undeclared : {ls : List (List ℕ)} {ts : List ℕ} → Items layouts ls ts → Body layouts ls ts
   declared : {ts us : List ℕ} (before : List (List ℕ)) (head : List ℕ) (points after : List (List ℕ)) (h : Head)
-      → Items fixes extras before ts
+      → Items layouts before ts
       → Each (λ l. getD l 0 0 ≡ code "B" → ⊥) before
       → IsHeadLine h head
       → Each IsPointLine points
       → length points ≡ h .turns + 4
-      → Items fixes extras after us
-      → Body fixes extras (before ++ (head ∷ (points ++ after))) (ts ++ us)
+      → Items layouts after us
+      → Body layouts (before ++ (head ∷ (points ++ after))) (ts ++ us)
 
 -- the lines of a file, part by part
 pub record Parts : Type 0 where
   pub recorder : List ℕ
   pub day : List ℕ
   pub headers : List (List ℕ)
-  pub fixLayout : List (List ℕ)
-  pub extraLayout : List (List ℕ)
+  -- the lines that tell each family's layout
+  pub told : Family → List (List ℕ)
   pub body : List (List ℕ)
   pub seal : List (List ℕ)
   pub remarks : List (List ℕ)
 
 -- in their order
 abbrev pub linesIn : Parts → List (List ℕ)
-linesIn p = p .recorder ∷ p .day ∷ (p .headers ++ (p .fixLayout ++ (p .extraLayout ++ (p .body ++ (p .seal ++ p .remarks)))))
+linesIn p = p .recorder ∷ p .day ∷ (p .headers ++ (p .told family.B ++ (p .told family.K ++ (p .body ++ (p .seal ++ p .remarks)))))
+
+-- "At least one G is needed (h)."
+abbrev pub SealedBy : Seal → List (List ℕ) → Type 0
+SealedBy seal.Strict gs = 1 ≤ length gs
 
 -- "Line 1 is A, line 2 is H, then further H lines, then at most one I, then at most one J. After these come C, D, E, F, B, K, L and other, with no further A, H,
--- I, J." "Then one or more G lines. After the first G only G or L; after an L that follows a G, only L." "At least one G is needed (h)."
-pub record Keeps (p : Parts) (date : Date) (fixes extras : Layout) (times : List ℕ) : Type 0 where
+-- I, J." "Then one or more G lines. After the first G only G or L; after an L that follows a G, only L."
+pub record Keeps (seal : Seal) (p : Parts) (date : Date) (layouts : Layouts) (times : List ℕ) : Type 0 where
   pub recorder : IsALine (p .recorder)
   pub day : IsDateLine date (p .day)
   pub headers : Each IsHLine (p .headers)
-  pub fixLayout : AtMostOne family.B fixes (p .fixLayout)
-  pub extraLayout : AtMostOne family.K extras (p .extraLayout)
-  pub body : Body fixes extras (p .body) times
+  pub told : (f : Family) → AtMostOne f (layoutOf f layouts) (p .told f)
+  pub body : Body layouts (p .body) times
   pub order : InOrder times
-  pub seal : Each IsGLine (p .seal)
-  pub sealed : 1 ≤ length (p .seal)
+  pub seals : Each IsGLine (p .seal)
+  pub sealed : SealedBy seal (p .seal)
   pub remarks : Each IsLLine (p .remarks)
 
 -- ---- the file
@@ -310,25 +315,24 @@ abbrev pub IsText : List ℕ → Type 0
 IsText l = Each (λ b. (b ≡ 13 → ⊥) × (b ≡ 10 → ⊥)) l
 
 -- "Every line, the last one too, ends with CR LF.": the bytes of the lines
-unfoldable pub written : List (List ℕ) → List ℕ
-written [] = []
-written (l ∷ ls) = l ++ (13 ∷ 10 ∷ written ls)
+unfoldable pub joinLines : List (List ℕ) → List ℕ
+joinLines [] = []
+joinLines (l ∷ ls) = l ++ (13 ∷ 10 ∷ joinLines ls)
 
 -- "One IGC file": it has lines, and they keep to all the rules above
-pub record Meets (file : List ℕ) : Type 0 where
+pub record Meets (seal : Seal) (file : List ℕ) : Type 0 where
   -- "A file has 1 to 16,777,216 bytes (h)."
   pub least : 1 ≤ length file
   pub most : length file ≤ 16777216
   -- it is its lines, each a text with its CR LF
   pub parts : Parts
-  pub bytes : file ≡ written (linesIn parts)
+  pub bytes : file ≡ joinLines (linesIn parts)
   pub texts : Each IsText (linesIn parts)
   -- and they keep to the rules, with this date, these layouts and these times
   pub date : Date
-  pub fixes : Layout
-  pub extras : Layout
+  pub layouts : Layouts
   pub times : List ℕ
-  pub keeps : Keeps parts date fixes extras times
+  pub keeps : Keeps seal parts date layouts times
 
 -- ---- what the file says
 
@@ -337,13 +341,11 @@ unfoldable pub beginning : ℕ → List (List ℕ) → ℕ
 beginning x [] = 0
 beginning x (l ∷ ls) = cond (eqb (getD l 0 0) x) 1 0 + beginning x ls
 
--- "the date, the I and J layouts, the count of lines, of B lines and of K lines": `fixes` is the layout of the B lines, `extras` that of the K lines
-abbrev pub flightOf : {file : List ℕ} → Meets file → Flight
+-- "the date, the I and J layouts, the count of lines, of B lines and of K lines"
+abbrev pub flightOf : {seal : Seal} {file : List ℕ} → Meets seal file → Flight
 flightOf m = record {
   date = m .date;
-  fixes = m .fixes;
-  extras = m .extras;
+  layouts = m .layouts;
   lines = length (linesIn (m .parts));
-  bs = beginning (code "B") (linesIn (m .parts));
-  ks = beginning (code "K") (linesIn (m .parts));
+  counts = record { b = beginning (code "B") (linesIn (m .parts)); k = beginning (code "K") (linesIn (m .parts)) };
 }

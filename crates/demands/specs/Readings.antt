@@ -6,11 +6,12 @@ use mathlib.Core.Option.{none, some}
 use mathlib.Core.Path.{_≡_}
 use lib.IntN.{pos, negℤ}
 use lib.ListN.{length, getD, take, drop}
-use Rattle.rules.specs.Choice.{part}
+use Rattle.rules.specs.Families.{firstStart, lineLetter, layoutOf}
+use Rattle.rules.specs.Choice.{part, Each}
 use Rattle.rules.specs.Refusals.{Said, says, refuses, no}
 use Rattle.rules.specs.Numbers.{digitsOf}
 use Rattle.rules.specs.Listed.{codeText}
-use Rattle.rules.specs.Layouts.{spanOf, entriesOf, firstStart, columnText}
+use Rattle.rules.specs.Layouts.{spanOf, entriesOf, columnText}
 use Rattle.rules.specs.Split.{boundsOf, lineText, stepAt}
 use Rattle.rules.specs.Files.{tableAfter}
 use Rattle.rules.specs.Reads.{fixSaid, extraSaid, headSaid, pointSaid, columnSaid, columnRest, numberSaid}
@@ -22,8 +23,10 @@ use Rattle.rules.specs.declared.Family.{Family}
 use Rattle.rules.specs.declared.Family.the-variants as family
 use Rattle.rules.specs.declared.Fix.{Fix}
 use Rattle.rules.specs.declared.Head.{Head}
+use Rattle.rules.specs.declared.Layouts.{Layouts}
 use Rattle.rules.specs.declared.Flight.{Flight}
-use Rattle.demands.specs.Grammar.{Each, IsText, widthOf, IsBLine, IsKLine, IsHeadLine, IsPointLine, written, beginning}
+use Rattle.rules.specs.declared.Seal.{Seal}
+use Rattle.demands.specs.Grammar.{IsText, widthOf, IsBLine, IsKLine, IsHeadLine, IsPointLine, joinLines, beginning}
 
 -- ---- a column
 
@@ -78,10 +81,14 @@ pub record ReadsExtra (layout : Layout) (l : List ℕ) : Type 0 where
   pub reads : extraSaid l layout ≡ says time
   pub columns : ReadsColumns family.K layout l
 
--- whichever of them the line is
-pub record ReadsLine (fixes extras : Layout) (l : List ℕ) : Type 0 where
-  pub b : getD l 0 0 ≡ code "B" → ReadsFix fixes l
-  pub k : getD l 0 0 ≡ code "K" → ReadsExtra extras l
+-- a line of a family, by its layout
+abbrev pub ReadsColumned : Family → Layout → List ℕ → Type 0
+ReadsColumned family.B layout l = ReadsFix layout l
+ReadsColumned family.K layout l = ReadsExtra layout l
+
+-- of whichever family the line is
+abbrev pub ReadsLine : Layouts → List ℕ → Type 0
+ReadsLine layouts l = (f : Family) → getD l 0 0 ≡ lineLetter f → ReadsColumned f (layoutOf f layouts) l
 
 -- a C point line reads as the point whose line it is
 pub record ReadsPoint (l : List ℕ) : Type 0 where
@@ -123,24 +130,24 @@ Steps file at (l ∷ ls) =
 
 -- ---- the file, the lent table, and what the answer says of them
 
-pub record Readable (file table : List ℕ) (f : Flight) : Type 0 where
+pub record Readable (seal : Seal) (file table : List ℕ) (f : Flight) : Type 0 where
   -- the lines that the file is cut into
   pub lines : List (List ℕ)
-  pub bytes : file ≡ written lines
+  pub bytes : file ≡ joinLines lines
   pub texts : Each IsText lines
   -- "Each byte of the file belongs to one line or its ending: line lengths plus 2 each total the file's length."
   pub lengths : total lines ≡ length file
   -- "the count of lines, of B lines and of K lines"
   pub counted : f .lines ≡ length lines
-  pub bs : f .bs ≡ beginning (code "B") lines
-  pub ks : f .ks ≡ beginning (code "K") lines
+  pub bs : f .counts .b ≡ beginning (code "B") lines
+  pub ks : f .counts .k ≡ beginning (code "K") lines
   -- "a lent table of u32 numbers whose entry for each line is the offset of its first byte"; the rest unchanged
-  pub entries : (n : ℕ) → n < length lines → getD (tableAfter file table) n 0 ≡ total (take n lines)
-  pub unchanged : (n : ℕ) → length lines ≤ n → getD (tableAfter file table) n 0 ≡ getD table n 0
-  pub long : length (tableAfter file table) ≡ length table
+  pub entries : (n : ℕ) → n < length lines → getD (tableAfter seal file table) n 0 ≡ total (take n lines)
+  pub unchanged : (n : ℕ) → length lines ≤ n → getD (tableAfter seal file table) n 0 ≡ getD table n 0
+  pub long : length (tableAfter seal file table) ≡ length table
   -- "any line, without its CR LF, can be asked for as a part of the lent file": line n + 1, with the table
-  pub numbered : (n : ℕ) → n < length lines → lineText file (boundsOf file (tableAfter file table) (n + 1)) ≡ getD lines n []
+  pub numbered : (n : ℕ) → n < length lines → lineText file (boundsOf file (tableAfter seal file table) (n + 1)) ≡ getD lines n []
   -- stepping from place 0 gives exactly the lines in their order, and then none
   pub stepping : Steps file 0 lines
-  pub reads : Each (ReadsLine (f .fixes) (f .extras)) lines
+  pub reads : Each (ReadsLine (f .layouts)) lines
   pub declaration : ReadsDeclaration lines

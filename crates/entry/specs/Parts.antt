@@ -4,10 +4,11 @@ use mathlib.Core.Bool.{Bool}
 use mathlib.Core.List.{List}
 use mathlib.Core.Option.{Option, none, some}
 use mathlib.Core.Path.{_≡_}
+use Rattle.rules.specs.Families.{firstStart}
 use Rattle.rules.specs.Choice.{given}
 use Rattle.rules.specs.Listed.{packedOf, codeAt}
 use Rattle.rules.specs.Refusals.{Said, says, no, refusal}
-use Rattle.rules.specs.Layouts.{Span, look, carries, placed, entryAt, columnTold, emptyLayout, firstStart}
+use Rattle.rules.specs.Layouts.{Span, look, carries, placed, entryAt, columnTold, emptyLayout}
 use Rattle.rules.specs.declared.Reason.the-variants.{Absent}
 use Rattle.rules.specs.declared.Entry.{Entry}
 use Rattle.rules.specs.declared.Layout.{Layout}

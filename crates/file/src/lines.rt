@@ -3,16 +3,16 @@ ghost use Prim.Native.Nat.{_≤_, _<_};
 ghost use mathlib.Core.Path.{_≡_};
 ghost use lib.ListN.{length};
 ghost use Rattle.rules.specs.Files.{CheckedTold, finish};
-ghost use Rattle.rules.specs.Promises.{FileChecked};
 ghost use Rattle.rules.specs.Refusals.{refusal};
 ghost use Rattle.order.specs.States.{Few};
-ghost use Rattle.file.specs.Turns.{LeftBy, Turned, inNext};
+ghost use Rattle.file.specs.Turns.{LeftBy, Turned, LinesChecked, inNext};
 use cut::Ended;
 use rules::Checked;
 use rules::Judged;
 use rules::Outcome;
 use rules::Reason;
 use rules::Refusal;
+use rules::Seal;
 use rules::State;
 
 pub(crate) fn refused(why: Refusal) -> Checked
@@ -36,15 +36,15 @@ fn in_next(reason: Reason, byte: u32, st: State) -> Refusal
     }
 }
 
-// The answer where all lines are good. An open declaration or a missing G line is refused.
-fn finished(st: State) -> Checked
+// The answer where all lines are good. An open declaration is refused, and so is a file that does not end as the seal demands.
+fn finished(seal: Seal, st: State) -> Checked
     requires { ⌜ st .flight .lines ≤ 16777216 ⌝ }
-    ensures { λ r. ⌜ CheckedTold (finish st) r ⌝ }
+    ensures { λ r. ⌜ CheckedTold (finish seal st) r ⌝ }
 {
     if st.points != 0 {
         return refused(in_next(Reason::EndsEarly, 0, st));
     }
-    if st.stage < order::AFTER_G {
+    if st.stage < order::ends_after(seal) {
         return refused(in_next(Reason::EndsEarly, 0, st));
     }
     let flight = st.flight;
@@ -102,28 +102,27 @@ fn take_turn(file: &[u8], at: usize, st: State) -> Turn
     }
 }
 
-pub(crate) fn check_lines(file: &[u8], table: &mut [u32]) -> Checked
+pub(crate) fn check_lines(seal: Seal, file: &[u8], lent: bool, table: &mut [u32]) -> Checked
     requires { ⌜ (1 ≤ length (now file)) × (length (now file) ≤ 16777216) ⌝ }
-    ensures { λ r. ⌜ FileChecked (now (file .entry)) (now (table .entry)) r (now (table .exit)) ⌝ }
+    ensures { λ r. ⌜ LinesChecked seal lent (now (file .entry)) (now (table .entry)) r (now (table .exit)) ⌝ }
 {
     let mut at: usize = 0;
     let mut st = order::start_state();
     while at < file.len() {
-        let run = ahead::run_ahead(file, table, at, st);
+        let run = ahead::run_ahead(file, lent, table, at, st);
         let from = run.at;
         let reached = run.state;
         if file.len() <= from {
-            return finished(reached);
+            return finished(seal, reached);
         }
         let turn = take_turn(file, from, reached);
         let what = turn.what;
         match what {
             What::Next(next) => {
                 let n = reached.flight.lines as usize;
-                if table.len() <= n {
+                if !order::put_entry(lent, table, n, from as u32) {
                     return refused(in_next(Reason::TableFull, 0, reached));
                 }
-                table[n] = from as u32;
                 st = turn.state;
                 at = next;
             }
@@ -132,5 +131,5 @@ pub(crate) fn check_lines(file: &[u8], table: &mut [u32]) -> Checked
             }
         }
     }
-    finished(st)
+    finished(seal, st)
 }

@@ -1,12 +1,13 @@
 -- One answer at most meets each promise of this crate. Assumes nothing.
 use Prim.Native.Nat.{ℕ}
 use mathlib.Core.List.{List}
+use Rattle.rules.specs.declared.Class.{Class}
 use Rattle.laws.proofs.Only.{Only, same, alike}
 use Rattle.laws.proofs.Told.{fix-one}
 use Rattle.fix.specs.Parts.{FormGiven, FieldsRead}
 
-pub only-form-given : (first : ℕ) → Only (FormGiven first)
-only-form-given first = same
+pub only-form-given : (c : Class) (first : ℕ) → Only (FormGiven c first)
+only-form-given c first = same
 
 pub only-fields-read : (l : List ℕ) → Only (FieldsRead l)
 only-fields-read l = alike fix-one

@@ -4,16 +4,17 @@ use mathlib.Core.List.{List}
 use mathlib.Core.Path.{_≡_}
 use Rattle.rules.specs.Lines.{fixFields}
 use Rattle.rules.specs.Reads.{fixTold}
-use Rattle.rules.specs.declared.Reason.the-variants.{Form}
+use Rattle.rules.specs.Refusals.{reasonOf}
+use Rattle.rules.specs.declared.Class.{Class}
 use Rattle.rules.specs.declared.Refusal.{Refusal}
 use Rattle.rules.specs.declared.FixRead.{FixRead}
 
 -- "9 FORM: first field against its rule; line, field's first byte", with 0 for the line number
-abbrev pub formAt : ℕ → Refusal
-formAt first = record { reason = Form; line = 0; byte = first }
+abbrev pub formAt : Class → ℕ → Refusal
+formAt c first = record { reason = reasonOf c; line = 0; byte = first }
 
-abbrev pub FormGiven : ℕ → Refusal → Type 0
-FormGiven first r = r ≡ formAt first
+abbrev pub FormGiven : Class → ℕ → Refusal → Type 0
+FormGiven c first r = r ≡ formAt c first
 
 -- the fields of a B line before its columns
 abbrev pub FieldsRead : List ℕ → FixRead → Type 0

@@ -1,6 +1,9 @@
 // The fields of a B line before its columns, and how a field that breaks its rule is refused.
+ghost use mathlib.Core.Path.{_≡_};
+ghost use Rattle.rules.specs.Refusals.{reasonOf};
 ghost use Rattle.fix.specs.Parts.{FormGiven, FieldsRead};
 use rules::Altitude;
+use rules::Class;
 use rules::Fix;
 use rules::FixRead;
 use rules::Place;
@@ -8,12 +11,25 @@ use rules::Reason;
 use rules::Refusal;
 use rules::Time;
 
-// FORM at a field's first byte.
-pub fn form(byte: u32) -> Refusal
-    ensures { λ r. ⌜ FormGiven byte r ⌝ }
+// Why a field of this class that breaks its rule is refused.
+fn reason_of(class: Class) -> Reason
+    ensures { λ r. ⌜ r ≡ reasonOf class ⌝ }
+{
+    match class {
+        Class::Time => Reason::Form,
+        Class::Position => Reason::Form,
+        Class::Altitude => Reason::Form,
+        Class::Date => Reason::Form,
+        Class::Other => Reason::Form,
+    }
+}
+
+// A field of this class that breaks its rule, refused at its first byte.
+pub fn form(class: Class, byte: u32) -> Refusal
+    ensures { λ r. ⌜ FormGiven class byte r ⌝ }
 {
     Refusal {
-        reason: Reason::Form,
+        reason: reason_of(class),
         line: 0,
         byte,
     }
@@ -24,23 +40,23 @@ pub fn fix_fields(line: &[u8]) -> FixRead
     ensures { λ r. ⌜ FieldsRead (now (line .entry)) r ⌝ }
 {
     let Time::Secs(time) = field::time_at(line, 1) else {
-        return FixRead::Refused(form(2));
+        return FixRead::Refused(form(Class::Time, 2));
     };
     let Place::Is(lat) = field::latitude_at(line, 7) else {
-        return FixRead::Refused(form(8));
+        return FixRead::Refused(form(Class::Position, 8));
     };
     let Place::Is(lon) = field::longitude_at(line, 15) else {
-        return FixRead::Refused(form(16));
+        return FixRead::Refused(form(Class::Position, 16));
     };
     let validity = chars::byte(line, 24);
     if !chars::is_either(validity, b'A', b'V') {
-        return FixRead::Refused(form(25));
+        return FixRead::Refused(form(Class::Other, 25));
     }
     let Altitude::Metres(pressure) = field::altitude_at(line, 25) else {
-        return FixRead::Refused(form(26));
+        return FixRead::Refused(form(Class::Altitude, 26));
     };
     let Altitude::Metres(gnss) = field::altitude_at(line, 30) else {
-        return FixRead::Refused(form(31));
+        return FixRead::Refused(form(Class::Altitude, 31));
     };
     FixRead::Is(Fix {
         time,

@@ -6,7 +6,7 @@ use mathlib.Core.Path.{_≡_, refl, sym, ap, _∙_}
 use native.Mathlib.Omega.{arith}
 use lib.ListN.{length, getD, drop, drop-of-length-le}
 use lib.Seq.{drop-cons}
-use Rattle.plain.proofs.Laws.{and-inv}
+use Rattle.rules.proofs.Inverse.{and-inv}
 use Rattle.front.specs.Front.{isWithin, between}
 
 -- a text that ends before its bounds do

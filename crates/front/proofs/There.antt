@@ -15,7 +15,7 @@ use Rattle.rules.specs.Chars.{isDigit}
 use Rattle.rules.specs.Numbers.{spell, numberAt}
 use Rattle.rules.specs.Fields.{isEither, positionAt, latitudeAt, longitudeAt, altitudeAt}
 use Rattle.number.proofs.Laws.{digit-low, digit-high, spell-other, number-long}
-use Rattle.plain.proofs.Laws.{and-inv}
+use Rattle.rules.proofs.Inverse.{and-inv}
 use Rattle.front.specs.Front.{isWithin, between, lows, highs, nears, isBounded, isFront}
 use Rattle.front.proofs.Laws.{between-drop}
 
@@ -27,7 +27,7 @@ pub record Spelt (o : Option ℕ) (most : ℕ) : Type 0 where
   pub read : o ≡ some value
   pub below : value ≤ most
 
-cond-some : (t : Bool) (x : Option ℕ) (w : ℕ) → cond t x none ≡ some w → (t ≡ true) × (x ≡ some w)
+pub cond-some : (t : Bool) (x : Option ℕ) (w : ℕ) → cond t x none ≡ some w → (t ≡ true) × (x ≡ some w)
 cond-some true x w e = (refl, e)
 cond-some false x w e = let z : _≡_ {A = ℕ} 0 1 = cc in absurd (omega arith)
 

@@ -1,12 +1,12 @@
 -- What is said of a line where the layout is given as the text of the file's own I or J line.
 use Prim.Native.Nat.{ℕ, _-_}
-use Prim.Native.Char.{code}
 use mathlib.Core.Bool.{cond}
 use mathlib.Core.List.{List}
 use mathlib.Core.Path.{_≡_}
 use lib.Dec.{eqb, leb}
 use lib.ListN.{length, getD}
-use Rattle.rules.specs.Choice.{need}
+use Rattle.rules.specs.Choice.{given, need}
+use Rattle.rules.specs.Families.{familyOf}
 use Rattle.rules.specs.Layouts.{Span, LayoutTold, emptyLayout, unused, presenceSaid, presenceTold, columnTold}
 use Rattle.rules.specs.Reads.{fixSaid, extraSaid, layoutSaid, columnSaid, numberSaid, fixTold, timeReadTold, numberReadTold}
 use Rattle.rules.specs.Refusals.{Said, says, refuses, no, refusal, andThen}
@@ -24,7 +24,7 @@ use Rattle.rules.specs.declared.PresenceRead.{PresenceRead}
 use Rattle.rules.specs.declared.Reason.the-variants.{BadValue}
 use Rattle.rules.specs.declared.Signed.{Signed}
 use Rattle.rules.specs.declared.TimeRead.{TimeRead}
-use Rattle.known.specs.Known.{familyBy}
+use Rattle.known.specs.Known.{layoutFamilyOf}
 use Rattle.given.specs.declared.ColumnAt.{ColumnAt}
 use Rattle.given.specs.declared.ColumnAt.the-variants as columnAt
 
@@ -44,12 +44,16 @@ fixBy line l = andThen (layoutBy family.B l) λ layout. fixSaid line layout
 unfoldable pub extraBy : List ℕ → List ℕ → Said ℕ
 extraBy line l = andThen (layoutBy family.K l) λ layout. extraSaid line layout
 
--- "A column is read by its code": of a B line by its I line, else by the J line
+-- the layout for a line of any family: of a B line from the I line, of a K line from the J line
+unfoldable pub layoutFor : List ℕ → List ℕ → Said Layout
+layoutFor line l = given (familyOf (getD line 0 0)) (no BadValue 0) λ f. layoutBy f l
+
+-- "A column is read by its code"
 unfoldable pub columnBy : List ℕ → List ℕ → List ℕ → Said Span
-columnBy line l name = andThen (layoutBy (familyBy (code "B") line) l) λ layout. columnSaid line layout name
+columnBy line l name = andThen (layoutFor line l) λ layout. columnSaid line layout name
 
 unfoldable pub numberBy : List ℕ → List ℕ → List ℕ → Said Signed
-numberBy line l name = andThen (layoutBy (familyBy (code "B") line) l) λ layout. numberSaid line layout name
+numberBy line l name = andThen (layoutFor line l) λ layout. numberSaid line layout name
 
 -- column n of a layout, counted from 1; there is room for 13 at most
 unfoldable pub entryAt : Layout → ℕ → Said Entry
@@ -64,9 +68,13 @@ unfoldable pub columnAtTold : ColumnAt → Said Entry
 columnAtTold (columnAt.Is e) = says e
 columnAtTold (columnAt.Refused r) = refusal r
 
--- the same of an I or J line, with the refusals of its reader
+-- the layout that an I or a J line tells, with the refusals of its reader
+unfoldable pub toldLayout : List ℕ → Said Layout
+toldLayout l = given (layoutFamilyOf (getD l 0 0)) (no BadValue 0) λ f. layoutSaid f l
+
+-- column n of it
 unfoldable pub entryBy : List ℕ → ℕ → Said Entry
-entryBy l n = andThen (layoutSaid (familyBy (code "I") l) l) λ layout. entryAt layout n
+entryBy l n = andThen (toldLayout l) λ layout. entryAt layout n
 
 -- "which listed codes an I line carries"
 unfoldable pub presenceBy : List ℕ → Said Presence

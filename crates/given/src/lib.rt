@@ -1,8 +1,10 @@
 // The readers of a line with its layout given as the text of the file's own I or J line; no bytes stand for no such line. A layout that its line tells is
 // allowed, so it is not tested again.
 ghost use mathlib.Core.Path.{_≡_};
+ghost use Rattle.rules.specs.Layouts.{LayoutTold};
 ghost use Rattle.rules.specs.Refusals.{no};
-ghost use Rattle.given.specs.Given.{columnAtTold, entryAt, LayoutBy, FixBy, ExtraBy, ColumnBy, NumberBy, EntryBy, PresenceBy};
+ghost use Rattle.given.specs.Given.{columnAtTold, entryAt, layoutFor, toldLayout, LayoutBy, FixBy, ExtraBy, ColumnBy, NumberBy, EntryBy, PresenceBy};
+use known::FamilyRead;
 use rules::ColumnRead;
 use rules::Entry;
 use rules::Family;
@@ -64,11 +66,25 @@ pub fn extra(line: &[u8], columns: &[u8]) -> TimeRead
     known::extra(line, l)
 }
 
-// Where the column of a code stands in a B or a K line.
+// The layout for a line of any family, from the line that tells it. BAD_VALUE for another line too.
+fn layout_for(line: &[u8], columns: &[u8]) -> LayoutRead
+    ensures { λ r. ⌜ LayoutTold (layoutFor (now (line .entry)) (now (columns .entry))) r ⌝ }
+{
+    let FamilyRead::Of(f) = known::family(line) else {
+        return layout::refused(Refusal {
+            reason: Reason::BadValue,
+            line: 0,
+            byte: 0,
+        });
+    };
+    layout(f, columns)
+}
+
+// Where the column of a code stands in a line of any family.
 pub fn column(line: &[u8], columns: &[u8], code: [u8; 3]) -> ColumnRead
     ensures { λ r. ⌜ ColumnBy (now (line .entry)) (now (columns .entry)) code r ⌝ }
 {
-    let given = layout(known::family(b'B', line), columns);
+    let given = layout_for(line, columns);
     let outcome = given.outcome;
     let l = given.layout;
     if let Outcome::Refused(why) = outcome {
@@ -81,7 +97,7 @@ pub fn column(line: &[u8], columns: &[u8], code: [u8; 3]) -> ColumnRead
 pub fn number(line: &[u8], columns: &[u8], code: [u8; 3]) -> NumberRead
     ensures { λ r. ⌜ NumberBy (now (line .entry)) (now (columns .entry)) code r ⌝ }
 {
-    let given = layout(known::family(b'B', line), columns);
+    let given = layout_for(line, columns);
     let outcome = given.outcome;
     let l = given.layout;
     if let Outcome::Refused(why) = outcome {
@@ -122,11 +138,25 @@ fn entry_at(l: Layout, n: usize) -> ColumnAt
     ColumnAt::Is(l.entries[n - 1])
 }
 
-// Column n of an I or a J line. What its reader refuses, then BAD_VALUE.
+// The layout that a line tells, for whichever family. BAD_VALUE for another kind; then what `read::layout_of` refuses.
+fn told_layout(columns: &[u8]) -> LayoutRead
+    ensures { λ r. ⌜ LayoutTold (toldLayout (now (columns .entry))) r ⌝ }
+{
+    let FamilyRead::Of(f) = known::layout_family(columns) else {
+        return layout::refused(Refusal {
+            reason: Reason::BadValue,
+            line: 0,
+            byte: 0,
+        });
+    };
+    read::layout_of(f, columns)
+}
+
+// Column n of the layout that a line tells. What its reader refuses, then BAD_VALUE.
 pub fn entry(columns: &[u8], n: usize) -> ColumnAt
     ensures { λ r. ⌜ EntryBy (now (columns .entry)) n r ⌝ }
 {
-    let given = read::layout_of(known::family(b'I', columns), columns);
+    let given = told_layout(columns);
     let outcome = given.outcome;
     let l = given.layout;
     if let Outcome::Refused(why) = outcome {

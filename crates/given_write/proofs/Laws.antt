@@ -1,13 +1,16 @@
 -- A line written by a layout that is given as its line: refused with its layout, or as the writer says. Assumes nothing.
 use Prim.Native.Nat.{ℕ}
 use mathlib.Core.Bool.{Bool}
-use mathlib.Core.List.{List}
+use mathlib.Core.List.{List, []}
+use mathlib.Core.Option.{Option}
 use mathlib.Core.Path.{_≡_, refl, _∙_}
 use native.Mathlib.Omega.{arith}
+use Rattle.rules.specs.Choice.{given}
 use Rattle.rules.specs.Layouts.{LayoutTold, emptyLayout}
 use Rattle.rules.specs.Promises.{Written}
-use Rattle.rules.specs.Refusals.{Said, says, refuses, refusal, andThen, outcomeTold, valueOr}
+use Rattle.rules.specs.Refusals.{Said, says, refuses, no, refusal, andThen, outcomeTold, valueOr}
 use Rattle.rules.specs.Writes.{wroteTold, written, outAfter}
+use Rattle.rules.specs.declared.Family.{Family}
 use Rattle.rules.specs.declared.Layout.{Layout}
 use Rattle.rules.specs.declared.LayoutRead.{LayoutRead}
 use Rattle.rules.specs.declared.Outcome.the-variants as outcomes
@@ -15,6 +18,9 @@ use Rattle.rules.specs.declared.Reason.the-variants.{BadValue}
 use Rattle.rules.specs.declared.Refusal.{Refusal}
 use Rattle.rules.specs.declared.Wrote.{Wrote}
 use Rattle.rules.specs.declared.Wrote.the-variants as wrote
+use Rattle.known.specs.Known.{familyTold}
+use Rattle.known.specs.declared.FamilyRead.{FamilyRead}
+use Rattle.known.specs.declared.FamilyRead.the-variants as familyRead
 use Rattle.given.specs.Given.{orBadValue}
 use Rattle.given.proofs.Layouts.{layout-then, layout-refused}
 use Rattle.given_write.specs.Written.{SaidWritten}
@@ -50,3 +56,13 @@ module _ (text : Layout → List ℕ) (good : Layout → Bool) (place : ℕ) (ou
   unfolding outcomeTold wroteTold outAfter
   told-refused (says v) g l w e t = let z : _≡_ {A = ℕ} 0 1 = cc in absurd (omega arith)
   told-refused (refuses n k b) g l w e t = record { told = refl; bytes = refl }
+
+-- the family whose layout the line tells; where it tells none, nothing is written
+module _ (n : Option Family) (g : FamilyRead) (e : familyTold g ≡ n) (said : Family → Said ℕ) (text : Family → List ℕ) (place : ℕ) (out : List ℕ) where
+  pub family-then : (f : Family) (r : Wrote) (after : List ℕ) → g ≡ familyRead.Of f → SaidWritten (said f) (text f) place out r after → SaidWritten (given n (no BadValue 0) said) (given n [] text) place out r after
+  unfolding familyTold
+  family-then f r after h w = rw (← e, h) w
+
+  pub family-refused : g ≡ familyRead.NoFamily → SaidWritten (given n (no BadValue 0) said) (given n [] text) place out (wrote.Refused (record { reason = BadValue; line = 0; byte = 0 })) out
+  unfolding familyTold wroteTold outAfter
+  family-refused h = rw (← e, h) (record { told = refl; bytes = refl })

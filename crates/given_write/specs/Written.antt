@@ -1,16 +1,19 @@
 -- What is said of a line that is written by a layout given as the text of its own line, and the output afterwards.
 use Prim.Native.Nat.{ℕ}
-use Prim.Native.Char.{code}
-use mathlib.Core.List.{List}
+use mathlib.Core.List.{List, []}
 use mathlib.Core.Path.{_≡_}
-use Rattle.rules.specs.Layouts.{emptyLayout, firstStart, allowed}
+use lib.ListN.{getD}
+use Rattle.rules.specs.Choice.{given}
+use Rattle.rules.specs.Families.{firstStart}
+use Rattle.rules.specs.Layouts.{emptyLayout, allowed}
 use Rattle.rules.specs.Reads.{layoutSaid}
-use Rattle.rules.specs.Refusals.{Said, andThen, valueOr}
+use Rattle.rules.specs.Refusals.{Said, no, andThen, valueOr}
 use Rattle.rules.specs.Writes.{wroteTold, written, outAfter, layoutText, fixText, isFix, extraText, isExtra}
 use Rattle.rules.specs.declared.Family.the-variants as family
 use Rattle.rules.specs.declared.Fix.{Fix}
+use Rattle.rules.specs.declared.Reason.the-variants.{BadValue}
 use Rattle.rules.specs.declared.Wrote.{Wrote}
-use Rattle.known.specs.Known.{familyBy}
+use Rattle.known.specs.Known.{layoutFamilyOf}
 use Rattle.given.specs.Given.{orBadValue, layoutBy}
 
 -- what is said of a text that is to be written, and the output afterwards
@@ -29,11 +32,12 @@ extraWritten t columns l place out = andThen (layoutBy family.K l) λ layout. wr
 -- an I or a J line from its text: 17 where it tells no layout, then what the writer of that layout says
 unfoldable pub layoutWritten : List ℕ → ℕ → List ℕ → Said ℕ
 layoutWritten l place out =
-    andThen (orBadValue (layoutSaid (familyBy (code "I") l) l)) λ layout.
-    written (allowed (firstStart (familyBy (code "I") l)) layout) (layoutText (familyBy (code "I") l) layout) place out
+    given (layoutFamilyOf (getD l 0 0)) (no BadValue 0) λ f.
+    andThen (orBadValue (layoutSaid f l)) λ layout.
+    written (allowed (firstStart f) layout) (layoutText f layout) place out
 
 unfoldable pub layoutTextBy : List ℕ → List ℕ
-layoutTextBy l = layoutText (familyBy (code "I") l) (valueOr emptyLayout (layoutSaid (familyBy (code "I") l) l))
+layoutTextBy l = given (layoutFamilyOf (getD l 0 0)) [] λ f. layoutText f (valueOr emptyLayout (layoutSaid f l))
 
 -- ---- the promises of this crate's functions
 

@@ -1,5 +1,6 @@
 // A line written by a layout that is given as the text of its own line.
 ghost use Rattle.given_write.specs.Written.{FixWrittenBy, ExtraWrittenBy, LayoutWrittenBy};
+use known::FamilyRead;
 use rules::Family;
 use rules::Fix;
 use rules::Outcome;
@@ -33,11 +34,17 @@ pub fn extra(seconds: u32, columns: &[u8], layout: &[u8], out: &mut [u8], place:
     write::extra(seconds, columns, l, out, place)
 }
 
-// An I or a J line of the layout that its text tells.
+// The line of a layout, for whichever family, from its text.
 pub fn layout(line: &[u8], out: &mut [u8], place: usize) -> Wrote
     ensures { λ r. ⌜ LayoutWrittenBy (now (line .entry)) place (now (out .entry)) r (now (out .exit)) ⌝ }
 {
-    let f = known::family(b'I', line);
+    let FamilyRead::Of(f) = known::layout_family(line) else {
+        return Wrote::Refused(Refusal {
+            reason: Reason::BadValue,
+            line: 0,
+            byte: 0,
+        });
+    };
     let read = read::layout_of(f, line);
     let outcome = read.outcome;
     let l = read.layout;

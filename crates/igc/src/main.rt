@@ -2,6 +2,7 @@
 use libc::STDOUT_FILENO;
 use rules::Outcome;
 use rules::Refusal;
+use rules::Seal;
 
 // A file of the most bytes, and one byte more, by which a longer one is told.
 fn bytes() -> [u8; 16777217] {
@@ -34,7 +35,7 @@ fn explain_refusal(file: &[u8], why: Refusal) {
 
 fn list_file(file: &[u8]) {
     let mut table = entries();
-    let checked = file::check(file, &mut table);
+    let checked = file::check(Seal::Strict, file, &mut table);
     let outcome = checked.outcome;
     let flight = checked.flight;
     match outcome {

@@ -7,10 +7,11 @@ use borrow.Author.Tests.{le-leb, lt-leb}
 use lib.ListN.{length, getD}
 use Rattle.rules.specs.Choice.{on}
 use Rattle.rules.specs.Lines.{kindOf}
-use Rattle.rules.specs.Order.{isKind, orderOf, moved, ruled, judge}
+use Rattle.rules.specs.Order.{orderOf, moved, ruled, judge}
+use Rattle.rules.specs.Roles.{roleOf, isRole}
 use Rattle.rules.specs.Refusals.{no}
-use Rattle.rules.specs.declared.Kind.{Kind}
 use Rattle.rules.specs.declared.Reason.the-variants as reason
+use Rattle.rules.specs.declared.Role.{Role}
 use Rattle.rules.specs.declared.State.{State}
 use Rattle.order.specs.States.{Few, hasFew, leadingTold}
 use Rattle.order.specs.declared.Leading.{Leading}
@@ -37,16 +38,16 @@ pub judge-empty : (l : List ℕ) (st : State) → length l < 1 → judge l st �
 unfolding judge
 judge-empty l st h = rw (lt-leb 1 (length l) h)
 
-module _ (l : List ℕ) (st : State) (one : 1 ≤ length l) (k : Kind) (q : k ≡ kindOf (getD l 0 0)) where
-  pub judge-kindless : isKind k ≡ false → judge l st ≡ no reason.Kind 1
+module _ (l : List ℕ) (st : State) (one : 1 ≤ length l) (r : Role) (q : r ≡ roleOf (kindOf (getD l 0 0))) where
+  pub judge-roleless : isRole r ≡ false → judge l st ≡ no reason.Kind 1
   unfolding judge on
-  judge-kindless e = rw (le-leb 1 (length l) one, ← q, e)
+  judge-roleless e = rw (le-leb 1 (length l) one, ← q, e)
 
-  module _ (some : isKind k ≡ true) (r : Leading) (o : leadingTold r ≡ orderOf k st) where
-    pub judge-misplaced : r ≡ leading.Nowhere → judge l st ≡ no reason.Order 1
+  module _ (some : isRole r ≡ true) (x : Leading) (o : leadingTold x ≡ orderOf r st) where
+    pub judge-misplaced : x ≡ leading.Nowhere → judge l st ≡ no reason.Order 1
     unfolding judge on leadingTold
     judge-misplaced e = rw (le-leb 1 (length l) one, ← q, some, ← o, e)
 
-    pub judge-ruled : (stage : ℕ) → r ≡ leading.To stage → judge l st ≡ ruled k l (moved stage st)
+    pub judge-ruled : (stage : ℕ) → x ≡ leading.To stage → judge l st ≡ ruled r l (moved stage st)
     unfolding judge on leadingTold
     judge-ruled stage e = rw (le-leb 1 (length l) one, ← q, some, ← o, e)

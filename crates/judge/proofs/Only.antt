@@ -1,4 +1,4 @@
--- One answer at most meets the promise of a line judged; that of a kind has its law in `laws`. Assumes nothing.
+-- One answer at most meets the promise of a line judged. Assumes nothing.
 use Prim.Native.Nat.{ℕ}
 use mathlib.Core.List.{List}
 use Rattle.rules.specs.declared.State.{State}

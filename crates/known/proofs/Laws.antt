@@ -1,15 +1,19 @@
 -- What `search` puts the ways out of a reader together from; and what is said of a line where its layout is allowed, or is not. Assumes nothing.
-use Prim.Native.Nat.{ℕ, _-_}
-use mathlib.Core.Bool.{cond, Bool, true, false}
+use Prim.Native.Nat.{ℕ}
+use mathlib.Core.Bool.{Bool, true, false}
 use mathlib.Core.List.{List}
-use mathlib.Core.Path.{_≡_, refl, sym, ap, _∙_}
+use mathlib.Core.Option.{Option, none, some}
+use mathlib.Core.Path.{_≡_, refl, sym, _∙_}
 use borrow.Author.Tests.{eq-eqb, ne-eqb}
-use Rattle.rules.proofs.Links.{outcome-accepted, outcome-refused, fix-is, fix-refused, timed-secs, timed-refused, column-between, column-refused}
+use Rattle.rules.proofs.Links.{by-some, by-none, timed-secs, timed-refused, column-between, column-refused}
 use lib.Dec.{eqb}
+use Rattle.rules.specs.Families.{firstStart, familyOf}
 use Rattle.rules.specs.Choice.{need, given}
-use Rattle.rules.specs.Layouts.{Span, look, firstStart, allowed}
+use Rattle.rules.specs.Layouts.{Span, entriesOf, lookIn, look, allowed}
+use Rattle.rules.specs.Lines.{columnedLine}
+use Rattle.rules.specs.Listed.{packedOf}
 use Rattle.rules.specs.Numbers.{wholeOf, wholeTold}
-use Rattle.rules.specs.Refusals.{Said, says, no, andThen}
+use Rattle.rules.specs.Refusals.{Said, says, refuses, no, andThen}
 use Rattle.rules.specs.declared.Reason.the-variants.{Absent, BadValue}
 use Rattle.rules.specs.declared.Layout.{Layout}
 use Rattle.rules.specs.declared.Signed.{Signed}
@@ -18,12 +22,13 @@ use Rattle.rules.specs.declared.Whole.the-variants as whole
 use Rattle.entry.specs.Parts.{spotTold}
 use Rattle.entry.specs.declared.Spot.{Spot}
 use Rattle.entry.specs.declared.Spot.the-variants as spot
-use Prim.Native.Char.{code}
 use lib.ListN.{getD}
-use Rattle.rules.specs.Reads.{ofKind, withLayout, fixSaid, extraSaid, lineSaid, columnSaid, numberSaid}
+use Rattle.rules.specs.Reads.{ofKind, byLayout, fixSaid, extraSaid, entriesSaid, columnSaid, numberSaid}
 use Rattle.rules.specs.declared.Family.{Family}
 use Rattle.rules.specs.declared.Family.the-variants as family
-use Rattle.known.specs.Known.{familyBy, fixKnown, extraKnown, lineKnown, columnKnown, numberKnown}
+use Rattle.known.specs.Known.{familyTold, allowedFor, fixKnown, extraKnown, lineKnown, columnKnown, numberKnown}
+use Rattle.known.specs.declared.FamilyRead.{FamilyRead}
+use Rattle.known.specs.declared.FamilyRead.the-variants as familyRead
 
 -- the first byte r is the reader's letter, or another
 pub kind-is : {A : Type 0} (m n r : ℕ) (x a : A) (f : Unit {0} → A) → r ≡ m → r ≡ n → x ≡ f tt → x ≡ need (eqb m n) a f
@@ -32,15 +37,18 @@ kind-is m n r x a f e h k = rw (eq-eqb m n (sym e ∙ h)) k
 pub kind-is-not : {A : Type 0} (m n r : ℕ) (x a : A) (f : Unit {0} → A) → r ≡ m → (r ≡ n → ⊥) → x ≡ a → x ≡ need (eqb m n) a f
 kind-is-not m n r x a f e h k = rw (ne-eqb m n (λ q. h (e ∙ q))) k
 
-pub first-is : {A : Type 0} (m n r : ℕ) (x a b : A) → r ≡ m → r ≡ n → x ≡ a → x ≡ cond (eqb m n) a b
-first-is m n r x a b e h k = rw (eq-eqb m n (sym e ∙ h)) k
+-- the family f of a line, or none
+pub family-of : {B : Type 0} (n : Option Family) (r : FamilyRead) (f : Family) (x a : B) (g : Family → B) → familyTold r ≡ n → r ≡ familyRead.Of f → x ≡ g f → x ≡ given n a g
+unfolding familyTold
+family-of n r f x a g e h k = by-some familyTold n r x a g e (familyRead.Of f) f refl h k
 
-pub first-is-not : {A : Type 0} (m n r : ℕ) (x a b : A) → r ≡ m → (r ≡ n → ⊥) → x ≡ b → x ≡ cond (eqb m n) a b
-first-is-not m n r x a b e h k = rw (ne-eqb m n (λ q. h (e ∙ q))) k
+pub no-family : {B : Type 0} (n : Option Family) (r : FamilyRead) (x a : B) (g : Family → B) → familyTold r ≡ n → r ≡ familyRead.NoFamily → x ≡ a → x ≡ given n a g
+unfolding familyTold
+no-family n r x a g e h k = by-none familyTold n r x a g e familyRead.NoFamily refl h k
 
 pub ruleset kinds = (kind-is, kind-is-not)
 
-pub ruleset either = (first-is, first-is-not, fix-is, fix-refused, timed-secs, timed-refused)
+pub ruleset families = (family-of, no-family)
 
 -- ---- a column by its code: y is the number that the code's three bytes make
 
@@ -52,7 +60,7 @@ pub spot-nowhere : (l : Layout) (x y : ℕ) (r : Spot) (z : Said Span) → spotT
 unfolding spotTold
 spot-nowhere l x y r z t q g h = rw (← q, ← t, g) h
 
-pub ruleset spots = (outcome-accepted, outcome-refused, spot-there, spot-nowhere)
+pub ruleset spots = (timed-secs, timed-refused, spot-there, spot-nowhere)
 
 -- the number of a text t that is the column's
 pub text-number : {B : Type 0} (u t : List ℕ) (r : Whole) (v : Signed) (x a : B) (f : Signed → B) → wholeTold r ≡ wholeOf t → t ≡ u → r ≡ whole.Of v → x ≡ f v → x ≡ given (wholeOf u) a f
@@ -65,6 +73,11 @@ text-no-number u t r x a f e q g h = rw (← q, ← e, g) h
 
 pub ruleset texts = (column-between, column-refused, text-number, text-no-number)
 
+-- a value that is passed on and let go
+then-then : {A B C : Type 0} (s : Said A) (v : B) (f : B → Said C) → andThen s (λ _. f v) ≡ andThen (andThen s λ _. says v) f
+then-then (says w) v f = refl
+then-then (refuses n l b) v f = refl
+
 -- both ways of a test are the same
 both : {A : Type 0} (t : Bool) (a : A) → a ≡ need t a (λ _. a)
 both true a = refl
@@ -72,26 +85,25 @@ both false a = refl
 
 -- ---- where the layout is allowed, or is not
 
--- that a line passes, and no value
-abbrev passed : {A : Type 0} → Said A → Said (Unit {0})
-passed s = andThen s λ _. says tt
-
--- what holds of the family B and of K holds of the one that a first byte tells
-module _ {A : Type 0} (test : Family → Bool) (b : Bool) where
-  each-way : (x x′ y y′ : A) → (test family.B ≡ b → x ≡ x′) → (test family.K ≡ b → y ≡ y′) → (t : Bool) → test (cond t family.B family.K) ≡ b → cond t x y ≡ cond t x′ y′
-  each-way x x′ y y′ f g true h = f h
-  each-way x x′ y y′ f g false h = g h
-
-  any-way : (z x y : A) → (test family.B ≡ b → z ≡ x) → (test family.K ≡ b → z ≡ y) → (t : Bool) → test (cond t family.B family.K) ≡ b → z ≡ cond t x y
-  any-way z x y f g true h = f h
-  any-way z x y f g false h = g h
-
 module _ {A : Type 0} (l : List ℕ) (letter : ℕ) (layout : Layout) (f : Family) (g : Unit {0} → Said A) where
-  with-allowed : allowed (firstStart f) layout ≡ true → ofKind letter l g ≡ ofKind letter l λ _. withLayout f layout g
+  with-allowed : allowed (firstStart f) layout ≡ true → ofKind letter l g ≡ ofKind letter l λ _. byLayout f layout g
   with-allowed h = rw h
 
-  with-not-allowed : allowed (firstStart f) layout ≡ false → no BadValue 0 ≡ ofKind letter l λ _. withLayout f layout g
+  with-not-allowed : allowed (firstStart f) layout ≡ false → no BadValue 0 ≡ ofKind letter l λ _. byLayout f layout g
   with-not-allowed h = rw h (both (eqb (getD l 0 0) letter) (no BadValue 0))
+
+-- the same of a line of any family
+module _ {A B : Type 0} (test : Family → Bool) (line : Family → Said A) (v : B) where
+  abbrev tested : Option Family → Said B
+  tested o = given o (no BadValue 0) λ f. need (test f) (no BadValue 0) λ _. andThen (line f) λ _. says v
+
+  any-allowed : {C : Type 0} (o : Option Family) (g : B → Said C) → given o false test ≡ true → andThen (given o (no BadValue 0) line) (λ _. g v) ≡ andThen (tested o) g
+  any-allowed none g h = refl
+  any-allowed (some f) g h = rw h (then-then (line f) v g)
+
+  none-allowed : (o : Option Family) → given o false test ≡ false → no BadValue 0 ≡ tested o
+  none-allowed none h = refl
+  none-allowed (some f) h = rw h
 
 module _ (l : List ℕ) (layout : Layout) where
   pub fix-allowed : allowed (firstStart family.B) layout ≡ true → fixKnown l layout ≡ fixSaid l layout
@@ -110,27 +122,23 @@ module _ (l : List ℕ) (layout : Layout) where
   unfolding extraSaid
   extra-not-allowed h = with-not-allowed l _ layout family.K _ h
 
-  line-allowed : allowed (firstStart (familyBy (code "B") l)) layout ≡ true → lineKnown l layout ≡ lineSaid l layout
-  unfolding lineKnown lineSaid
-  line-allowed = each-way (λ f. allowed (firstStart f) layout) true (passed (fixKnown l layout)) (passed (fixSaid l layout)) (passed (extraKnown l layout)) (passed (extraSaid l layout)) (λ h. ap passed (fix-allowed h)) (λ h. ap passed (extra-allowed h)) (eqb (getD l 0 0) (code "B"))
+  pub column-allowed : (name : List ℕ) → allowedFor l layout ≡ true → columnKnown l layout name ≡ columnSaid l layout name
+  unfolding allowedFor columnKnown lineKnown columnSaid entriesSaid look
+  column-allowed name =
+      any-allowed (λ f. allowed (firstStart f) layout) (λ f. columnedLine f layout l) (entriesOf layout) (familyOf (getD l 0 0)) (λ es. given (lookIn es (packedOf name)) (no Absent 0) says)
 
-  line-not-allowed : allowed (firstStart (familyBy (code "B") l)) layout ≡ false → no BadValue 0 ≡ lineSaid l layout
-  unfolding lineSaid
-  line-not-allowed = any-way (λ f. allowed (firstStart f) layout) false (no BadValue 0) (passed (fixSaid l layout)) (passed (extraSaid l layout)) (λ h. ap passed (fix-not-allowed h)) (λ h. ap passed (extra-not-allowed h)) (eqb (getD l 0 0) (code "B"))
+  entries-not-allowed : allowedFor l layout ≡ false → no BadValue 0 ≡ entriesSaid l layout
+  unfolding allowedFor entriesSaid
+  entries-not-allowed = none-allowed (λ f. allowed (firstStart f) layout) (λ f. columnedLine f layout l) (entriesOf layout) (familyOf (getD l 0 0))
 
-  module _ (name : List ℕ) where
-    pub column-allowed : allowed (firstStart (familyBy (code "B") l)) layout ≡ true → columnKnown l layout name ≡ columnSaid l layout name
-    unfolding columnKnown columnSaid
-    column-allowed h = rw (line-allowed h)
+  pub column-not-allowed : (name : List ℕ) → allowedFor l layout ≡ false → no BadValue 0 ≡ columnSaid l layout name
+  unfolding columnSaid
+  column-not-allowed name h = rw (← entries-not-allowed h)
 
-    pub column-not-allowed : allowed (firstStart (familyBy (code "B") l)) layout ≡ false → no BadValue 0 ≡ columnSaid l layout name
-    unfolding columnSaid
-    column-not-allowed h = rw (← line-not-allowed h)
+  pub number-allowed : (name : List ℕ) → allowedFor l layout ≡ true → numberKnown l layout name ≡ numberSaid l layout name
+  unfolding numberKnown numberSaid
+  number-allowed name h = rw (column-allowed name h)
 
-    pub number-allowed : allowed (firstStart (familyBy (code "B") l)) layout ≡ true → numberKnown l layout name ≡ numberSaid l layout name
-    unfolding numberKnown numberSaid
-    number-allowed h = rw (column-allowed h)
-
-    pub number-not-allowed : allowed (firstStart (familyBy (code "B") l)) layout ≡ false → no BadValue 0 ≡ numberSaid l layout name
-    unfolding numberSaid
-    number-not-allowed h = rw (← column-not-allowed h)
+  pub number-not-allowed : (name : List ℕ) → allowedFor l layout ≡ false → no BadValue 0 ≡ numberSaid l layout name
+  unfolding numberSaid
+  number-not-allowed name h = rw (← column-not-allowed name h)

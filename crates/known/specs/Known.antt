@@ -1,14 +1,16 @@
--- What is said of a B or a K line by a layout that is not tested: where the layout is allowed, what the readers of the line say. The promises of this crate.
+-- What is said of a line of a family by a layout that is not tested: where the layout is allowed, what the readers of the line say. The promises of this crate.
 use Prim.Native.Nat.{ℕ}
 use Prim.Native.Char.{code}
-use mathlib.Core.Bool.{cond}
+use mathlib.Core.Bool.{Bool, false, cond}
 use mathlib.Core.List.{List}
+use mathlib.Core.Option.{Option, none, some}
 use mathlib.Core.Path.{_≡_}
 use lib.Dec.{eqb}
 use lib.ListN.{getD}
 use Rattle.rules.specs.Choice.{given}
-use Rattle.rules.specs.Layouts.{Span, look, columnText, columnTold}
-use Rattle.rules.specs.Lines.{bLine, kLine}
+use Rattle.rules.specs.Families.{firstStart, layoutLetter, familyOf}
+use Rattle.rules.specs.Layouts.{Span, allowed, look, columnText, columnTold}
+use Rattle.rules.specs.Lines.{bLine, kLine, columnedLine}
 use Rattle.rules.specs.Listed.{packedOf}
 use Rattle.rules.specs.Numbers.{wholeOf}
 use Rattle.rules.specs.Reads.{ofKind, fixTold, timeReadTold, numberReadTold}
@@ -20,13 +22,23 @@ use Rattle.rules.specs.declared.Fix.{Fix}
 use Rattle.rules.specs.declared.FixRead.{FixRead}
 use Rattle.rules.specs.declared.Layout.{Layout}
 use Rattle.rules.specs.declared.NumberRead.{NumberRead}
-use Rattle.rules.specs.declared.Reason.the-variants.{Absent, NotNumber}
+use Rattle.rules.specs.declared.Reason.the-variants.{BadValue, Absent, NotNumber}
 use Rattle.rules.specs.declared.Signed.{Signed}
 use Rattle.rules.specs.declared.TimeRead.{TimeRead}
+use Rattle.known.specs.declared.FamilyRead.{FamilyRead}
+use Rattle.known.specs.declared.FamilyRead.the-variants as familyRead
 
--- the family that a first byte tells: B for that letter, else K
-abbrev pub familyBy : ℕ → List ℕ → Family
-familyBy letter line = cond (eqb (getD line 0 0) letter) family.B family.K
+unfoldable pub familyTold : FamilyRead → Option Family
+familyTold (familyRead.Of f) = some f
+familyTold familyRead.NoFamily = none
+
+-- the family whose layout a line tells, by the line's first byte
+unfoldable pub layoutFamilyOf : ℕ → Option Family
+layoutFamilyOf b = cond (eqb b (layoutLetter family.B)) (some family.B) (cond (eqb b (layoutLetter family.K)) (some family.K) none)
+
+-- "17 BAD_VALUE: .. layout .. given is not allowed": for the family that a line is of; none is where it is of no family
+unfoldable pub allowedFor : List ℕ → Layout → Bool
+allowedFor l layout = given (familyOf (getD l 0 0)) false λ f. allowed (firstStart f) layout
 
 -- each is its namesake of `rules`, fixSaid to numberSaid, without the layout's own test
 
@@ -36,9 +48,8 @@ fixKnown l layout = ofKind (code "B") l λ _. bLine layout l
 unfoldable pub extraKnown : List ℕ → Layout → Said ℕ
 extraKnown l layout = ofKind (code "K") l λ _. kLine layout l
 
-unfoldable pub lineKnown : List ℕ → Layout → Said (Unit {0})
-lineKnown l layout =
-    cond (eqb (getD l 0 0) (code "B")) (andThen (fixKnown l layout) λ _. says tt) (andThen (extraKnown l layout) λ _. says tt)
+unfoldable pub lineKnown : List ℕ → Layout → Said ℕ
+lineKnown l layout = given (familyOf (getD l 0 0)) (no BadValue 0) λ f. columnedLine f layout l
 
 unfoldable pub columnKnown : List ℕ → Layout → List ℕ → Said Span
 columnKnown l layout name =
@@ -54,8 +65,11 @@ numberKnown l layout name =
 
 -- ---- the promises
 
-abbrev pub FamilyTold : ℕ → List ℕ → Family → Type 0
-FamilyTold letter line r = r ≡ familyBy letter line
+abbrev pub FamilyGiven : List ℕ → FamilyRead → Type 0
+FamilyGiven l r = familyTold r ≡ familyOf (getD l 0 0)
+
+abbrev pub LayoutFamilyGiven : List ℕ → FamilyRead → Type 0
+LayoutFamilyGiven l r = familyTold r ≡ layoutFamilyOf (getD l 0 0)
 
 abbrev pub FixKnown : List ℕ → Layout → FixRead → Type 0
 FixKnown l layout r = fixTold r ≡ fixKnown l layout

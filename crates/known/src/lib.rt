@@ -1,27 +1,44 @@
-// The readers of a B or a K line by a layout that is known to be allowed: the layout is not tested. On one that is not allowed they are total too, but say nothing of the paper.
+// The readers of a line of a family by a layout that is known to be allowed: the layout is not tested. On one that is not allowed they are total too, but say nothing of the paper.
 ghost use mathlib.Core.Path.{_≡_};
-ghost use Rattle.rules.specs.Refusals.{outcomeTold};
-ghost use Rattle.known.specs.Known.{lineKnown, FamilyTold, FixKnown, ExtraKnown, ColumnKnown, NumberKnown};
+ghost use Rattle.rules.specs.Reads.{timeReadTold};
+ghost use Rattle.known.specs.Known.{lineKnown, FamilyGiven, LayoutFamilyGiven, FixKnown, ExtraKnown, ColumnKnown, NumberKnown};
 use layout::Spot;
 use rules::ColumnRead;
 use rules::Family;
 use rules::FixRead;
 use rules::Layout;
 use rules::NumberRead;
-use rules::Outcome;
 use rules::Reason;
 use rules::Refusal;
 use rules::TimeRead;
 use rules::Whole;
 
-// The family that a first byte tells: B for that letter, else K.
-pub fn family(letter: u8, line: &[u8]) -> Family
-    ensures { λ r. ⌜ FamilyTold letter (now (line .entry)) r ⌝ }
+// The family of a line, where it is of one.
+pub enum FamilyRead {
+    Of(Family),
+    NoFamily,
+}
+
+// The family that a line is of, by its first byte.
+pub fn family(line: &[u8]) -> FamilyRead
+    ensures { λ r. ⌜ FamilyGiven (now (line .entry)) r ⌝ }
 {
-    if chars::byte(line, 0) == letter {
-        return Family::B;
+    match chars::byte(line, 0) {
+        b'B' => FamilyRead::Of(Family::B),
+        b'K' => FamilyRead::Of(Family::K),
+        _ => FamilyRead::NoFamily,
     }
-    Family::K
+}
+
+// The family whose layout a line tells, by its first byte.
+pub fn layout_family(line: &[u8]) -> FamilyRead
+    ensures { λ r. ⌜ LayoutFamilyGiven (now (line .entry)) r ⌝ }
+{
+    match chars::byte(line, 0) {
+        b'I' => FamilyRead::Of(Family::B),
+        b'J' => FamilyRead::Of(Family::K),
+        _ => FamilyRead::NoFamily,
+    }
 }
 
 // The fix of a B line. BAD_VALUE for another kind; then what `line::fix_line` refuses.
@@ -52,27 +69,25 @@ pub fn extra(line: &[u8], layout: Layout) -> TimeRead
     line::extra_line(line, layout)
 }
 
-// Whether a B or a K line keeps its rules. BAD_VALUE for another kind; then what its check refuses.
-fn passes(line: &[u8], layout: Layout) -> Outcome
-    ensures { λ r. ⌜ outcomeTold r ≡ lineKnown (now (line .entry)) layout ⌝ }
+// The time of a line of any family. BAD_VALUE for another kind; then what its check refuses.
+fn timed(line: &[u8], layout: Layout) -> TimeRead
+    ensures { λ r. ⌜ timeReadTold r ≡ lineKnown (now (line .entry)) layout ⌝ }
 {
-    if chars::byte(line, 0) == b'B' {
-        return match fix(line, layout) {
-            FixRead::Is(_) => Outcome::Accepted,
-            FixRead::Refused(r) => Outcome::Refused(r),
-        };
-    }
-    match extra(line, layout) {
-        TimeRead::Secs(_) => Outcome::Accepted,
-        TimeRead::Refused(r) => Outcome::Refused(r),
-    }
+    let FamilyRead::Of(f) = family(line) else {
+        return TimeRead::Refused(Refusal {
+            reason: Reason::BadValue,
+            line: 0,
+            byte: 0,
+        });
+    };
+    line::columned_line(f, line, layout)
 }
 
-// Where the column of a code, any three bytes, stands in a B or a K line. BAD_VALUE for another kind, what the line's check refuses, then ABSENT.
+// Where the column of a code, any three bytes, stands in a line of any family. BAD_VALUE for another kind, what the line's check refuses, then ABSENT.
 pub fn column(line: &[u8], layout: Layout, code: [u8; 3]) -> ColumnRead
     ensures { λ r. ⌜ ColumnKnown (now (line .entry)) layout code r ⌝ }
 {
-    if let Outcome::Refused(r) = passes(line, layout) {
+    if let TimeRead::Refused(r) = timed(line, layout) {
         return ColumnRead::Refused(r);
     }
     let x = layout::pack(code[0], code[1], code[2]);

@@ -3,11 +3,12 @@ use Prim.Native.Nat.{ℕ}
 use mathlib.Core.Bool.{Bool}
 use mathlib.Core.List.{List}
 use mathlib.Core.Path.{_≡_, sym, _∙_}
+use Rattle.rules.specs.Families.{firstStart}
 use Rattle.rules.specs.Refusals.{Said}
-use Rattle.rules.specs.Layouts.{LayoutTold, firstStart, allowed}
+use Rattle.rules.specs.Layouts.{LayoutTold, allowed}
 use Rattle.rules.specs.Files.{CheckedTold}
 use Rattle.rules.specs.Writes.{fixText, isFix, extraText, isExtra, layoutText, headText, isHead, pointText, isPoint}
-use Rattle.rules.specs.Promises.{DigitsRead, WholeRead, DigitsPut, DigitTest, CodeTest, ValidTest, InvalidFound, CodesTest, ByteAt, EitherTest, TimeAt, DateAt, LatitudeAt, LongitudeAt, AltitudeAt, TimePut, DatePut, LatitudePut, LongitudePut, AltitudePut, DegreesGiven, ListedAt, AllowedTest, LengthGiven, LookGiven, PresenceGiven, ColumnTest, KindGiven, ColumnsChecked, ShapeChecked, RecorderChecked, DateLineChecked, HeaderChecked, LayoutChecked, HeadChecked, PointChecked, DifferentialChecked, EventChecked, SatellitesChecked, FixChecked, ExtraChecked, FixGiven, ExtraGiven, EventGiven, SatellitesGiven, DateGiven, LayoutGiven, HeadGiven, HeadRest, PointGiven, PointRest, ColumnGiven, ColumnRest, NumberGiven, FileChecked, LineGiven, LineRest, Written, FixWritten, ExtraWritten, LayoutWritten, HeadWritten, PointWritten}
+use Rattle.rules.specs.Promises.{DigitsRead, WholeRead, DigitsPut, DigitTest, CodeTest, ValidTest, InvalidFound, CodesTest, ByteAt, EitherTest, TimeAt, DateAt, LatitudeAt, LongitudeAt, AltitudeAt, TimePut, DatePut, LatitudePut, LongitudePut, AltitudePut, DegreesGiven, ListedAt, AllowedTest, LengthGiven, LookGiven, PresenceGiven, ColumnTest, KindGiven, ColumnsChecked, ShapeChecked, RecorderChecked, DateLineChecked, HeaderChecked, LayoutChecked, HeadChecked, PointChecked, DifferentialChecked, EventChecked, SatellitesChecked, FixChecked, ExtraChecked, ColumnedChecked, FixGiven, ExtraGiven, EventGiven, SatellitesGiven, DateGiven, LayoutGiven, HeadGiven, HeadRest, PointGiven, PointRest, ColumnGiven, ColumnRest, NumberGiven, FileChecked, FileJudged, LineGiven, LineRest, Written, FixWritten, ExtraWritten, LayoutWritten, HeadWritten, PointWritten}
 use Rattle.rules.specs.declared.Date.{Date}
 use Rattle.rules.specs.declared.Position.{Position}
 use Rattle.rules.specs.declared.Height.{Height}
@@ -17,6 +18,7 @@ use Rattle.rules.specs.declared.Fix.{Fix}
 use Rattle.rules.specs.declared.Head.{Head}
 use Rattle.rules.specs.declared.Point.{Point}
 use Rattle.rules.specs.declared.Flight.{Flight}
+use Rattle.rules.specs.declared.Seal.{Seal}
 use Rattle.laws.proofs.Told.{OneToOne, altitude-one, column-one, date-one, day-one, degrees-one, digits-one, fix-one, found-one, head-one, length-one, line-one, outcome-one, place-one, point-one, presence-one, time-one, timed-one, value-one, whole-one, wrote-one}
 
 -- ---- what is claimed
@@ -185,6 +187,9 @@ only-fix-checked l layout = alike fix-one
 pub only-extra-checked : (l : List ℕ) (layout : Layout) → Only (ExtraChecked l layout)
 only-extra-checked l layout = alike timed-one
 
+pub only-columned-checked : (f : Family) (l : List ℕ) (layout : Layout) → Only (ColumnedChecked f l layout)
+only-columned-checked f l layout = alike timed-one
+
 -- ---- lines: the readers
 
 pub only-fix-given : (l : List ℕ) (layout : Layout) → Only (FixGiven l layout)
@@ -228,8 +233,11 @@ only-number-given l layout name = alike value-one
 
 -- ---- files
 
-pub only-file-checked : (file table : List ℕ) → OnlyBoth (FileChecked file table)
-only-file-checked file table r r′ after after′ e e′ = (checked-only r r′ (e .told) (e′ .told), same after after′ (e .entries) (e′ .entries))
+pub only-file-checked : (seal : Seal) (file table : List ℕ) → OnlyBoth (FileChecked seal file table)
+only-file-checked seal file table r r′ after after′ e e′ = (checked-only r r′ (e .told) (e′ .told), same after after′ (e .entries) (e′ .entries))
+
+pub only-file-judged : (seal : Seal) (file : List ℕ) → Only (FileJudged seal file)
+only-file-judged seal file = checked-only
 
 pub only-line-given : (file table : List ℕ) (n : ℕ) → Only (LineGiven file table n)
 only-line-given file table n = alike line-one

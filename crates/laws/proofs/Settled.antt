@@ -31,6 +31,7 @@ use Rattle.rules.specs.declared.Fix.{Fix}
 use Rattle.rules.specs.declared.Wrote.the-variants as wrote
 use Rattle.rules.proofs.Computed.{everything}
 use Rattle.rules.proofs.Damaged.{fiveLayout}
+use Rattle.rules.specs.declared.Seal.{Seal}
 
 -- ---- times and years
 
@@ -59,23 +60,23 @@ early-year yy h = rw (lt-leb 80 yy h)
 -- ---- a file's size
 
 -- "1 EMPTY: no bytes"
-pub empty-file : (room : ℕ) → verdict [] room ≡ refuses 1 0 0
+pub empty-file : (seal : Seal) (room : Option ℕ) → verdict seal [] room ≡ refuses 1 0 0
 unfolding verdict number
-empty-file room = refl
+empty-file seal room = refl
 
 -- "A file has 1 to 16,777,216 bytes (h)."; "2 TOO_LONG: over the limit"
-pub long-file : (file : List ℕ) (room : ℕ) → 16777216 < length file → verdict file room ≡ refuses 2 0 0
+pub long-file : (seal : Seal) (file : List ℕ) (room : Option ℕ) → 16777216 < length file → verdict seal file room ≡ refuses 2 0 0
 unfolding verdict number
-long-file file room h = rw (le-leb 1 (length file) (omega arith), lt-leb (length file) 16777216 h)
+long-file seal file room h = rw (le-leb 1 (length file) (omega arith), lt-leb (length file) 16777216 h)
 
 -- "The table gets entries for the lines before the faulty one ..., the rest unchanged.": at 1 and 2 there is no line, and the table stays
-pub empty-leaves : (table : List ℕ) → tableAfter [] table ≡ table
+pub empty-leaves : (seal : Seal) (table : List ℕ) → tableAfter seal [] table ≡ table
 unfolding tableAfter verdict goodLines
-empty-leaves table = refl
+empty-leaves seal table = refl
 
-pub long-leaves : (file table : List ℕ) → 16777216 < length file → tableAfter file table ≡ table
+pub long-leaves : (seal : Seal) (file table : List ℕ) → 16777216 < length file → tableAfter seal file table ≡ table
 unfolding tableAfter goodLines
-long-leaves file table h = rw (long-file file (length table) h)
+long-leaves seal file table h = rw (long-file seal file (some (length table)) h)
 
 -- ---- degrees
 

@@ -2,8 +2,9 @@
 use Prim.Native.Nat.{ℕ}
 use mathlib.Core.Bool.{Bool, _&&_}
 use mathlib.Core.Path.{_≡_}
+use Rattle.rules.specs.Families.{firstStart}
 use Rattle.rules.specs.Refusals.{refusal}
-use Rattle.rules.specs.Layouts.{placed, isSpelt, isSaid, LayoutTold, firstStart, lineLength}
+use Rattle.rules.specs.Layouts.{placed, isSpelt, isSaid, LayoutTold, lineLength}
 use Rattle.rules.specs.declared.Refusal.{Refusal}
 use Rattle.rules.specs.declared.Entry.{Entry}
 use Rattle.rules.specs.declared.Layout.{Layout}

@@ -9,16 +9,16 @@ use borrow.Author.Tests.{leb-true}
 use lib.Dec.{leb}
 use lib.ListN.{length, getD, take, length-append}
 use lib.Seq.{getD-take, length-take-le, take-all}
+use Rattle.rules.specs.Families.{layoutLetter}
 use Rattle.rules.specs.Chars.{isDigit, isCode}
 use Rattle.rules.specs.Numbers.{digitsOf}
 use Rattle.rules.specs.Listed.{isCodeWord}
 use Rattle.rules.specs.Layouts.{unused, emptyLayout, withEntry, entriesOf, placed, isSaid, isSpelt, allPlaced, allowed}
-use Rattle.rules.specs.Reads.{layoutLetter}
 use Rattle.rules.specs.Writes.{entryText, entryTexts, layoutText, putAt, crlf}
 use Rattle.rules.specs.declared.Entry.{Entry}
 use Rattle.rules.specs.declared.Layout.{Layout}
 use Rattle.rules.specs.declared.Family.{Family}
-use Rattle.trips.proofs.Laws.{and-inv}
+use Rattle.rules.proofs.Inverse.{and-inv}
 use Rattle.trips.proofs.Texts.{digit-range}
 use Rattle.put.specs.Puts.{Fills}
 use Rattle.put.proofs.Laws.{digits-length, put-last, fills-then, byte-then, digits-then}

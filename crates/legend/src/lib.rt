@@ -2,10 +2,10 @@
 ghost use mathlib.Core.List.{_++_};
 ghost use mathlib.Core.Path.{_≡_};
 ghost use Prim.Native.Nat.{_<_, _≤_};
+ghost use Rattle.rules.specs.Families.{layoutLetter};
 ghost use Rattle.rules.specs.Listed.{codeText};
 ghost use Rattle.rules.specs.Layouts.{entriesOf};
 ghost use Rattle.rules.specs.Writes.{entryText, entryTexts, layoutText, crlf};
-ghost use Rattle.rules.specs.Reads.{layoutLetter};
 ghost use Rattle.rules.specs.Promises.{LayoutWritten};
 ghost use Rattle.put.specs.Puts.{Fills};
 ghost use Rattle.legend.specs.Spelling.{Spells};

@@ -5,8 +5,9 @@ use mathlib.Core.Option.{Option, none, some}
 use mathlib.Core.Path.{_≡_, sym, _∙_}
 use borrow.Author.Tests.{eq-eqb, ne-eqb}
 use lib.Dec.{eqb}
+use Rattle.rules.specs.Families.{firstStart}
 use Rattle.rules.specs.Choice.{given, need}
-use Rattle.rules.specs.Layouts.{firstStart, allowed, lineLength}
+use Rattle.rules.specs.Layouts.{allowed, lineLength}
 use Rattle.rules.specs.declared.Family.{Family}
 use Rattle.rules.specs.declared.Layout.{Layout}
 

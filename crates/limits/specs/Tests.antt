@@ -7,7 +7,7 @@ use Rattle.rules.specs.declared.Layout.{Layout}
 use Rattle.rules.specs.declared.Fix.{Fix}
 use Rattle.rules.specs.declared.Head.{Head}
 use Rattle.rules.specs.declared.Point.{Point}
-use Rattle.trips.specs.Limits.{goodPoint, goodHead, goodFix, goodExtra}
+use Rattle.rules.specs.Limits.{goodPoint, goodHead, goodFix, goodExtra}
 
 abbrev pub PointTest : Point → List ℕ → Bool → Type 0
 PointTest p rest r = r ≡ goodPoint p rest

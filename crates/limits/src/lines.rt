@@ -1,6 +1,6 @@
 // The values of a line, with the text behind its fields.
 ghost use mathlib.Core.Path.{_≡_};
-ghost use Rattle.trips.specs.Limits.{goodHeadFields, goodFixFields};
+ghost use Rattle.rules.specs.Limits.{goodHeadFields, goodFixFields};
 ghost use Rattle.limits.specs.Tests.{PointTest, HeadTest, FixTest, ExtraTest};
 use crate::tails::good_tail;
 use range::is_altitude;

@@ -2,10 +2,10 @@
 ghost use mathlib.Core.Bool.{true, false};
 ghost use mathlib.Core.Path.{_≡_};
 ghost use Prim.Native.Nat.{_+_, _-_, _≤_};
+ghost use Rattle.rules.specs.Families.{firstStart};
 ghost use Rattle.rules.specs.Choice.{given, part};
-ghost use Rattle.rules.specs.Layouts.{firstStart};
 ghost use Rattle.rules.specs.Listed.{keepsRule};
-ghost use Rattle.trips.specs.Limits.{badTail, goodTail};
+ghost use Rattle.rules.specs.Limits.{badTail, goodTail};
 use range::is_clean;
 use rules::Entry;
 use rules::Family;

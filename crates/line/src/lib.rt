@@ -3,14 +3,16 @@ ghost use mathlib.Core.Path.{_≡_};
 ghost use Prim.Native.Nat.{_-_, _%_};
 ghost use lib.Dec.{eqb};
 ghost use lib.ListN.{length, drop};
+ghost use Rattle.rules.specs.Families.{firstStart};
 ghost use Rattle.rules.specs.Lines.{isDateMark, plannedAt, headFields, badPair, shapedBy};
-ghost use Rattle.rules.specs.Layouts.{firstStart, columns};
+ghost use Rattle.rules.specs.Layouts.{columns};
 ghost use Rattle.rules.specs.Refusals.{outcomeTold, andThen, says};
 ghost use Rattle.rules.specs.Reads.{headTold, fixTold};
-ghost use Rattle.rules.specs.Promises.{RecorderChecked, DateLineChecked, HeaderChecked, HeadChecked, PointChecked, DifferentialChecked, EventChecked, SatellitesChecked, FixChecked, ExtraChecked, foundTold};
+ghost use Rattle.rules.specs.Promises.{RecorderChecked, DateLineChecked, HeaderChecked, HeadChecked, PointChecked, DifferentialChecked, EventChecked, SatellitesChecked, FixChecked, ExtraChecked, ColumnedChecked, KindGiven, foundTold};
 ghost use Rattle.line.specs.Parts.{plannedTold};
 use fix::fix_fields;
 use fix::form;
+use rules::Class;
 use rules::DateRead;
 use rules::Day;
 use rules::Family;
@@ -19,6 +21,7 @@ use rules::FixRead;
 use rules::Found;
 use rules::Head;
 use rules::HeadRead;
+use rules::Kind;
 use rules::Layout;
 use rules::Number;
 use rules::Outcome;
@@ -39,10 +42,10 @@ pub fn recorder(line: &[u8]) -> Outcome
         return Outcome::Refused(r);
     }
     if !chars::codes_at(line, 1, 3) {
-        return Outcome::Refused(form(2));
+        return Outcome::Refused(form(Class::Other, 2));
     }
     if !chars::codes_at(line, 4, 3) {
-        return Outcome::Refused(form(5));
+        return Outcome::Refused(form(Class::Other, 5));
     }
     Outcome::Accepted
 }
@@ -55,10 +58,10 @@ pub fn header(line: &[u8]) -> Outcome
         return Outcome::Refused(r);
     }
     if !chars::is_either(chars::byte(line, 1), b'F', b'O') {
-        return Outcome::Refused(form(2));
+        return Outcome::Refused(form(Class::Other, 2));
     }
     if !chars::codes_at(line, 2, 3) {
-        return Outcome::Refused(form(3));
+        return Outcome::Refused(form(Class::Other, 3));
     }
     Outcome::Accepted
 }
@@ -71,10 +74,10 @@ pub fn differential(line: &[u8]) -> Outcome
         return Outcome::Refused(r);
     }
     if !chars::is_either(chars::byte(line, 1), b'1', b'2') {
-        return Outcome::Refused(form(2));
+        return Outcome::Refused(form(Class::Other, 2));
     }
     if !chars::codes_at(line, 2, 4) {
-        return Outcome::Refused(form(3));
+        return Outcome::Refused(form(Class::Other, 3));
     }
     Outcome::Accepted
 }
@@ -87,10 +90,10 @@ pub fn event(line: &[u8]) -> TimeRead
         return TimeRead::Refused(r);
     }
     let Time::Secs(t) = field::time_at(line, 1) else {
-        return TimeRead::Refused(form(2));
+        return TimeRead::Refused(form(Class::Time, 2));
     };
     if !chars::codes_at(line, 7, 3) {
-        return TimeRead::Refused(form(8));
+        return TimeRead::Refused(form(Class::Other, 8));
     }
     TimeRead::Secs(t)
 }
@@ -119,10 +122,10 @@ pub fn date_line(line: &[u8]) -> DateRead
         return DateRead::Refused(r);
     }
     if !is_date_mark(line) {
-        return DateRead::Refused(form(2));
+        return DateRead::Refused(form(Class::Other, 2));
     }
     let Day::On(d) = field::date_at(line, 5) else {
-        return DateRead::Refused(form(6));
+        return DateRead::Refused(form(Class::Date, 6));
     };
     DateRead::On(d)
 }
@@ -154,19 +157,19 @@ fn head_fields(line: &[u8]) -> HeadRead
     ensures { λ r. ⌜ headTold r ≡ headFields (now (line .entry)) ⌝ }
 {
     let Day::On(declared) = field::date_at(line, 1) else {
-        return HeadRead::Refused(form(2));
+        return HeadRead::Refused(form(Class::Date, 2));
     };
     let Time::Secs(time) = field::time_at(line, 7) else {
-        return HeadRead::Refused(form(8));
+        return HeadRead::Refused(form(Class::Time, 8));
     };
     let PlannedRead::Is(flight) = planned_at(line, 13) else {
-        return HeadRead::Refused(form(14));
+        return HeadRead::Refused(form(Class::Date, 14));
     };
     let Number::Value(task) = number::digits(line, 19, 4) else {
-        return HeadRead::Refused(form(20));
+        return HeadRead::Refused(form(Class::Other, 20));
     };
     let Number::Value(turns) = number::digits(line, 23, 2) else {
-        return HeadRead::Refused(form(24));
+        return HeadRead::Refused(form(Class::Other, 24));
     };
     HeadRead::Is(Head {
         declared,
@@ -195,10 +198,10 @@ pub fn point_line(line: &[u8]) -> PointRead
         return PointRead::Refused(r);
     }
     let Place::Is(lat) = field::latitude_at(line, 1) else {
-        return PointRead::Refused(form(2));
+        return PointRead::Refused(form(Class::Position, 2));
     };
     let Place::Is(lon) = field::longitude_at(line, 9) else {
-        return PointRead::Refused(form(10));
+        return PointRead::Refused(form(Class::Position, 10));
     };
     PointRead::Is(Point { lat, lon })
 }
@@ -242,13 +245,13 @@ pub fn satellites(line: &[u8]) -> TimeRead
         return TimeRead::Refused(r);
     }
     let Time::Secs(t) = field::time_at(line, 1) else {
-        return TimeRead::Refused(form(2));
+        return TimeRead::Refused(form(Class::Time, 2));
     };
     if !is_paired(line) {
-        return TimeRead::Refused(form(8));
+        return TimeRead::Refused(form(Class::Other, 8));
     }
     if let Found::At(i) = bad_pair(line) {
-        return TimeRead::Refused(form((i + 1) as u32));
+        return TimeRead::Refused(form(Class::Other, (i + 1) as u32));
     }
     TimeRead::Secs(t)
 }
@@ -292,10 +295,45 @@ pub fn extra_line(line: &[u8], layout: Layout) -> TimeRead
         return TimeRead::Refused(r);
     }
     let Time::Secs(t) = field::time_at(line, 1) else {
-        return TimeRead::Refused(form(2));
+        return TimeRead::Refused(form(Class::Time, 2));
     };
     if let Outcome::Refused(r) = column::columns(line, layout) {
         return TimeRead::Refused(r);
     }
     TimeRead::Secs(t)
+}
+
+// A line of a family by its layout: its time. Refusals: those of its kind. Defined for every layout value.
+pub fn columned_line(family: Family, line: &[u8], layout: Layout) -> TimeRead
+    ensures { λ r. ⌜ ColumnedChecked family (now (line .entry)) layout r ⌝ }
+{
+    match family {
+        Family::B => match fix_line(line, layout) {
+            FixRead::Is(f) => TimeRead::Secs(f.time),
+            FixRead::Refused(r) => TimeRead::Refused(r),
+        },
+        Family::K => extra_line(line, layout),
+    }
+}
+
+// The kind of a line, told by its first byte; NoKind for a byte that is not A to Z.
+pub fn kind_of(b: u8) -> Kind
+    ensures { λ r. ⌜ KindGiven b r ⌝ }
+{
+    match b {
+        b'A' => Kind::A,
+        b'B' => Kind::B,
+        b'C' => Kind::C,
+        b'D' => Kind::D,
+        b'E' => Kind::E,
+        b'F' => Kind::F,
+        b'G' => Kind::G,
+        b'H' => Kind::H,
+        b'I' => Kind::I,
+        b'J' => Kind::J,
+        b'K' => Kind::K,
+        b'L' => Kind::L,
+        b'M'..=b'Z' => Kind::Other,
+        _ => Kind::NoKind,
+    }
 }

@@ -5,6 +5,7 @@ use rules::Fix;
 use rules::Flight;
 use rules::Layout;
 use rules::Refusal;
+use rules::Seal;
 
 // REFUSED, the number, the line and the byte.
 pub fn print_refusal(why: Refusal) {
@@ -65,7 +66,8 @@ fn print_pages(file: &[u8], table: &[u32], lines: u32, layout: Layout) {
 
 // The listing of an accepted file, by its table and what the check said of it.
 pub fn print_accepted(file: &[u8], table: &[u32], flight: Flight) {
-    let layout = flight.fixes;
+    let layouts = flight.layouts;
+    let layout = layouts.b;
     print_ok(flight);
     print_pages(file, table, flight.lines, layout);
 }
@@ -74,7 +76,7 @@ pub fn print_accepted(file: &[u8], table: &[u32], flight: Flight) {
 pub fn list(file: &[u8]) {
     let mut table = [0u32; 16384];
     let mut out = [0u8; 288];
-    let begun = pages::begin(65536, file, &mut table, &mut out);
+    let begun = pages::begin(Seal::Strict, 65536, file, &mut table, &mut out);
     let n = begun.count;
     let layout = begun.layout;
     io::write_all(STDOUT_FILENO, &out[..n]);

@@ -4,28 +4,42 @@ use mathlib.Core.Bool.{Bool, _&&_, cond}
 use mathlib.Core.Option.{Option, none, some}
 use mathlib.Core.Path.{_≡_}
 use lib.Dec.{leb}
-use Rattle.rules.specs.Order.{isKind, orderOf, noFlight, start, moved, dated, withFixes, withExtras, counted, begun, pointed, clocked, passing, isBack}
+use Rattle.rules.specs.Families.{layoutOf, countOf, oneMore}
+use Rattle.rules.specs.Files.{endsAfter}
+use Rattle.rules.specs.Order.{orderOf, noFlight, start, withFlight, moved, dated, laidOut, begun, pointed, clocked, passing, isBack}
+use Rattle.rules.specs.Roles.{roleOf, isRole}
+use Rattle.rules.specs.declared.Counts.{Counts}
 use Rattle.rules.specs.declared.Date.{Date}
+use Rattle.rules.specs.declared.Family.{Family}
 use Rattle.rules.specs.declared.Flight.{Flight}
 use Rattle.rules.specs.declared.Head.{Head}
 use Rattle.rules.specs.declared.Kind.{Kind}
 use Rattle.rules.specs.declared.Layout.{Layout}
+use Rattle.rules.specs.declared.Layouts.{Layouts}
+use Rattle.rules.specs.declared.Role.{Role}
+use Rattle.rules.specs.declared.Seal.{Seal}
 use Rattle.rules.specs.declared.State.{State}
 use Rattle.order.specs.declared.Leading.{Leading}
 use Rattle.order.specs.declared.Leading.the-variants as leading
 
 -- ---- which kind may follow which
 
+abbrev pub EndGiven : Seal → ℕ → Type 0
+EndGiven seal r = r ≡ endsAfter seal
+
+abbrev pub RoleGiven : Kind → Role → Type 0
+RoleGiven k r = r ≡ roleOf k
+
+abbrev pub RoleTest : Role → Bool → Type 0
+RoleTest r x = x ≡ isRole r
+
 -- the part of a file that a line leads to, where it may come
 unfoldable pub leadingTold : Leading → Option ℕ
 leadingTold (leading.To stage) = some stage
 leadingTold leading.Nowhere = none
 
-abbrev pub OrderTold : Kind → State → Leading → Type 0
-OrderTold k st r = leadingTold r ≡ orderOf k st
-
-abbrev pub KindTest : Kind → Bool → Type 0
-KindTest k r = r ≡ isKind k
+abbrev pub OrderTold : Role → State → Leading → Type 0
+OrderTold r st x = leadingTold x ≡ orderOf r st
 
 -- the time falls, and not to the next day
 abbrev pub BackTest : ℕ → ℕ → Bool → Type 0
@@ -38,11 +52,16 @@ isFew n = leb n 16777216
 
 pub record Few (st : State) : Type 0 where
   pub lines : st .flight .lines ≤ 16777216
-  pub bs : st .flight .bs ≤ 16777216
-  pub ks : st .flight .ks ≤ 16777216
+  pub count : (f : Family) → countOf f (st .flight .counts) ≤ 16777216
+
+unfoldable pub areFew : Counts → Bool
+areFew ns = isFew (ns .b) && isFew (ns .k)
+
+abbrev pub FewCounts : Counts → Bool → Type 0
+FewCounts ns r = r ≡ areFew ns
 
 unfoldable pub hasFew : State → Bool
-hasFew st = isFew (st .flight .lines) && isFew (st .flight .bs) && isFew (st .flight .ks)
+hasFew st = isFew (st .flight .lines) && areFew (st .flight .counts)
 
 abbrev pub FewTest : State → Bool → Type 0
 FewTest st r = r ≡ hasFew st
@@ -64,23 +83,24 @@ Moved stage st r = r ≡ movedTo stage st
 abbrev pub Dated : Date → State → State → Type 0
 Dated date st r = r ≡ dated date st
 
-abbrev pub FixesSet : Layout → State → State → Type 0
-FixesSet layout st r = r ≡ withFixes layout st
+abbrev pub LayoutKept : Family → Layouts → Layout → Type 0
+LayoutKept f ls r = r ≡ layoutOf f ls
 
-abbrev pub ExtrasSet : Layout → State → State → Type 0
-ExtrasSet layout st r = r ≡ withExtras layout st
+abbrev pub LaidOut : Family → Layout → State → State → Type 0
+LaidOut f layout st r = r ≡ laidOut f layout st
 
-abbrev pub fixCounted : State → State
-fixCounted st = cond (isFew (st .flight .bs)) (counted 1 0 st) st
+unfoldable pub moreOf : Family → Counts → Counts
+moreOf f ns = cond (areFew ns) (oneMore f ns) ns
 
-abbrev pub FixCounted : State → State → Type 0
-FixCounted st r = r ≡ fixCounted st
+abbrev pub OneCounted : Family → Counts → Counts → Type 0
+OneCounted f ns r = r ≡ moreOf f ns
 
-abbrev pub extraCounted : State → State
-extraCounted st = cond (isFew (st .flight .ks)) (counted 0 1 st) st
+abbrev pub countedIn : Family → State → State
+countedIn f st =
+    withFlight st (record { date = st .flight .date; layouts = st .flight .layouts; lines = st .flight .lines; counts = moreOf f (st .flight .counts) })
 
-abbrev pub ExtraCounted : State → State → Type 0
-ExtraCounted st r = r ≡ extraCounted st
+abbrev pub CountedIn : Family → State → State → Type 0
+CountedIn f st r = r ≡ countedIn f st
 
 abbrev pub Begun : Head → State → State → Type 0
 Begun head st r = r ≡ begun head st

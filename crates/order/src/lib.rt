@@ -1,15 +1,23 @@
 // Which kind of line may follow which, the time order, and the state that the lines so far have left.
 ghost use mathlib.Core.Path.{_≡_};
+ghost use Rattle.rules.specs.Families.{withLayout};
 ghost use Rattle.rules.specs.Layouts.{emptyLayout};
-ghost use Rattle.rules.specs.Order.{leading, stageAfter, isC, fitsDeclaration};
-ghost use Rattle.rules.specs.declared.Kind.the-variants as kind;
-ghost use Rattle.order.specs.States.{leadingTold, OrderTold, KindTest, BackTest, FewTest, NoFlight, BeforeAll, Moved, Dated, FixesSet, ExtrasSet, FixCounted, ExtraCounted, Begun, Pointed, Clocked};
+ghost use Rattle.rules.specs.Order.{fitsDeclaration};
+ghost use Rattle.rules.specs.Roles.{isDeclaring, afterLayout, leading, stageAfter};
+ghost use Rattle.rules.specs.declared.Role.the-variants as role;
+ghost use Rattle.order.specs.Turns.{EntryPut};
+ghost use Rattle.order.specs.States.{leadingTold, EndGiven, RoleGiven, RoleTest, OrderTold, BackTest, FewCounts, FewTest, NoFlight, BeforeAll, Moved, Dated, LayoutKept, LaidOut, OneCounted, CountedIn, Begun, Pointed, Clocked};
+use rules::Counts;
 use rules::Date;
 use rules::Entry;
+use rules::Family;
 use rules::Flight;
 use rules::Head;
 use rules::Kind;
 use rules::Layout;
+use rules::Layouts;
+use rules::Role;
+use rules::Seal;
 use rules::State;
 
 // The parts of a file, as far as its lines have come.
@@ -17,17 +25,54 @@ const AT_START: u8 = 0;
 
 const AFTER_A: u8 = 1;
 
-const AFTER_H: u8 = 2;
+pub const AFTER_H: u8 = 2;
 
-const AFTER_I: u8 = 3;
+pub const IN_BODY: u8 = 5;
 
-const AFTER_J: u8 = 4;
-
-const IN_BODY: u8 = 5;
-
-pub const AFTER_G: u8 = 6;
+const AFTER_G: u8 = 6;
 
 const AFTER_LAST_G: u8 = 7;
+
+// The part of a file behind the line that tells a family's layout.
+fn after_layout(family: Family) -> u8
+    ensures { λ r. ⌜ r ≡ afterLayout family ⌝ }
+{
+    match family {
+        Family::B => 3,
+        Family::K => 4,
+    }
+}
+
+// The part of a file that its lines must have reached at its end.
+pub fn ends_after(seal: Seal) -> u8
+    ensures { λ r. ⌜ EndGiven seal r ⌝ }
+{
+    match seal {
+        Seal::Strict => AFTER_G,
+    }
+}
+
+// What a kind of line does in a file.
+pub fn role_of(k: Kind) -> Role
+    ensures { λ r. ⌜ RoleGiven k r ⌝ }
+{
+    match k {
+        Kind::A => Role::Opens,
+        Kind::B => Role::Columned(Family::B),
+        Kind::C => Role::Declares,
+        Kind::D => Role::Differential,
+        Kind::E => Role::Event,
+        Kind::F => Role::Satellites,
+        Kind::G => Role::Seals,
+        Kind::H => Role::Heads,
+        Kind::I => Role::Tells(Family::B),
+        Kind::J => Role::Tells(Family::K),
+        Kind::K => Role::Columned(Family::K),
+        Kind::L => Role::Remark,
+        Kind::Other => Role::Other,
+        Kind::NoKind => Role::NoRole,
+    }
+}
 
 // The part of a file that a line leads to, or that it may not come there.
 pub enum Leading {
@@ -47,8 +92,18 @@ fn leads_to(low: u8, high: u8, next: u8, stage: u8) -> Leading
     Leading::To(next)
 }
 
-fn extra_after(stage: u8) -> Leading
-    ensures { λ r. ⌜ leadingTold r ≡ stageAfter kind.L stage ⌝ }
+fn layout_after(family: Family, stage: u8) -> Leading
+    ensures { λ r. ⌜ leadingTold r ≡ stageAfter (role.Tells family) stage ⌝ }
+{
+    let told = after_layout(family);
+    if told < 1 {
+        return Leading::Nowhere;
+    }
+    leads_to(AFTER_H, told - 1, told, stage)
+}
+
+fn remark_after(stage: u8) -> Leading
+    ensures { λ r. ⌜ leadingTold r ≡ stageAfter role.Remark stage ⌝ }
 {
     if stage <= IN_BODY {
         return leads_to(AFTER_H, IN_BODY, IN_BODY, stage);
@@ -56,37 +111,34 @@ fn extra_after(stage: u8) -> Leading
     leads_to(AFTER_G, AFTER_LAST_G, AFTER_LAST_G, stage)
 }
 
-fn stage_after(k: Kind, stage: u8) -> Leading
-    ensures { λ r. ⌜ leadingTold r ≡ stageAfter k stage ⌝ }
+fn stage_after(r: Role, stage: u8) -> Leading
+    ensures { λ x. ⌜ leadingTold x ≡ stageAfter r stage ⌝ }
 {
-    match k {
-        Kind::A => leads_to(AT_START, AT_START, AFTER_A, stage),
-        Kind::H => leads_to(AFTER_A, AFTER_H, AFTER_H, stage),
-        Kind::I => leads_to(AFTER_H, AFTER_H, AFTER_I, stage),
-        Kind::J => leads_to(AFTER_H, AFTER_I, AFTER_J, stage),
-        Kind::G => leads_to(AFTER_H, AFTER_G, AFTER_G, stage),
-        Kind::L => extra_after(stage),
-        Kind::NoKind => Leading::Nowhere,
-        Kind::B | Kind::C | Kind::D | Kind::E | Kind::F | Kind::K | Kind::Other => {
-            leads_to(AFTER_H, IN_BODY, IN_BODY, stage)
-        }
+    match r {
+        Role::Opens => leads_to(AT_START, AT_START, AFTER_A, stage),
+        Role::Heads => leads_to(AFTER_A, AFTER_H, AFTER_H, stage),
+        Role::Tells(family) => layout_after(family, stage),
+        Role::Seals => leads_to(AFTER_H, AFTER_G, AFTER_G, stage),
+        Role::Remark => remark_after(stage),
+        Role::NoRole => Leading::Nowhere,
+        _ => leads_to(AFTER_H, IN_BODY, IN_BODY, stage),
     }
 }
 
-fn is_c(k: Kind) -> bool
-    ensures { λ r. ⌜ r ≡ isC k ⌝ }
+fn is_declaring(r: Role) -> bool
+    ensures { λ x. ⌜ x ≡ isDeclaring r ⌝ }
 {
-    match k {
-        Kind::C => true,
+    match r {
+        Role::Declares => true,
         _ => false,
     }
 }
 
-pub fn is_kind(k: Kind) -> bool
-    ensures { λ r. ⌜ KindTest k r ⌝ }
+pub fn is_role(r: Role) -> bool
+    ensures { λ x. ⌜ RoleTest r x ⌝ }
 {
-    match k {
-        Kind::NoKind => false,
+    match r {
+        Role::NoRole => false,
         _ => true,
     }
 }
@@ -104,17 +156,17 @@ fn fits_declaration(c: bool, st: State) -> bool
     if st.declared {
         return false;
     }
-    st.flight.bs == 0
+    st.flight.counts.b == 0
 }
 
-// The part of the file that a line of this kind leads to from here, if it may come.
-pub fn order_of(k: Kind, st: State) -> Leading
-    ensures { λ r. ⌜ OrderTold k st r ⌝ }
+// The part of the file that a line of this role leads to from here, if it may come.
+pub fn order_of(r: Role, st: State) -> Leading
+    ensures { λ x. ⌜ OrderTold r st x ⌝ }
 {
-    if !fits_declaration(is_c(k), st) {
+    if !fits_declaration(is_declaring(r), st) {
         return Leading::Nowhere;
     }
-    stage_after(k, st.stage)
+    stage_after(r, st.stage)
 }
 
 // Whether a time falls from the one before it, and not to the next day.
@@ -144,17 +196,25 @@ fn empty_layout() -> Layout
     }
 }
 
+// Whether the counts of each family are few.
+pub fn are_few(counts: Counts) -> bool
+    ensures { λ r. ⌜ FewCounts counts r ⌝ }
+{
+    if 16777216 < counts.b {
+        return false;
+    }
+    counts.k <= 16777216
+}
+
 // Whether the counts are few: no more than a file has bytes, at most.
 pub fn has_few(st: State) -> bool
     ensures { λ r. ⌜ FewTest st r ⌝ }
 {
-    if 16777216 < st.flight.lines {
+    let flight = st.flight;
+    if 16777216 < flight.lines {
         return false;
     }
-    if 16777216 < st.flight.bs {
-        return false;
-    }
-    st.flight.ks <= 16777216
+    are_few(flight.counts)
 }
 
 // What stands beside a refused file.
@@ -166,13 +226,15 @@ pub fn no_flight() -> Flight
         month: 0,
         year: 0,
     };
+    let layouts = Layouts {
+        b: empty_layout(),
+        k: empty_layout(),
+    };
     Flight {
         date,
-        fixes: empty_layout(),
-        extras: empty_layout(),
+        layouts,
         lines: 0,
-        bs: 0,
-        ks: 0,
+        counts: Counts { b: 0, k: 0 },
     }
 }
 
@@ -214,51 +276,69 @@ pub fn dated_to(date: Date, st: State) -> State
     next
 }
 
-// The state with the layout of the B lines.
-pub fn with_fixes(layout: Layout, st: State) -> State
-    ensures { λ r. ⌜ FixesSet layout st r ⌝ }
+// The layout of a family among those of a file.
+pub fn layout_of(family: Family, layouts: Layouts) -> Layout
+    ensures { λ r. ⌜ LayoutKept family layouts r ⌝ }
+{
+    match family {
+        Family::B => layouts.b,
+        Family::K => layouts.k,
+    }
+}
+
+fn with_layout(family: Family, layout: Layout, layouts: Layouts) -> Layouts
+    ensures { λ r. ⌜ r ≡ withLayout family layout layouts ⌝ }
+{
+    let mut next = layouts;
+    match family {
+        Family::B => {
+            next.b = layout;
+        }
+        Family::K => {
+            next.k = layout;
+        }
+    }
+    next
+}
+
+// The state with the layout of a family.
+pub fn laid_out(family: Family, layout: Layout, st: State) -> State
+    ensures { λ r. ⌜ LaidOut family layout st r ⌝ }
 {
     let mut flight = st.flight;
-    flight.fixes = layout;
+    flight.layouts = with_layout(family, layout, flight.layouts);
     let mut next = st;
     next.flight = flight;
     next
 }
 
-// The state with the layout of the K lines.
-pub fn with_extras(layout: Layout, st: State) -> State
-    ensures { λ r. ⌜ ExtrasSet layout st r ⌝ }
+// The counts with one line of a family more. Counts that are not few are left.
+pub fn one_more(family: Family, counts: Counts) -> Counts
+    ensures { λ r. ⌜ OneCounted family counts r ⌝ }
+{
+    if !are_few(counts) {
+        return counts;
+    }
+    match family {
+        Family::B => Counts {
+            b: counts.b + 1,
+            k: counts.k,
+        },
+        Family::K => Counts {
+            b: counts.b,
+            k: counts.k + 1,
+        },
+    }
+}
+
+// The state with one line of a family more.
+pub fn counted_in(family: Family, st: State) -> State
+    ensures { λ r. ⌜ CountedIn family st r ⌝ }
 {
     let mut flight = st.flight;
-    flight.extras = layout;
+    flight.counts = one_more(family, flight.counts);
     let mut next = st;
     next.flight = flight;
-    next
-}
-
-// The state with one B line more.
-pub fn fix_counted(st: State) -> State
-    ensures { λ r. ⌜ FixCounted st r ⌝ }
-{
-    if 16777216 < st.flight.bs {
-        return st;
-    }
-    let bs = st.flight.bs + 1;
-    let mut next = st;
-    next.flight.bs = bs;
-    next
-}
-
-// The state with one K line more.
-pub fn extra_counted(st: State) -> State
-    ensures { λ r. ⌜ ExtraCounted st r ⌝ }
-{
-    if 16777216 < st.flight.ks {
-        return st;
-    }
-    let ks = st.flight.ks + 1;
-    let mut next = st;
-    next.flight.ks = ks;
     next
 }
 
@@ -293,4 +373,18 @@ pub fn clocked_to(t: u32, st: State) -> State
     let mut next = st;
     next.clock = t;
     next
+}
+
+// Puts a line's offset into the lent table, if one is lent, at its place: whether the table has room for it. Where it has none, the table stays.
+pub fn put_entry(lent: bool, table: &mut [u32], n: usize, at: u32) -> bool
+    ensures { λ r. ⌜ EntryPut lent (now (table .entry)) n at r (now (table .exit)) ⌝ }
+{
+    if !lent {
+        return true;
+    }
+    if table.len() <= n {
+        return false;
+    }
+    table[n] = at;
+    true
 }

@@ -4,23 +4,24 @@ use mathlib.Core.Bool.{Bool, true, false, not}
 use mathlib.Core.List.{List, _∷_, _++_}
 use mathlib.Core.Option.{Option, none, some}
 use mathlib.Core.Path.{_≡_, refl, sym, ap, _∙_}
-use native.Mathlib.Nat.{add-zero}
 use native.Mathlib.Numerals.{add-one}
 use native.Mathlib.Omega.{arith}
 use borrow.Author.Tests.{le-leb}
 use lib.ListN.{length, getD, take, drop, length-take, length-drop, take-append-drop}
 use lib.Seq.{drop-cons, drop-drop, getD-take, getD-drop}
+use Rattle.rules.specs.Families.{firstStart, lineLetter, layoutOf, oneMore}
+use Rattle.rules.specs.Roles.{afterH, inBody, stageAfter}
 use Rattle.rules.specs.Choice.{given, need, on}
 use Rattle.rules.specs.Fields.{timeTold}
-use Rattle.rules.specs.Layouts.{entriesOf, lineLength, firstStart}
-use Rattle.rules.specs.Lines.{kindOf, bLine, kLine, eLine, fLine, shaped}
-use Rattle.rules.specs.Order.{judge, orderOf, fitsDeclaration, stageAfter, ruled, timed, passing, isBack, moved, counted, clocked}
+use Rattle.rules.specs.Layouts.{entriesOf, lineLength}
+use Rattle.rules.specs.Lines.{kindOf, columnedLine, eLine, fLine, shaped}
+use Rattle.rules.specs.Order.{judge, orderOf, fitsDeclaration, ruled, timed, passing, isBack, moved, counted, clocked}
 use Rattle.rules.specs.Reads.{timeReadTold}
 use Rattle.rules.specs.Refusals.{Said, says, outcomeTold}
 use Rattle.rules.specs.Split.{line, linesOf}
+use Rattle.rules.specs.declared.Counts.{Counts}
 use Rattle.rules.specs.declared.Family.{Family}
 use Rattle.rules.specs.declared.Family.the-variants as family
-use Rattle.rules.specs.declared.Fix.{Fix}
 use Rattle.rules.specs.declared.Outcome.{Outcome}
 use Rattle.rules.specs.declared.Outcome.the-variants as outcome
 use Rattle.rules.specs.declared.State.{State}
@@ -32,9 +33,11 @@ use Rattle.laws.proofs.Splitting.{lines-of-line}
 use Rattle.plain.specs.Plain.{isMild, every}
 use Rattle.plain.proofs.Laws.{mild-text}
 use Rattle.sure.specs.Sure.{patternOf, sureTime}
-use Rattle.sure.proofs.Said.{Parts, parts, sure-fix, sure-extra}
+use Rattle.sure.proofs.Said.{Parts, parts, sure-columned}
 use Rattle.cut.proofs.Cuts.{Cut}
-use Rattle.pace.specs.Paces.{letterOf, layoutFor, fixesIn, extrasIn, paced, onward, takenTold, AfterTime, Going, Known, Judges, JudgedAs, MildAs, Takes, TakenAs}
+use Rattle.order.specs.States.{areFew, moreOf}
+use Rattle.order.proofs.States.{are-few, few-more}
+use Rattle.pace.specs.Paces.{paced, onward, takenTold, AfterTime, Going, Known, Judges, JudgedAs, MildAs, Takes, TakenAs}
 use Rattle.pace.specs.declared.Pace.{Pace}
 use Rattle.pace.specs.declared.Taken.{Taken}
 use Rattle.pace.specs.declared.Taken.the-variants as taken
@@ -42,49 +45,45 @@ use Rattle.pace.specs.declared.Taken.the-variants as taken
 -- ---- what the answers tell
 
 -- a line was taken: it has a time, which does not fall
-pub record Timed (time : Time) (p : Pace) (next bs ks : ℕ) (q : Pace) : Type 0 where
+pub record Timed (time : Time) (p : Pace) (next : ℕ) (counts : Counts) (q : Pace) : Type 0 where
   pub t : ℕ
   pub is : timeTold time ≡ some t
   pub forth : isBack (passing (p .clock) t) ≡ false
-  pub numbers : q ≡ onward p next t bs ks
+  pub numbers : q ≡ onward p next t counts
 
-timed-by : (o : Option ℕ) (time : Time) (p q : Pace) (next bs ks : ℕ) → timeTold time ≡ o
-    → some q ≡ (given o none λ s. need (not (isBack (passing (p .clock) s))) none λ _. some (onward p next s bs ks)) → Timed time p next bs ks q
-timed-by none time p q next bs ks o e = let z : _≡_ {A = ℕ} 0 1 = cc in absurd (omega arith)
-timed-by (some t) time p q next bs ks o e = by (isBack (passing (p .clock) t)) refl e
+timed-by : (o : Option ℕ) (time : Time) (p q : Pace) (next : ℕ) (counts : Counts) → timeTold time ≡ o
+    → some q ≡ (given o none λ s. need (not (isBack (passing (p .clock) s))) none λ _. some (onward p next s counts)) → Timed time p next counts q
+timed-by none time p q next counts o e = let z : _≡_ {A = ℕ} 0 1 = cc in absurd (omega arith)
+timed-by (some t) time p q next counts o e = by (isBack (passing (p .clock) t)) refl e
   where
-    by : (b : Bool) → isBack (passing (p .clock) t) ≡ b → some q ≡ (need (not b) none λ _. some (onward p next t bs ks)) → Timed time p next bs ks q
+    by : (b : Bool) → isBack (passing (p .clock) t) ≡ b → some q ≡ (need (not b) none λ _. some (onward p next t counts)) → Timed time p next counts q
     by true w e = let z : _≡_ {A = ℕ} 0 1 = cc in absurd (omega arith)
     by false w e = record { t = t; is = o; forth = w; numbers = cc }
 
-pub timed-is : (time : Time) (p q : Pace) (next bs ks : ℕ) (r : Taken) → AfterTime time p next bs ks r → r ≡ taken.Next q → Timed time p next bs ks q
+pub timed-is : (time : Time) (p q : Pace) (next : ℕ) (counts : Counts) (r : Taken) → AfterTime time p next counts r → r ≡ taken.Next q → Timed time p next counts q
 unfolding takenTold
-timed-is time p q next bs ks r a e = timed-by (timeTold time) time p q next bs ks refl (rw e at a)
+timed-is time p q next counts r a e = timed-by (timeTold time) time p q next counts refl (rw e at a)
 
 -- ---- a line judged
 
-module _ (l : List ℕ) (s : State) (points : s .points ≡ 0) (low : 2 ≤ s .stage) (high : s .stage ≤ 5) (long : 1 ≤ length l) where
-  judged-fix : (fix : Fix) (t : ℕ) → getD l 0 0 ≡ 66 → bLine (s .flight .fixes) l ≡ says fix → fix .time ≡ t → isBack (passing (s .clock) t) ≡ false
-      → judge l s ≡ says (clocked t (counted 1 0 (moved 5 s)))
+module _ (l : List ℕ) (s : State) (points : s .points ≡ 0) (low : afterH ≤ s .stage) (high : s .stage ≤ inBody) (long : 1 ≤ length l) where
+  judged-columned : (f : Family) (t : ℕ) → getD l 0 0 ≡ lineLetter f → columnedLine f (layoutOf f (s .flight .layouts)) l ≡ says t → isBack (passing (s .clock) t) ≡ false
+      → judge l s ≡ says (clocked t (counted f (moved inBody s)))
   unfolding judge on kindOf orderOf fitsDeclaration stageAfter ruled timed
-  judged-fix fix t k read e forth = rw (le-leb 1 (length l) long, k, points, le-leb 2 (s .stage) low, le-leb (s .stage) 5 high, read, e, forth)
+  judged-columned family.B t k read forth = rw (le-leb 1 (length l) long, k, points, le-leb afterH (s .stage) low, le-leb (s .stage) inBody high, read, forth)
+  judged-columned family.K t k read forth = rw (le-leb 1 (length l) long, k, points, le-leb afterH (s .stage) low, le-leb (s .stage) inBody high, read, forth)
 
-  judged-extra : (t : ℕ) → getD l 0 0 ≡ 75 → kLine (s .flight .extras) l ≡ says t → isBack (passing (s .clock) t) ≡ false
-      → judge l s ≡ says (clocked t (counted 0 1 (moved 5 s)))
+  judged-event : (t : ℕ) → getD l 0 0 ≡ 69 → eLine l ≡ says t → isBack (passing (s .clock) t) ≡ false → judge l s ≡ says (clocked t (moved inBody s))
   unfolding judge on kindOf orderOf fitsDeclaration stageAfter ruled timed
-  judged-extra t k read forth = rw (le-leb 1 (length l) long, k, points, le-leb 2 (s .stage) low, le-leb (s .stage) 5 high, read, forth)
+  judged-event t k read forth = rw (le-leb 1 (length l) long, k, points, le-leb afterH (s .stage) low, le-leb (s .stage) inBody high, read, forth)
 
-  judged-event : (t : ℕ) → getD l 0 0 ≡ 69 → eLine l ≡ says t → isBack (passing (s .clock) t) ≡ false → judge l s ≡ says (clocked t (moved 5 s))
+  judged-satellites : (t : ℕ) → getD l 0 0 ≡ 70 → fLine l ≡ says t → isBack (passing (s .clock) t) ≡ false → judge l s ≡ says (clocked t (moved inBody s))
   unfolding judge on kindOf orderOf fitsDeclaration stageAfter ruled timed
-  judged-event t k read forth = rw (le-leb 1 (length l) long, k, points, le-leb 2 (s .stage) low, le-leb (s .stage) 5 high, read, forth)
+  judged-satellites t k read forth = rw (le-leb 1 (length l) long, k, points, le-leb afterH (s .stage) low, le-leb (s .stage) inBody high, read, forth)
 
-  judged-satellites : (t : ℕ) → getD l 0 0 ≡ 70 → fLine l ≡ says t → isBack (passing (s .clock) t) ≡ false → judge l s ≡ says (clocked t (moved 5 s))
-  unfolding judge on kindOf orderOf fitsDeclaration stageAfter ruled timed
-  judged-satellites t k read forth = rw (le-leb 1 (length l) long, k, points, le-leb 2 (s .stage) low, le-leb (s .stage) 5 high, read, forth)
-
-  judged-remark : getD l 0 0 ≡ 76 → shaped 1 99 false l ≡ says tt → judge l s ≡ says (moved 5 s)
+  judged-remark : getD l 0 0 ≡ 76 → shaped 1 99 false l ≡ says tt → judge l s ≡ says (moved inBody s)
   unfolding judge on kindOf orderOf fitsDeclaration stageAfter ruled
-  judged-remark k read = rw (le-leb 1 (length l) long, k, points, le-leb (s .stage) 5 high, le-leb 2 (s .stage) low, read)
+  judged-remark k read = rw (le-leb 1 (length l) long, k, points, le-leb (s .stage) inBody high, le-leb afterH (s .stage) low, read)
 
 -- ---- a line taken by numbers
 
@@ -98,57 +97,41 @@ by-mild (taken.Next q) h = h q refl
 by-mild taken.Unsure h = tt
 
 module _ (l : List ℕ) (st : State) (p : Pace) (next : ℕ) (g : Going st p) (long : 1 ≤ length l) where
-  columned-as : (f : Family) (size : ℕ) (pattern : List ℕ) (time : Time) (r : Taken) → Known f st size pattern → getD l 0 0 ≡ letterOf f → timeTold time ≡ sureTime f l size pattern
-      → AfterTime time p next (fixesIn f) (extrasIn f) r → MildAs l st p next r
-  columned-as family.B size pattern time r k e s a =
+  pub columned-told : (f : Family) (size : ℕ) (pattern : List ℕ) (time : Time) (r : Taken) → areFew (p .counts) ≡ true → Known f st size pattern → getD l 0 0 ≡ lineLetter f
+      → timeTold time ≡ sureTime f l size pattern → (counts : Counts) → counts ≡ moreOf f (p .counts) → AfterTime time p next counts r → MildAs l st p next r
+  columned-told f size pattern time r few k e s counts n a =
       by-mild r λ q h.
-      let d = timed-is time p q next 1 0 r a h in
-      let m : Parts family.B l (lineLength (firstStart family.B) (st .flight .fixes)) (patternOf (entriesOf (st .flight .fixes))) (d .t) =
-      rw (k .sized, k .columned) at (parts family.B l size pattern (d .t) (sym s ∙ d .is)) in
-      let f = sure-fix (st .flight .fixes) l (d .t) (k .told) m in (
+      let more : counts ≡ oneMore f (p .counts) = n ∙ few-more f (p .counts) (are-few (p .counts) few) in
+      let d = timed-is time p q next (oneMore f (p .counts)) r (rw more at a) h in
+      let layout = layoutOf f (st .flight .layouts) in
+      let m : Parts f l (lineLength (firstStart f) layout) (patternOf (entriesOf layout)) (d .t) = rw (k .sized, k .columned) at (parts f l size pattern (d .t) (sym s ∙ d .is)) in (
         rw (d .numbers) (record {
-          judged = judged-fix l (paced st p) (g .points) (g .low) (g .high) long (f .fix) (d .t) e (f .read) (f .time) (d .forth);
+          judged = judged-columned l (paced st p) (g .points) (g .low) (g .high) long f (d .t) e (sure-columned f layout l (d .t) (k .told) m) (d .forth);
           at = refl;
           stage = refl;
         }),
         m .mild,
       )
-  columned-as family.K size pattern time r k e s a =
-      by-mild r λ q h.
-      let d = timed-is time p q next 0 1 r a h in
-      let m : Parts family.K l (lineLength (firstStart family.K) (st .flight .extras)) (patternOf (entriesOf (st .flight .extras))) (d .t) =
-      rw (k .sized, k .columned) at (parts family.K l size pattern (d .t) (sym s ∙ d .is)) in (
-        rw (d .numbers) (record {
-          judged = judged-extra l (paced st p) (g .points) (g .low) (g .high) long (d .t) e (sure-extra (st .flight .extras) l (d .t) (k .told) m) (d .forth);
-          at = refl;
-          stage = refl;
-        }),
-        m .mild,
-      )
-
-  pub columned-told : (f : Family) (size : ℕ) (pattern : List ℕ) (time : Time) (bs ks : ℕ) (r : Taken) → Known f st size pattern → getD l 0 0 ≡ letterOf f → timeTold time ≡ sureTime f l size pattern
-      → bs ≡ fixesIn f → ks ≡ extrasIn f → AfterTime time p next bs ks r → MildAs l st p next r
-  columned-told f size pattern time bs ks r k e s b x a = columned-as f size pattern time r k e s (rw (b, x) at a)
 
   -- a line with no columns that the check judges so
-  other : (t : ℕ) (r : Taken) → (isBack (passing (p .clock) t) ≡ false → judge l (paced st p) ≡ says (clocked t (moved 5 (paced st p)))) → AfterTime (Secs t) p next 0 0 r → JudgedAs l st p next r
+  other : (t : ℕ) (r : Taken) → (isBack (passing (p .clock) t) ≡ false → judge l (paced st p) ≡ says (clocked t (moved inBody (paced st p)))) → AfterTime (Secs t) p next (p .counts) r → JudgedAs l st p next r
   unfolding timeTold
   other t r j a =
       by-taken r λ q h.
-      let d = timed-is (Secs t) p q next 0 0 r a h in
+      let d = timed-is (Secs t) p q next (p .counts) r a h in
       let e : d .t ≡ t = cc (d .is) in
       let w : isBack (passing (p .clock) t) ≡ false = rw e at (d .forth) in
-      rw (d .numbers, e) (record { judged = j w ∙ rw (add-zero (p .bs), add-zero (p .ks)); at = refl; stage = refl })
+      rw (d .numbers, e) (record { judged = j w; at = refl; stage = refl })
 
-  pub event-told : (t : ℕ) (read : TimeRead) (r : Taken) → getD l 0 0 ≡ 69 → timeReadTold read ≡ eLine l → read ≡ timeRead.Secs t → AfterTime (Secs t) p next 0 0 r → JudgedAs l st p next r
+  pub event-told : (t : ℕ) (read : TimeRead) (r : Taken) → getD l 0 0 ≡ 69 → timeReadTold read ≡ eLine l → read ≡ timeRead.Secs t → AfterTime (Secs t) p next (p .counts) r → JudgedAs l st p next r
   unfolding timeReadTold
   event-told t read r e s q a = other t r (judged-event l (paced st p) (g .points) (g .low) (g .high) long t e (sym s ∙ rw q)) a
 
-  pub satellites-told : (t : ℕ) (read : TimeRead) (r : Taken) → getD l 0 0 ≡ 70 → timeReadTold read ≡ fLine l → read ≡ timeRead.Secs t → AfterTime (Secs t) p next 0 0 r → JudgedAs l st p next r
+  pub satellites-told : (t : ℕ) (read : TimeRead) (r : Taken) → getD l 0 0 ≡ 70 → timeReadTold read ≡ fLine l → read ≡ timeRead.Secs t → AfterTime (Secs t) p next (p .counts) r → JudgedAs l st p next r
   unfolding timeReadTold
   satellites-told t read r e s q a = other t r (judged-satellites l (paced st p) (g .points) (g .low) (g .high) long t e (sym s ∙ rw q)) a
 
-  pub remark-told : (read : Outcome) (r : Taken) → getD l 0 0 ≡ 76 → outcomeTold read ≡ shaped 1 99 false l → read ≡ outcome.Accepted → AfterTime (Secs (p .clock)) p next 0 0 r → JudgedAs l st p next r
+  pub remark-told : (read : Outcome) (r : Taken) → getD l 0 0 ≡ 76 → outcomeTold read ≡ shaped 1 99 false l → read ≡ outcome.Accepted → AfterTime (Secs (p .clock)) p next (p .counts) r → JudgedAs l st p next r
   unfolding outcomeTold
   remark-told read r e s q a =
       other (p .clock) r (λ w. judged-remark l (paced st p) (g .points) (g .low) (g .high) long e (sym s ∙ rw q)) a

@@ -5,42 +5,25 @@ use mathlib.Core.List.{List}
 use mathlib.Core.Option.{Option, none, some}
 use mathlib.Core.Path.{_≡_}
 use lib.ListN.{length, getD}
+use Rattle.rules.specs.Families.{firstStart, lineLetter, layoutOf}
+use Rattle.rules.specs.Roles.{afterH, inBody}
 use Rattle.rules.specs.Choice.{given, need}
 use Rattle.rules.specs.Fields.{timeTold}
-use Rattle.rules.specs.Layouts.{firstStart, allowed, lineLength, entriesOf}
-use Rattle.rules.specs.Order.{afterH, inBody, passing, isBack, judge}
+use Rattle.rules.specs.Layouts.{allowed, lineLength, entriesOf}
+use Rattle.rules.specs.Order.{passing, isBack, judge}
 use Rattle.rules.specs.Refusals.{says}
+use Rattle.rules.specs.declared.Counts.{Counts}
 use Rattle.rules.specs.declared.Family.{Family}
 use Rattle.rules.specs.declared.Family.the-variants as family
-use Rattle.rules.specs.declared.Layout.{Layout}
 use Rattle.rules.specs.declared.State.{State}
 use Rattle.rules.specs.declared.Time.{Time}
+use Rattle.order.specs.States.{areFew}
 use Rattle.order.specs.Turns.{Passed}
 use Rattle.plain.specs.Plain.{isMild, every}
 use Rattle.sure.specs.Sure.{patternOf}
 use Rattle.pace.specs.declared.Pace.{Pace}
 use Rattle.pace.specs.declared.Taken.{Taken}
 use Rattle.pace.specs.declared.Taken.the-variants as taken
-
--- ---- the families
-
--- the letter of a family's lines
-abbrev pub letterOf : Family → ℕ
-letterOf family.B = 66
-letterOf family.K = 75
-
-abbrev pub layoutFor : Family → State → Layout
-layoutFor family.B st = st .flight .fixes
-layoutFor family.K st = st .flight .extras
-
--- how many B lines and K lines a line of the family is
-abbrev pub fixesIn : Family → ℕ
-fixesIn family.B = 1
-fixesIn family.K = 0
-
-abbrev pub extrasIn : Family → ℕ
-extrasIn family.B = 0
-extrasIn family.K = 1
 
 -- ---- the numbers that move
 
@@ -51,34 +34,26 @@ paced st p = record {
   declared = st .declared;
   points = st .points;
   clock = p .clock;
-  flight = record {
-    date = st .flight .date;
-    fixes = st .flight .fixes;
-    extras = st .flight .extras;
-    lines = p .lines;
-    bs = p .bs;
-    ks = p .ks;
-  };
+  flight = record { date = st .flight .date; layouts = st .flight .layouts; lines = p .lines; counts = p .counts };
 }
 
 -- the numbers after a body line of this time, the next line standing behind `next` bytes
-abbrev pub onward : Pace → ℕ → ℕ → ℕ → ℕ → Pace
-onward p next t bs ks = record { at = next; stage = inBody; clock = t; lines = p .lines + 1; bs = p .bs + bs; ks = p .ks + ks }
+abbrev pub onward : Pace → ℕ → ℕ → Counts → Pace
+onward p next t counts = record { at = next; stage = inBody; clock = t; lines = p .lines + 1; counts = counts }
 
 unfoldable pub takenTold : Taken → Option Pace
 takenTold (taken.Next q) = some q
 takenTold taken.Unsure = none
 
 -- after a line of this time, where there is one and it does not fall
-abbrev pub AfterTime : Time → Pace → ℕ → ℕ → ℕ → Taken → Type 0
-AfterTime t p next bs ks r =
-    takenTold r ≡ given (timeTold t) none λ s. need (not (isBack (passing (p .clock) s))) none λ _. some (onward p next s bs ks)
+abbrev pub AfterTime : Time → Pace → ℕ → Counts → Taken → Type 0
+AfterTime t p next counts r =
+    takenTold r ≡ given (timeTold t) none λ s. need (not (isBack (passing (p .clock) s))) none λ _. some (onward p next s counts)
 
 -- the counts have room for one line more
 pub record Room (p : Pace) : Type 0 where
   pub lines : p .lines ≤ 33554432
-  pub bs : p .bs ≤ 33554432
-  pub ks : p .ks ≤ 33554432
+  pub few : areFew (p .counts) ≡ true
 
 -- ---- a line taken
 
@@ -90,9 +65,9 @@ pub record Going (st : State) (p : Pace) : Type 0 where
 
 -- what a run knows of the lines of a family: their layout is allowed, and gives their length and pattern
 pub record Known (f : Family) (st : State) (size : ℕ) (pattern : List ℕ) : Type 0 where
-  pub told : allowed (firstStart f) (layoutFor f st) ≡ true
-  pub sized : size ≡ lineLength (firstStart f) (layoutFor f st)
-  pub columned : pattern ≡ patternOf (entriesOf (layoutFor f st))
+  pub told : allowed (firstStart f) (layoutOf f (st .flight .layouts)) ≡ true
+  pub sized : size ≡ lineLength (firstStart f) (layoutOf f (st .flight .layouts))
+  pub columned : pattern ≡ patternOf (entriesOf (layoutOf f (st .flight .layouts)))
 
 -- the line is good, and q has the numbers after it
 pub record Judges (l : List ℕ) (st : State) (p : Pace) (next : ℕ) (q : Pace) : Type 0 where
@@ -112,7 +87,7 @@ MildAs l st p next taken.Unsure = Unit {0}
 -- a line of a family, wherever it may come and its columns are known
 abbrev pub ColumnedTold : Family → List ℕ → ℕ → List ℕ → Pace → ℕ → Taken → Type 0
 ColumnedTold f l size pattern p next r =
-    (st : State) → Going st p → Known f st size pattern → getD l 0 0 ≡ letterOf f → 1 ≤ length l → MildAs l st p next r
+    (st : State) → Going st p → Known f st size pattern → getD l 0 0 ≡ lineLetter f → 1 ≤ length l → MildAs l st p next r
 
 -- any other line, wherever it may come
 abbrev pub OtherTold : ℕ → List ℕ → Pace → ℕ → Taken → Type 0

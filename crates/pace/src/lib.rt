@@ -1,23 +1,24 @@
 // A body line that is surely good, taken by the numbers that it moves.
-ghost use Prim.Native.Nat.{_≤_, _<_};
+ghost use Prim.Native.Nat.{_<_};
 ghost use mathlib.Core.Bool.{true};
 ghost use mathlib.Core.Path.{_≡_};
 ghost use lib.ListN.{length, getD};
-ghost use Rattle.pace.specs.Paces.{letterOf, AfterTime, Room, ColumnedTold, OtherTold, FamilyTaken, OtherTaken, LineTaken};
+ghost use Rattle.rules.specs.Families.{lineLetter};
+ghost use Rattle.pace.specs.Paces.{AfterTime, Room, ColumnedTold, OtherTold, FamilyTaken, OtherTaken, LineTaken};
 use cut::Ended;
+use rules::Counts;
 use rules::Family;
 use rules::Outcome;
 use rules::Time;
 use rules::TimeRead;
 
-// The numbers that a body line moves: the place of the next line, the part of the file, the last time, and the counts of lines, B lines and K lines.
+// The numbers that a body line moves: the place of the next line, the part of the file, the last time, and the counts of lines and of each family's.
 pub struct Pace {
     pub at: usize,
     pub stage: u8,
     pub clock: u32,
     pub lines: u32,
-    pub bs: u32,
-    pub ks: u32,
+    pub counts: Counts,
 }
 
 // The numbers after a line; or that it is not sure to be good.
@@ -26,10 +27,10 @@ pub enum Taken {
     Unsure,
 }
 
-// After a line of this time, with so many B lines and K lines more.
-fn after_time(time: Time, p: Pace, next: usize, bs: u32, ks: u32) -> Taken
-    requires { ⌜ Room p × (bs ≤ 1) × (ks ≤ 1) ⌝ }
-    ensures { λ r. ⌜ AfterTime time p next bs ks r ⌝ }
+// After a line of this time, with these counts.
+fn after_time(time: Time, p: Pace, next: usize, counts: Counts) -> Taken
+    requires { ⌜ Room p ⌝ }
+    ensures { λ r. ⌜ AfterTime time p next counts r ⌝ }
 {
     let Time::Secs(t) = time else {
         return Taken::Unsure;
@@ -39,11 +40,10 @@ fn after_time(time: Time, p: Pace, next: usize, bs: u32, ks: u32) -> Taken
     }
     Taken::Next(Pace {
         at: next,
-        stage: 5,
+        stage: order::IN_BODY,
         clock: t,
         lines: p.lines + 1,
-        bs: p.bs + bs,
-        ks: p.ks + ks,
+        counts,
     })
 }
 
@@ -60,15 +60,12 @@ fn columned_line(
     ensures { λ r. ⌜ ColumnedTold family (now (line .entry)) size (now (pattern .entry)) p next r ⌝ }
 {
     let time = sure::sure_line(family, line, size, pattern);
-    match family {
-        Family::B => after_time(time, p, next, 1, 0),
-        Family::K => after_time(time, p, next, 0, 1),
-    }
+    after_time(time, p, next, order::one_more(family, p.counts))
 }
 
 // The line behind the pace's bytes, of a family, with its CR LF behind `size` bytes.
 fn take_columned(file: &[u8], p: Pace, family: Family, size: usize, pattern: &[u8]) -> Taken
-    requires { ⌜ (p .at < length (now file)) × (getD (now file) (p .at) 0 ≡ letterOf family) × Room p ⌝ }
+    requires { ⌜ (p .at < length (now file)) × (getD (now file) (p .at) 0 ≡ lineLetter family) × Room p ⌝ }
     ensures { λ r. ⌜ FamilyTaken family (now (file .entry)) p size (now (pattern .entry)) r ⌝ }
 {
     let at = p.at;
@@ -101,19 +98,19 @@ fn other_line(letter: u8, line: &[u8], p: Pace, next: usize) -> Taken
         if let Outcome::Refused(_) = shape::shaped(line, 1, 99, false) {
             return Taken::Unsure;
         }
-        return after_time(Time::Secs(p.clock), p, next, 0, 0);
+        return after_time(Time::Secs(p.clock), p, next, p.counts);
     }
     if letter == b'E' {
         let TimeRead::Secs(t) = line::event(line) else {
             return Taken::Unsure;
         };
-        return after_time(Time::Secs(t), p, next, 0, 0);
+        return after_time(Time::Secs(t), p, next, p.counts);
     }
     if letter == b'F' {
         let TimeRead::Secs(t) = line::satellites(line) else {
             return Taken::Unsure;
         };
-        return after_time(Time::Secs(t), p, next, 0, 0);
+        return after_time(Time::Secs(t), p, next, p.counts);
     }
     Taken::Unsure
 }
@@ -142,10 +139,7 @@ fn has_room(p: Pace) -> bool
     if 33554432 < p.lines {
         return false;
     }
-    if 33554432 < p.bs {
-        return false;
-    }
-    p.ks <= 33554432
+    order::are_few(p.counts)
 }
 
 // The line behind the pace's bytes, by its first one: the numbers after it where it is surely good, by the lengths of B and K lines and the patterns of their columns.

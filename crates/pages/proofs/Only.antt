@@ -2,12 +2,13 @@
 use Prim.Native.Nat.{ℕ}
 use mathlib.Core.List.{List}
 use mathlib.Core.Path.{_≡_, sym, _∙_}
+use Rattle.rules.specs.declared.Seal.{Seal}
 use Rattle.pages.specs.Pages.{Begins}
 use Rattle.pages.specs.declared.Begun.{Begun}
 
-pub only-begins : (most : ℕ) (file table out : List ℕ) (r r′ : Begun) (entries entries′ after after′ : List ℕ) → Begins most file table out r entries after
-    → Begins most file table out r′ entries′ after′ → (r ≡ r′) × (entries ≡ entries′) × (after ≡ after′)
-only-begins most file table out r r′ entries entries′ after after′ b b′ =
+pub only-begins : (seal : Seal) (most : ℕ) (file table out : List ℕ) (r r′ : Begun) (entries entries′ after after′ : List ℕ) → Begins seal most file table out r entries after
+    → Begins seal most file table out r′ entries′ after′ → (r ≡ r′) × (entries ≡ entries′) × (after ≡ after′)
+only-begins seal most file table out r r′ entries entries′ after after′ b b′ =
     let count : r .count ≡ r′ .count = b .shown .count ∙ sym (b′ .shown .count) in
     let lines : r .lines ≡ r′ .lines = b .lines ∙ sym (b′ .lines) in
     let layout : r .layout ≡ r′ .layout = b .layout ∙ sym (b′ .layout) in

@@ -2,6 +2,7 @@
 use Prim.Native.Nat.{ℕ, zero, suc, _+_, _-_, _≤_, _<_}
 use mathlib.Core.Bool.{Bool, true, false, cond}
 use mathlib.Core.List.{List, [], _∷_, _++_, append-assoc, append-nil}
+use mathlib.Core.Option.{some}
 use mathlib.Core.Path.{_≡_, refl, sym, ap, subst, _∙_}
 use native.Mathlib.Nat.{add-zero, zero-add}
 use native.Mathlib.Omega.{arith}
@@ -9,7 +10,7 @@ use borrow.Author.Tests.{le-leb, lt-ltb, le-ltb, leb-true, leb-false, eqb-true}
 use Prim.Native.Char.{code}
 use lib.Dec.{leb, ltb, eqb}
 use lib.ListN.{length, getD, take, drop, length-drop}
-use Rattle.rules.specs.Choice.{need, part}
+use Rattle.rules.specs.Choice.{need, part, Each}
 use Rattle.rules.specs.Refusals.{Said, says, refuses, no, valueOr}
 use Rattle.rules.specs.Layouts.{allowed, columns}
 use Rattle.rules.specs.Split.{Lines, end, broken, line, linesOf, offsets}
@@ -20,13 +21,15 @@ use Rattle.rules.specs.Files.{verdict, tableAfter, goodLines}
 use Rattle.rules.specs.Listing.{okText, lineShown, fixesShown, listedAs, listing}
 use Rattle.rules.specs.declared.Reason.the-variants.{BadValue, InputOver}
 use Rattle.rules.specs.declared.Layout.{Layout}
+use Rattle.rules.specs.declared.Family.the-variants as family
 use Rattle.rules.specs.declared.Flight.{Flight}
+use Rattle.rules.specs.declared.Seal.{Seal}
+use Rattle.rules.specs.declared.Seal.the-variants as seal
 use Rattle.pieces.proofs.Callers.{shown-text}
-use Rattle.trips.proofs.Laws.{need-inv, then-inv, refuses-says}
+use Rattle.rules.proofs.Inverse.{need-inv, then-inv, refuses-says}
 use Rattle.laws.proofs.Splitting.{Whole, textsOf, line-at, none-left}
 use Rattle.laws.proofs.Counted.{lines-counted, entry-put, line-by-number}
 use Rattle.laws.proofs.Counted as counted
-use Rattle.demands.specs.Grammar.{Each}
 use Rattle.demands.specs.Readings.{ReadsFix, ReadsLine}
 use Rattle.demands.proofs.Demands.{readable}
 use Rattle.block.specs.Blocks.{endOf, textAt, printed, Leaf, leaf, before, printedAt, leafFrom, leafAt, joined}
@@ -195,65 +198,65 @@ each-at P (l ∷ ls) zero h p = p .0
 each-at P (l ∷ ls) (suc i) h p = each-at P ls i (omega arith) (p .1)
 
 -- behind the first line of an accepted file, by its table and what the check said of it
-pages-left : (file table : List ℕ) (f : Flight) (room : ℕ) → 4096 ≤ room → verdict file (length table) ≡ says f
-    → joined file (tableAfter file table) (f .lines) (f .fixes) room (f .lines) 0 ≡ fixesShown 1 (f .fixes) (linesOf file)
+pages-left : (seal : Seal) (file table : List ℕ) (f : Flight) (room : ℕ) → 4096 ≤ room → verdict seal file (some (length table)) ≡ says f
+    → joined file (tableAfter seal file table) (f .lines) (f .layouts .b) room (f .lines) 0 ≡ fixesShown 1 (f .layouts .b) (linesOf file)
 unfolding goodLines
-pages-left file table f room enough e = by (allowed 36 (f .fixes)) refl
+pages-left seal file table f room enough e = by (allowed 36 (f .layouts .b)) refl
   where
     many : f .lines ≡ length (textsOf (linesOf file))
-    many = lines-counted file (length table) f e
+    many = lines-counted seal file (some (length table)) f e
 
-    there : (i : ℕ) → i < length (textsOf (linesOf file)) → getD (tableAfter file table) (0 + i) 0 ≡ getD (offsets 0 (linesOf file)) i 0
-    there i h = rw zero-add (entry-put file table i 0 (rw e (omega (arith, many))))
+    there : (i : ℕ) → i < length (textsOf (linesOf file)) → getD (tableAfter seal file table) (0 + i) 0 ≡ getD (offsets 0 (linesOf file)) i 0
+    there i h = rw zero-add (entry-put seal file table i 0 (rw e (omega (arith, many))))
 
-    read : (i : ℕ) → i < length (textsOf (linesOf file)) → getD (getD (textsOf (linesOf file)) i []) 0 0 ≡ code "B" → ReadsFix (f .fixes) (getD (textsOf (linesOf file)) i [])
+    read : (i : ℕ) → i < length (textsOf (linesOf file)) → getD (getD (textsOf (linesOf file)) i []) 0 0 ≡ code "B" → ReadsFix (f .layouts .b) (getD (textsOf (linesOf file)) i [])
     read i h =
-        let r = readable file table f e in
+        let r = readable seal file table f e in
         let low : i < length (r .lines) = omega (arith, many, r .counted) in
-        let same : getD (r .lines) i [] ≡ getD (textsOf (linesOf file)) i [] = sym (r .numbered i low) ∙ line-by-number file table (i + 1) (omega arith) (rw e (omega (arith, many))) .bytes ∙ ap (λ n. getD (textsOf (linesOf file)) n []) (back-one i) in
-        subst (λ (l : List ℕ). getD l 0 0 ≡ code "B" → ReadsFix (f .fixes) l) same (each-at (ReadsLine (f .fixes) (f .extras)) (r .lines) i low (r .reads) .b)
+        let same : getD (r .lines) i [] ≡ getD (textsOf (linesOf file)) i [] = sym (r .numbered i low) ∙ line-by-number seal file table (i + 1) (omega arith) (rw e (omega (arith, many))) .bytes ∙ ap (λ n. getD (textsOf (linesOf file)) n []) (back-one i) in
+        subst (λ (l : List ℕ). getD l 0 0 ≡ code "B" → ReadsFix (f .layouts .b) l) same (each-at (ReadsLine (f .layouts)) (r .lines) i low (r .reads) family.B)
 
-    by : (b : Bool) → allowed 36 (f .fixes) ≡ b
-        → joined file (tableAfter file table) (f .lines) (f .fixes) room (f .lines) 0 ≡ fixesShown 1 (f .fixes) (linesOf file)
+    by : (b : Bool) → allowed 36 (f .layouts .b) ≡ b
+        → joined file (tableAfter seal file table) (f .lines) (f .layouts .b) room (f .lines) 0 ≡ fixesShown 1 (f .layouts .b) (linesOf file)
     by true ok =
         let all : f .lines - 0 ≡ length (textsOf (linesOf file)) = omega (arith, many) in
-        pages-printed file (tableAfter file table) (f .lines) (f .fixes) room enough ok (f .lines) 0 (omega arith)
-        ∙ rw all (lines-printed file (tableAfter file table) (f .lines) (f .fixes) (linesOf file) 0 0 refl (counted.accepted-whole file (length table) f e) (omega (arith, many)) there read)
-    by false not-ok = no-pages file (tableAfter file table) (f .lines) (f .fixes) not-ok room (f .lines) 0 ∙ sym (no-lines file (tableAfter file table) (f .lines) (f .fixes) not-ok (linesOf file) 1)
+        pages-printed file (tableAfter seal file table) (f .lines) (f .layouts .b) room enough ok (f .lines) 0 (omega arith)
+        ∙ rw all (lines-printed file (tableAfter seal file table) (f .lines) (f .layouts .b) (linesOf file) 0 0 refl (counted.accepted-whole seal file (some (length table)) f e) (omega (arith, many)) there read)
+    by false not-ok = no-pages file (tableAfter seal file table) (f .lines) (f .layouts .b) not-ok room (f .lines) 0 ∙ sym (no-lines file (tableAfter seal file table) (f .lines) (f .layouts .b) not-ok (linesOf file) 1)
 
-module _ (most : ℕ) (file table : List ℕ) (room : ℕ) (enough : 4096 ≤ room) where
+module _ (seal : Seal) (most : ℕ) (file table : List ℕ) (room : ℕ) (enough : 4096 ≤ room) where
   abbrev kept : List ℕ
-  kept = cond (leb (length file) most) (tableAfter file table) table
+  kept = cond (leb (length file) most) (tableAfter seal file table) table
 
   abbrev lefts : Said Flight → List ℕ
-  lefts s = joined file kept ((valueOr noFlight s) .lines) ((valueOr noFlight s) .fixes) room ((valueOr noFlight s) .lines) 0
+  lefts s = joined file kept ((valueOr noFlight s) .lines) ((valueOr noFlight s) .layouts .b) room ((valueOr noFlight s) .lines) 0
 
-  accepted-pages : (f : Flight) → opened most file (length table) ≡ says f → lefts (says f) ≡ fixesShown 1 (f .fixes) (linesOf file)
+  accepted-pages : (f : Flight) → opened seal most file (length table) ≡ says f → lefts (says f) ≡ fixesShown 1 (f .layouts .b) (linesOf file)
   unfolding opened
   accepted-pages f e =
-      let a = need-inv (leb (length file) most) (no InputOver 0) (says f) (λ _. verdict file (length table)) refuses-says e in
-      rw (a .0) (pages-left file table f room enough (a .1))
+      let a = need-inv (leb (length file) most) (no InputOver 0) (says f) (λ _. verdict seal file (some (length table))) refuses-says e in
+      rw (a .0) (pages-left seal file table f room enough (a .1))
 
-  listed-by : (s : Said Flight) → opened most file (length table) ≡ s → firstLine s ++ lefts s ≡ listedAs file s
+  listed-by : (s : Said Flight) → opened seal most file (length table) ≡ s → firstLine s ++ lefts s ≡ listedAs file s
   unfolding firstLine listedAs joined
   listed-by (says f) e = ap (λ x. okText f ++ x) (accepted-pages f e)
   listed-by (refuses n l b) e = append-nil _
 
 -- The OK line of an accepted file and behind it the pages that blocks of a size take, by its table and what the check said of it, are its listing: a block for each
 -- line at most, and each of 4,096 bytes at least.
-pub accepted-whole : (file table : List ℕ) (f : Flight) (room : ℕ) → 4096 ≤ room → verdict file (length table) ≡ says f
-    → okText f ++ joined file (tableAfter file table) (f .lines) (f .fixes) room (f .lines) 0 ≡ listedAs file (verdict file (length table))
+pub accepted-whole : (seal : Seal) (file table : List ℕ) (f : Flight) (room : ℕ) → 4096 ≤ room → verdict seal file (some (length table)) ≡ says f
+    → okText f ++ joined file (tableAfter seal file table) (f .lines) (f .layouts .b) room (f .lines) 0 ≡ listedAs file (verdict seal file (some (length table)))
 unfolding listedAs
-accepted-whole file table f room enough e = rw e (ap (λ x. okText f ++ x) (pages-left file table f room enough e))
+accepted-whole seal file table f room enough e = rw e (ap (λ x. okText f ++ x) (pages-left seal file table f room enough e))
 
 -- What `begin` put, and behind it the pages from the first on, a block for each line at most, are the listing of the file.
-pub listed-whole : (most : ℕ) (file table out : List ℕ) (r : Begun) (entries after : List ℕ) (room : ℕ) → 4096 ≤ room → Begins most file table out r entries after
-    → take (r .count) after ++ joined file entries (r .lines) (r .layout) room (r .lines) 0 ≡ listedAs file (opened most file (length table))
-listed-whole most file table out r entries after room enough b =
-    rw (shown-text (b .shown), b .lines, b .layout, b .entered) (listed-by most file table room enough (opened most file (length table)) refl)
+pub listed-whole : (seal : Seal) (most : ℕ) (file table out : List ℕ) (r : Begun) (entries after : List ℕ) (room : ℕ) → 4096 ≤ room → Begins seal most file table out r entries after
+    → take (r .count) after ++ joined file entries (r .lines) (r .layout) room (r .lines) 0 ≡ listedAs file (opened seal most file (length table))
+listed-whole seal most file table out r entries after room enough b =
+    rw (shown-text (b .shown), b .lines, b .layout, b .entered) (listed-by seal most file table room enough (opened seal most file (length table)) refl)
 
 -- with the most bytes and the room that document 01 gives the listing program, it is `listing`
-pub listing-whole : (input table out : List ℕ) (r : Begun) (entries after : List ℕ) (room : ℕ) → length table ≡ 16384 → 4096 ≤ room → Begins 65536 input table out r entries after
+pub listing-whole : (input table out : List ℕ) (r : Begun) (entries after : List ℕ) (room : ℕ) → length table ≡ 16384 → 4096 ≤ room → Begins seal.Strict 65536 input table out r entries after
     → take (r .count) after ++ joined input entries (r .lines) (r .layout) room (r .lines) 0 ≡ listing input
 unfolding opened listing
-listing-whole input table out r entries after room sixteen enough b = listed-whole 65536 input table out r entries after room enough b ∙ rw sixteen
+listing-whole input table out r entries after room sixteen enough b = listed-whole seal.Strict 65536 input table out r entries after room enough b ∙ rw sixteen

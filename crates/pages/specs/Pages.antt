@@ -2,6 +2,7 @@
 use Prim.Native.Nat.{ℕ}
 use mathlib.Core.Bool.{cond}
 use mathlib.Core.List.{List}
+use mathlib.Core.Option.{some}
 use mathlib.Core.Path.{_≡_}
 use lib.Dec.{leb}
 use lib.ListN.{length}
@@ -12,14 +13,15 @@ use Rattle.rules.specs.Files.{verdict, tableAfter}
 use Rattle.rules.specs.Listing.{refusedText, okText}
 use Rattle.rules.specs.declared.Reason.the-variants.{InputOver}
 use Rattle.rules.specs.declared.Flight.{Flight}
+use Rattle.rules.specs.declared.Seal.{Seal}
 use Rattle.pieces.specs.Buffer.{Shown}
 use Rattle.pages.specs.declared.Begun.{Begun}
 
 -- ---- the first line
 
 -- "21 INPUT_OVER: program's input over 65,536 bytes; 0, 0", here over `most`; else what the check says with a table of `room` entries
-unfoldable pub opened : ℕ → List ℕ → ℕ → Said Flight
-opened most file room = need (leb (length file) most) (no InputOver 0) λ _. verdict file room
+unfoldable pub opened : Seal → ℕ → List ℕ → ℕ → Said Flight
+opened seal most file room = need (leb (length file) most) (no InputOver 0) λ _. verdict seal file (some room)
 
 -- "OK: lines, B lines, K lines, B length, K length."; "A refusal prints only REFUSED, number, line, byte."
 unfoldable pub firstLine : Said Flight → List ℕ
@@ -27,8 +29,8 @@ firstLine (says f) = okText f
 firstLine (refuses n l b) = refusedText n l b
 
 -- the first line stands in the buffer, the table is as the check leaves it, and the lines and the I layout are the answer's, none where refused
-pub record Begins (most : ℕ) (file table out : List ℕ) (r : Begun) (entries after : List ℕ) : Type 0 where
-  pub shown : Shown (firstLine (opened most file (length table))) out (r .count) after
-  pub lines : r .lines ≡ (valueOr noFlight (opened most file (length table))) .lines
-  pub layout : r .layout ≡ (valueOr noFlight (opened most file (length table))) .fixes
-  pub entered : entries ≡ cond (leb (length file) most) (tableAfter file table) table
+pub record Begins (seal : Seal) (most : ℕ) (file table out : List ℕ) (r : Begun) (entries after : List ℕ) : Type 0 where
+  pub shown : Shown (firstLine (opened seal most file (length table))) out (r .count) after
+  pub lines : r .lines ≡ (valueOr noFlight (opened seal most file (length table))) .lines
+  pub layout : r .layout ≡ (valueOr noFlight (opened seal most file (length table))) .layouts .b
+  pub entered : entries ≡ cond (leb (length file) most) (tableAfter seal file table) table

@@ -10,16 +10,13 @@ use borrow.Author.Tests.{leb-true, le-leb, eq-eqb, ne-eqb, eqb-true, not-true, n
 use lib.Dec.{eqb, leb}
 use lib.ListN.{length, getD, drop, length-drop}
 use lib.Seq.{drop-cons}
+use Rattle.rules.proofs.Inverse.{and-inv}
 use Rattle.rules.specs.Choice.{leads, firstOf}
 use Rattle.rules.specs.Chars.{isValid, firstInvalid, isDigit}
 use Rattle.rules.specs.Listed.{isDigits}
 use Rattle.chars.proofs.Laws.{joined, told}
 use Rattle.laws.proofs.Splitting.{Text}
 use Rattle.plain.specs.Plain.{isPlain, isMild, every, everyFrom}
-
-pub and-inv : (p q : Bool) → (p && q) ≡ true → (p ≡ true) × (q ≡ true)
-and-inv true q e = (refl, e)
-and-inv false q e = let z : _≡_ {A = Bool} false true = e in (z, absurd (let y : _≡_ {A = ℕ} 0 1 = cc in omega arith))
 
 -- ---- the loops: what was found so far and what is left decide as the whole does
 
@@ -66,7 +63,7 @@ pub ruleset signs = (joined, told, not-true, not-false, told-eq, told-ne)
 
 -- ---- plain bytes are mild, and mild bytes are valid
 
-plain-mild : (b : ℕ) → isPlain b ≡ true → isMild b ≡ true
+pub plain-mild : (b : ℕ) → isPlain b ≡ true → isMild b ≡ true
 unfolding isMild
 plain-mild b e = by (eqb b 32) (eqb b 93)
   where

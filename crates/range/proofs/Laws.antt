@@ -6,7 +6,7 @@ use native.Mathlib.Omega.{arith}
 use borrow.Author.Tests.{le-leb, lt-leb, ltb-true, ltb-false}
 use lib.IntN.{ℤ, pos, negsuc}
 use lib.Signed.{ltZ, leZ}
-use Rattle.trips.specs.Limits.{isMetres}
+use Rattle.rules.specs.Limits.{isMetres}
 
 pub too-low : (z : ℤ) → ltZ z (negsuc 9998) ≡ true → false ≡ isMetres z
 too-low (pos n) e = cc

@@ -8,7 +8,7 @@ use Rattle.rules.specs.declared.Date.{Date}
 use Rattle.rules.specs.declared.Planned.{Planned}
 use Rattle.rules.specs.declared.Position.{Position}
 use Rattle.rules.specs.declared.Height.{Height}
-use Rattle.trips.specs.Limits.{isClean, isDate, isPlanned, isAltitude}
+use Rattle.rules.specs.Limits.{isClean, isDate, isPlanned, isAltitude}
 
 abbrev pub CleanTest : List ℕ → Bool → Type 0
 CleanTest text r = r ≡ isClean text

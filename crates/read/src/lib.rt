@@ -1,7 +1,9 @@
 // The readers of a line, total on every line and every layout: 17 first, then the checks of its kind, then 19 and 20; with 0 for the line number.
 ghost use mathlib.Core.Path.{_≡_};
-ghost use Rattle.rules.specs.Reads.{layoutLetter};
+ghost use Rattle.rules.specs.Families.{layoutLetter};
 ghost use Rattle.rules.specs.Promises.{EventGiven, SatellitesGiven, DateGiven, HeadGiven, HeadRest, PointGiven, PointRest, FixGiven, ExtraGiven, ColumnGiven, ColumnRest, NumberGiven, LayoutGiven};
+ghost use Rattle.known.specs.Known.{allowedFor};
+use known::FamilyRead;
 use rules::ColumnRead;
 use rules::DateRead;
 use rules::Family;
@@ -139,11 +141,21 @@ pub fn extra(line: &[u8], layout: Layout) -> TimeRead
     known::extra(line, layout)
 }
 
-// Where the column of a code, any three bytes, stands in a B or a K line. BAD_VALUE for another kind or layout, what the line's check refuses, then ABSENT.
+// Whether a layout is allowed for the family that a line is of.
+fn allowed_for(line: &[u8], layout: Layout) -> bool
+    ensures { λ r. ⌜ r ≡ allowedFor (now (line .entry)) layout ⌝ }
+{
+    let FamilyRead::Of(f) = known::family(line) else {
+        return false;
+    };
+    layout::allowed(f, layout)
+}
+
+// Where the column of a code, any three bytes, stands in a line of any family. BAD_VALUE for another kind or layout, what the line's check refuses, then ABSENT.
 pub fn column_of(line: &[u8], layout: Layout, code: [u8; 3]) -> ColumnRead
     ensures { λ r. ⌜ ColumnGiven (now (line .entry)) layout code r ⌝ }
 {
-    if !layout::allowed(known::family(b'B', line), layout) {
+    if !allowed_for(line, layout) {
         return ColumnRead::Refused(Refusal {
             reason: Reason::BadValue,
             line: 0,
@@ -167,7 +179,7 @@ pub fn column_text<'a>(line: &'a [u8], layout: Layout, code: [u8; 3]) -> &'a [u8
 pub fn column_number(line: &[u8], layout: Layout, code: [u8; 3]) -> NumberRead
     ensures { λ r. ⌜ NumberGiven (now (line .entry)) layout code r ⌝ }
 {
-    if !layout::allowed(known::family(b'B', line), layout) {
+    if !allowed_for(line, layout) {
         return NumberRead::Refused(Refusal {
             reason: Reason::BadValue,
             line: 0,

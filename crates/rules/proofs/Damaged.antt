@@ -4,6 +4,7 @@ use Prim.Native.Nat.{ℕ}
 use Prim.Native.String.{String}
 use mathlib.Core.Bool.{Bool, true}
 use mathlib.Core.List.{List, [], _∷_, _++_}
+use mathlib.Core.Option.{some}
 use mathlib.Core.Path.{_≡_, refl}
 use lib.IntN.{ℤ, pos, negℤ}
 use lib.ListN.{replicate}
@@ -17,6 +18,7 @@ use Rattle.rules.specs.declared.Family.the-variants as family
 use Rattle.rules.specs.declared.Layout.{Layout}
 use Rattle.rules.specs.declared.Flight.{Flight}
 use Rattle.rules.proofs.Computed.{everything, fileOf, agree, Example, hold}
+use Rattle.rules.specs.declared.Seal.the-variants as seal
 
 abbrev pub fiveLines : List ℕ
 unfolding fileOf
@@ -29,19 +31,17 @@ fiveLayout = record {
   entries = record { first = 36; last = 38; code = 0x465841 } ∷ record { first = 39; last = 40; code = 0x534955 } ∷ replicate 11 unused;
 }
 
-pub verdict-of-five : verdict fiveLines 16 ≡ says (record {
+pub verdict-of-five : verdict seal.Strict fiveLines (some 16) ≡ says (record {
   date = record { day = 15; month = 7; year = 2024 };
-  fixes = fiveLayout;
-  extras = emptyLayout;
+  layouts = record { b = fiveLayout; k = emptyLayout };
   lines = 5;
-  bs = 1;
-  ks = 0;
+  counts = record { b = 1; k = 0 };
 })
 unfolding everything fileOf
 verdict-of-five = refl
 
 -- the lines have 7, 11, 17, 40 and 4 bytes, and 2 more each; the other entries stay
-pub table-of-five : tableAfter fiveLines (replicate 7 99) ≡ 0 ∷ 9 ∷ 22 ∷ 41 ∷ 83 ∷ 99 ∷ 99 ∷ []
+pub table-of-five : tableAfter seal.Strict fiveLines (replicate 7 99) ≡ 0 ∷ 9 ∷ 22 ∷ 41 ∷ 83 ∷ 99 ∷ 99 ∷ []
 unfolding everything fileOf
 table-of-five = refl
 
@@ -52,7 +52,7 @@ listing-of-five = refl
 
 -- how many lines the file has, with room for so many
 unfoldable pub linesIn : ℕ → List ℕ → Said ℤ
-linesIn room file = andThen (verdict file room) λ f. says (pos (f .lines))
+linesIn room file = andThen (verdict seal.Strict file (some room)) λ f. says (pos (f .lines))
 
 -- a column of a B line as a number, by the layout of an I line
 unfoldable pub columnIn : String → String → List ℕ → Said ℤ

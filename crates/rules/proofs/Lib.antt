@@ -1,3 +1,4 @@
+pub mod Inverse
 pub mod Links
 pub mod Computed
 pub mod Marked

@@ -3,6 +3,7 @@ use Prim.Native.Nat.{ℕ}
 use Prim.Native.String.{String}
 use mathlib.Core.Bool.{Bool, true}
 use mathlib.Core.List.{List, [], _∷_}
+use mathlib.Core.Option.{some}
 use mathlib.Core.Path.{_≡_, refl}
 use lib.IntN.{ℤ, pos, negℤ}
 use Rattle.rules.specs.Choice.{bytes}
@@ -12,6 +13,7 @@ use Rattle.rules.specs.Files.{verdict}
 use Rattle.rules.specs.Reads.{fixSaid, dateSaid, layoutSaid}
 use Rattle.rules.specs.declared.Family.the-variants as family
 use Rattle.rules.proofs.Computed.{everything, fileOf, agree, Example, hold}
+use Rattle.rules.specs.declared.Seal.the-variants as seal
 
 -- what is asked of a B line, of line 2, of an I line and of a file
 unfoldable pub latitude : List ℕ → Said ℤ
@@ -34,7 +36,7 @@ unfolding lineLength
 bLength l = andThen (layoutSaid family.B l) λ i. says (pos (lineLength 36 i))
 
 unfoldable pub lines : List ℕ → Said ℤ
-lines f = andThen (verdict f 16) λ a. says (pos (a .lines))
+lines f = andThen (verdict seal.Strict f (some 16)) λ a. says (pos (a .lines))
 
 abbrev ask : (List ℕ → Said ℤ) → String → Said ℤ → Example
 unfolding bytes

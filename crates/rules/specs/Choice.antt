@@ -36,6 +36,11 @@ module _ {A : Type 0} where
   leads test (suc n) [] = false
   leads test (suc n) (x ∷ l) = test x && leads test n l
 
+  -- every element is so
+  abbrev pub Each : (A → Type 0) → List A → Type 0
+  Each P [] = Unit {0}
+  Each P (x ∷ xs) = P x × Each P xs
+
   -- the elements from place a up to place e, places counted from 0
   abbrev pub part : ℕ → ℕ → List A → List A
   part a e l = take (e - a) (drop a l)

@@ -8,7 +8,8 @@ use lib.Count.{ones}
 use lib.Dec.{eqb, leb}
 use lib.ListN.{length, getD, take, drop, set, replicate}
 use Rattle.rules.specs.Choice.{given, need, firstOf, leads, part, byte}
-use Rattle.rules.specs.Refusals.{Said, says, refuses, no, refusal, outcomeTold, outcome, valueOr, andThen, breaks, other}
+use Rattle.rules.specs.Refusals.{Said, says, refuses, no, refusal, outcomeTold, outcome, valueOr, andThen, breaks}
+use Rattle.rules.specs.Families.{firstStart}
 use Rattle.rules.specs.Numbers.{numberAt}
 use Rattle.rules.specs.Listed.{codeAt, isCodeWord, listed, widthFits, keepsRule, packedOf, listedNumber}
 use Rattle.rules.specs.declared.Reason.the-variants.{Tile, Twice, Width, Column, BadValue, Absent}
@@ -25,11 +26,7 @@ use Rattle.rules.specs.declared.PresenceRead.{PresenceRead}
 use Rattle.rules.specs.declared.PresenceRead.the-variants as presenceRead
 use Rattle.rules.specs.declared.ColumnRead.{ColumnRead}
 use Rattle.rules.specs.declared.ColumnRead.the-variants as columnRead
-
--- "The first entry starts at 36 (I) or 8 (J)"
-abbrev pub firstStart : Family → ℕ
-firstStart family.B = 36
-firstStart family.K = 8
+use Rattle.rules.specs.declared.Class.the-variants as class
 
 -- what stands behind the last entry
 abbrev pub unused : Entry
@@ -55,9 +52,12 @@ pub record Span : Type 0 where
 abbrev pub spanOf : Entry → Span
 spanOf e = record { first = e .first; last = e .last }
 
--- the first and last byte of the column of a code
+-- the first and last byte of the column of a code, among entries and in a layout
+abbrev pub lookIn : List Entry → ℕ → Option Span
+lookIn es x = firstOf (λ e. eqb (e .code) x) (λ k e. spanOf e) es 0
+
 unfoldable pub look : Layout → ℕ → Option Span
-look l x = firstOf (λ e. eqb (e .code) x) (λ k e. spanOf e) (entriesOf l) 0
+look l x = lookIn (entriesOf l) x
 
 -- whether a code has a column
 unfoldable pub carries : Layout → ℕ → Bool
@@ -76,9 +76,9 @@ placed start before e first =
 -- The entry that stands behind `at` bytes: "start SS, finish FF and a code CCC", "entries from the left, each by 9, 10, 11, 12".
 unfoldable pub entryAt : List ℕ → ℕ → ℕ → Layout → Said Entry
 entryAt l at start before =
-    given (numberAt l at 2) (breaks other (at + 1)) λ ss.
-    given (numberAt l (at + 2) 2) (breaks other (at + 3)) λ ff.
-    given (codeAt l (at + 4)) (breaks other (at + 5)) λ ccc.
+    given (numberAt l at 2) (breaks class.Other (at + 1)) λ ss.
+    given (numberAt l (at + 2) 2) (breaks class.Other (at + 3)) λ ff.
+    given (codeAt l (at + 4)) (breaks class.Other (at + 5)) λ ccc.
     placed start before (record { first = ss; last = ff; code = ccc }) (at + 1)
 
 -- the entries that are left, behind those of a layout
@@ -90,8 +90,8 @@ entriesFrom (suc left) l at start before =
 -- "NN, then NN entries"; "The length is 3 + 7 × NN"; "NN and the length against it come first (9, byte 2), then entries from the left"
 unfoldable pub layoutFields : ℕ → List ℕ → Said Layout
 layoutFields start l =
-    given (numberAt l (byte 2) 2) (breaks other 2) λ nn.
-    need (eqb (length l) (3 + 7 * nn)) (breaks other 2) λ _.
+    given (numberAt l (byte 2) 2) (breaks class.Other 2) λ nn.
+    need (eqb (length l) (3 + 7 * nn)) (breaks class.Other 2) λ _.
     entriesFrom nn l (byte 4) start emptyLayout
 
 module _ {A : Type 0} where

@@ -6,12 +6,15 @@ pub mod Numbers
 pub mod Fields
 pub mod Degrees
 pub mod Listed
+pub mod Families
 pub mod Layouts
 pub mod Lines
 pub mod Split
+pub mod Roles
 pub mod Order
 pub mod Files
 pub mod Reads
 pub mod Writes
+pub mod Limits
 pub mod Listing
 pub mod Promises

@@ -6,15 +6,17 @@ use mathlib.Core.List.{List, [], _∷_}
 use mathlib.Core.Option.{Option, none, some}
 use lib.Dec.{eqb, leb, ltb}
 use lib.ListN.{length, getD, drop}
+use Rattle.rules.specs.Families.{firstStart}
 use Rattle.rules.specs.Choice.{given, need, on, byte}
-use Rattle.rules.specs.Refusals.{Said, says, no, andThen, breaks, time, position, altitude, date, other}
+use Rattle.rules.specs.Refusals.{Said, says, no, andThen, breaks}
 use Rattle.rules.specs.Chars.{characters, isCode, codesAt}
 use Rattle.rules.specs.Numbers.{numberAt}
 use Rattle.rules.specs.Fields.{timeAt, dateAt, latitudeAt, longitudeAt, altitudeAt, isEither}
-use Rattle.rules.specs.Layouts.{firstStart, layoutFields, lineLength, columns}
+use Rattle.rules.specs.Layouts.{layoutFields, lineLength, columns}
 use Rattle.rules.specs.declared.Reason.the-variants.{Length}
 use Rattle.rules.specs.declared.Date.{Date}
 use Rattle.rules.specs.declared.Layout.{Layout}
+use Rattle.rules.specs.declared.Family.{Family}
 use Rattle.rules.specs.declared.Family.the-variants as family
 use Rattle.rules.specs.declared.Fix.{Fix}
 use Rattle.rules.specs.declared.Planned.{Planned}
@@ -23,6 +25,7 @@ use Rattle.rules.specs.declared.Head.{Head}
 use Rattle.rules.specs.declared.Point.{Point}
 use Rattle.rules.specs.declared.Kind.{Kind}
 use Rattle.rules.specs.declared.Kind.the-variants as kind
+use Rattle.rules.specs.declared.Class.the-variants as class
 
 -- "The first byte, A to Z, is the kind. M to Z are 'other' and carried (h)."
 unfoldable pub kindOf : ℕ → Kind
@@ -54,8 +57,8 @@ shaped least most inH l = need (isSized least most l) (no Length 0) λ _. charac
 unfoldable pub aLine : List ℕ → Said (Unit {0})
 aLine l =
     andThen (shaped 7 255 false l) λ _.
-    need (codesAt l (byte 2) 3) (breaks other 2) λ _.
-    need (codesAt l (byte 5) 3) (breaks other 5) λ _.
+    need (codesAt l (byte 2) 3) (breaks class.Other 2) λ _.
+    need (codesAt l (byte 5) 3) (breaks class.Other 5) λ _.
     says tt
 
 -- "FDTE at 2 to 5 as one field"
@@ -67,8 +70,8 @@ isDateMark l =
 unfoldable pub dateLine : List ℕ → Said Date
 dateLine l =
     andThen (shaped 11 11 true l) λ _.
-    need (isDateMark l) (breaks other 2) λ _.
-    given (dateAt l (byte 6)) (breaks date 6) λ d.
+    need (isDateMark l) (breaks class.Other 2) λ _.
+    given (dateAt l (byte 6)) (breaks class.Date 6) λ d.
     says d
 
 -- "other H 5 to 255"; "Other H: F or O, 3 code characters, text."
@@ -76,8 +79,8 @@ unfoldable pub hLine : List ℕ → Said (Unit {0})
 hLine l =
     andThen (shaped 5 255 true l) λ _.
     on (getD l (byte 2) 0) λ b.
-    need (isEither b (code "F") (code "O")) (breaks other 2) λ _.
-    need (codesAt l (byte 3) 3) (breaks other 3) λ _.
+    need (isEither b (code "F") (code "O")) (breaks class.Other 2) λ _.
+    need (codesAt l (byte 3) 3) (breaks class.Other 3) λ _.
     says tt
 
 -- "I, J 3 to 99"
@@ -94,11 +97,11 @@ plannedAt l at =
 -- number of turn points, text."
 unfoldable pub headFields : List ℕ → Said Head
 headFields l =
-    given (dateAt l (byte 2)) (breaks date 2) λ d.
-    given (timeAt l (byte 8)) (breaks time 8) λ t.
-    given (plannedAt l (byte 14)) (breaks date 14) λ f.
-    given (numberAt l (byte 20) 4) (breaks other 20) λ n.
-    given (numberAt l (byte 24) 2) (breaks other 24) λ k.
+    given (dateAt l (byte 2)) (breaks class.Date 2) λ d.
+    given (timeAt l (byte 8)) (breaks class.Time 8) λ t.
+    given (plannedAt l (byte 14)) (breaks class.Date 14) λ f.
+    given (numberAt l (byte 20) 4) (breaks class.Other 20) λ n.
+    given (numberAt l (byte 24) 2) (breaks class.Other 24) λ k.
     says (record { declared = d; time = t; flight = f; task = n; turns = k })
 
 -- "C head 25 to 255"
@@ -109,8 +112,8 @@ headLine l = andThen (shaped 25 255 false l) λ _. headFields l
 unfoldable pub pointLine : List ℕ → Said Point
 pointLine l =
     andThen (shaped 18 255 false l) λ _.
-    given (latitudeAt l (byte 2)) (breaks position 2) λ lat.
-    given (longitudeAt l (byte 10)) (breaks position 10) λ lon.
+    given (latitudeAt l (byte 2)) (breaks class.Position 2) λ lat.
+    given (longitudeAt l (byte 10)) (breaks class.Position 10) λ lon.
     says (record { lat = lat; lon = lon })
 
 -- "D 6"; "D: 1 or 2, then 4 code characters."
@@ -118,16 +121,16 @@ unfoldable pub dLine : List ℕ → Said (Unit {0})
 dLine l =
     andThen (shaped 6 6 false l) λ _.
     on (getD l (byte 2) 0) λ b.
-    need (isEither b (code "1") (code "2")) (breaks other 2) λ _.
-    need (codesAt l (byte 3) 4) (breaks other 3) λ _.
+    need (isEither b (code "1") (code "2")) (breaks class.Other 2) λ _.
+    need (codesAt l (byte 3) 4) (breaks class.Other 3) λ _.
     says tt
 
 -- "E 10 to 255"; "E: time, 3 code characters, text."
 unfoldable pub eLine : List ℕ → Said ℕ
 eLine l =
     andThen (shaped 10 255 false l) λ _.
-    given (timeAt l (byte 2)) (breaks time 2) λ t.
-    need (codesAt l (byte 8) 3) (breaks other 8) λ _.
+    given (timeAt l (byte 2)) (breaks class.Time 2) λ t.
+    need (codesAt l (byte 8) 3) (breaks class.Other 8) λ _.
     says t
 
 -- how many bytes stand before the first pair that is not two code characters; `at` stand before the first pair
@@ -140,20 +143,20 @@ badPair at (a ∷ b ∷ l) = cond (isCode a && isCode b) (badPair (at + 2) l) (s
 unfoldable pub fLine : List ℕ → Said ℕ
 fLine l =
     andThen (shaped 7 255 false l) λ _.
-    given (timeAt l (byte 2)) (breaks time 2) λ t.
-    need (eqb ((length l - 7) % 2) 0) (breaks other 8) λ _.
-    given (badPair (byte 8) (drop (byte 8) l)) (says t) λ at. breaks other (at + 1)
+    given (timeAt l (byte 2)) (breaks class.Time 2) λ t.
+    need (eqb ((length l - 7) % 2) 0) (breaks class.Other 8) λ _.
+    given (badPair (byte 8) (drop (byte 8) l)) (says t) λ at. breaks class.Other (at + 1)
 
 -- "B: time 2 to 7; latitude DDMMmmm and N or S, 8 to 15; longitude DDDMMmmm and E or W, 16 to 24; A or V, 25; pressure altitude 26 to 30; GNSS altitude 31 to 35"
 unfoldable pub fixFields : List ℕ → Said Fix
 fixFields l =
-    given (timeAt l (byte 2)) (breaks time 2) λ t.
-    given (latitudeAt l (byte 8)) (breaks position 8) λ lat.
-    given (longitudeAt l (byte 16)) (breaks position 16) λ lon.
+    given (timeAt l (byte 2)) (breaks class.Time 2) λ t.
+    given (latitudeAt l (byte 8)) (breaks class.Position 8) λ lat.
+    given (longitudeAt l (byte 16)) (breaks class.Position 16) λ lon.
     on (getD l (byte 25) 0) λ v.
-    need (isEither v (code "A") (code "V")) (breaks other 25) λ _.
-    given (altitudeAt l (byte 26)) (breaks altitude 26) λ p.
-    given (altitudeAt l (byte 31)) (breaks altitude 31) λ g.
+    need (isEither v (code "A") (code "V")) (breaks class.Other 25) λ _.
+    given (altitudeAt l (byte 26)) (breaks class.Altitude 26) λ p.
+    given (altitudeAt l (byte 31)) (breaks class.Altitude 31) λ g.
     says (record { time = t; lat = lat; lon = lon; validity = v; pressure = p; gnss = g })
 
 -- "B and K exactly what their layout gives"
@@ -172,9 +175,14 @@ bLine layout l =
 unfoldable pub kLine : Layout → List ℕ → Said ℕ
 kLine layout l =
     andThen (shapedBy (firstStart family.K) layout l) λ _.
-    given (timeAt l (byte 2)) (breaks time 2) λ t.
+    given (timeAt l (byte 2)) (breaks class.Time 2) λ t.
     andThen (columns l layout) λ _.
     says t
+
+-- the time of a line of a family, by its layout
+unfoldable pub columnedLine : Family → Layout → List ℕ → Said ℕ
+columnedLine family.B layout l = andThen (bLine layout l) λ f. says (f .time)
+columnedLine family.K layout l = kLine layout l
 
 -- "L 1 to 99; G 2 to 255; other 1 to 255"
 abbrev pub lLine : List ℕ → Said (Unit {0})

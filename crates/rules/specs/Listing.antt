@@ -2,14 +2,16 @@
 use Prim.Native.Nat.{ℕ, zero, suc, _+_, _/_, _%_}
 use mathlib.Core.Bool.{cond}
 use mathlib.Core.List.{List, [], _∷_, _++_}
+use mathlib.Core.Option.{some}
 use lib.Dec.{ltb, leb}
 use lib.IntN.{ℤ, pos, negsuc}
 use lib.ListN.{length}
 use Prim.Native.Char.{code}
+use Rattle.rules.specs.Families.{firstStart}
 use Rattle.rules.specs.Choice.{need, bytes}
 use Rattle.rules.specs.Refusals.{Said, says, refuses, no}
 use Rattle.rules.specs.Listed.{codeText}
-use Rattle.rules.specs.Layouts.{lineLength, entriesOf, firstStart, spanOf, columnText}
+use Rattle.rules.specs.Layouts.{lineLength, entriesOf, spanOf, columnText}
 use Rattle.rules.specs.Split.{Lines, end, broken, line, linesOf}
 use Rattle.rules.specs.Reads.{fixSaid}
 use Rattle.rules.specs.Files.{verdict}
@@ -19,6 +21,7 @@ use Rattle.rules.specs.declared.Layout.{Layout}
 use Rattle.rules.specs.declared.Family.the-variants as family
 use Rattle.rules.specs.declared.Fix.{Fix}
 use Rattle.rules.specs.declared.Flight.{Flight}
+use Rattle.rules.specs.declared.Seal.the-variants as seal
 
 -- n in decimal with no zero in front, in at most k digits
 unfoldable pub decimalIn : ℕ → ℕ → List ℕ
@@ -53,7 +56,7 @@ refusedText n l b = bytes "REFUSED" ++ (shown n ++ (shown l ++ (shown b ++ lf)))
 unfoldable pub okText : Flight → List ℕ
 unfolding bytes
 okText f =
-    bytes "OK" ++ (shown (f .lines) ++ (shown (f .bs) ++ (shown (f .ks) ++ (shown (lineLength (firstStart family.B) (f .fixes)) ++ (shown (lineLength (firstStart family.K) (f .extras)) ++ lf)))))
+    bytes "OK" ++ (shown (f .lines) ++ (shown (f .counts .b) ++ (shown (f .counts .k) ++ (shown (lineLength (firstStart family.B) (f .layouts .b)) ++ (shown (lineLength (firstStart family.K) (f .layouts .k)) ++ lf)))))
 
 -- "FIX: line, seconds, latitude and letter, longitude and letter, validity, pressure and GNSS altitude."
 unfoldable pub fixShown : ℕ → Fix → List ℕ
@@ -91,9 +94,9 @@ fixesShown n layout (broken k) = []
 fixesShown n layout (line t ls) = lineShown n layout t (fixSaid t layout) ++ fixesShown (n + 1) layout ls
 
 unfoldable pub listedAs : List ℕ → Said Flight → List ℕ
-listedAs file (says f) = okText f ++ fixesShown 1 (f .fixes) (linesOf file)
+listedAs file (says f) = okText f ++ fixesShown 1 (f .layouts .b) (linesOf file)
 listedAs file (refuses n l b) = refusedText n l b
 
 -- "The listing program reads standard input, lends a table of 16,384 entries"; "21 INPUT_OVER: program's input over 65,536 bytes; 0, 0"
 unfoldable pub listing : List ℕ → List ℕ
-listing input = listedAs input (need (leb (length input) 65536) (no InputOver 0) λ _. verdict input 16384)
+listing input = listedAs input (need (leb (length input) 65536) (no InputOver 0) λ _. verdict seal.Strict input (some 16384))

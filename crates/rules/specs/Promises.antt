@@ -7,14 +7,15 @@ use mathlib.Core.List.{List}
 use mathlib.Core.Option.{Option, none, some}
 use mathlib.Core.Path.{_≡_}
 use lib.ListN.{length, getD}
+use Rattle.rules.specs.Families.{firstStart}
 use Rattle.rules.specs.Refusals.{outcomeTold}
 use Rattle.rules.specs.Chars.{isValid, firstInvalid, isDigit, isCode, codesAt}
 use Rattle.rules.specs.Numbers.{numberTold, numberAt, wholeTold, wholeOf, digitsOf}
 use Rattle.rules.specs.Fields.{isEither, timeTold, timeAt, timeText, dayTold, dateAt, dateText, placeTold, latitudeAt, longitudeAt, latitudeText, longitudeText, altitudeTold, altitudeAt, altitudeText}
 use Rattle.rules.specs.Degrees.{degreesTold, degreesOf}
 use Rattle.rules.specs.Listed.{listed, unlisted, keepsRule}
-use Rattle.rules.specs.Layouts.{LayoutTold, firstStart, allowed, lengthTold, lengthSaid, presenceTold, presenceSaid, columnTold, lookSaid, columns}
-use Rattle.rules.specs.Lines.{kindOf, aLine, dateLine, hLine, layoutLine, headLine, pointLine, dLine, eLine, fLine, bLine, kLine, shaped}
+use Rattle.rules.specs.Layouts.{LayoutTold, allowed, lengthTold, lengthSaid, presenceTold, presenceSaid, columnTold, lookSaid, columns}
+use Rattle.rules.specs.Lines.{kindOf, aLine, dateLine, hLine, layoutLine, headLine, pointLine, dLine, eLine, fLine, bLine, kLine, columnedLine, shaped}
 use Rattle.rules.specs.Split.{lineTold, boundsOf, lineText}
 use Rattle.rules.specs.Files.{CheckedTold, verdict, tableAfter}
 use Rattle.rules.specs.Reads.{fixTold, fixSaid, timeReadTold, extraSaid, eventSaid, satellitesSaid, dateReadTold, dateSaid, layoutSaid, headTold, headSaid, headRest, pointTold, pointSaid, pointRest, columnSaid, columnRest, numberReadTold, numberSaid}
@@ -50,6 +51,7 @@ use Rattle.rules.specs.declared.Point.{Point}
 use Rattle.rules.specs.declared.PointRead.{PointRead}
 use Rattle.rules.specs.declared.Kind.{Kind}
 use Rattle.rules.specs.declared.Checked.{Checked}
+use Rattle.rules.specs.declared.Seal.{Seal}
 use Rattle.rules.specs.declared.LineRead.{LineRead}
 use Rattle.rules.specs.declared.Wrote.{Wrote}
 
@@ -191,6 +193,9 @@ FixChecked l layout r = fixTold r ≡ bLine layout l
 abbrev pub ExtraChecked : List ℕ → Layout → TimeRead → Type 0
 ExtraChecked l layout r = timeReadTold r ≡ kLine layout l
 
+abbrev pub ColumnedChecked : Family → List ℕ → Layout → TimeRead → Type 0
+ColumnedChecked f l layout r = timeReadTold r ≡ columnedLine f layout l
+
 -- ---- lines: the readers
 
 abbrev pub FixGiven : List ℕ → Layout → FixRead → Type 0
@@ -235,9 +240,13 @@ NumberGiven l layout name r = numberReadTold r ≡ numberSaid l layout name
 -- ---- files
 
 -- the answer on the file, and the lent table afterwards
-pub record FileChecked (file table : List ℕ) (r : Checked) (after : List ℕ) : Type 0 where
-  pub told : CheckedTold (verdict file (length table)) r
-  pub entries : after ≡ tableAfter file table
+pub record FileChecked (seal : Seal) (file table : List ℕ) (r : Checked) (after : List ℕ) : Type 0 where
+  pub told : CheckedTold (verdict seal file (some (length table))) r
+  pub entries : after ≡ tableAfter seal file table
+
+-- the answer where no table is lent
+abbrev pub FileJudged : Seal → List ℕ → Checked → Type 0
+FileJudged seal file r = CheckedTold (verdict seal file none) r
 
 abbrev pub LineGiven : List ℕ → List ℕ → ℕ → LineRead → Type 0
 LineGiven file table n r = lineTold r ≡ boundsOf file table n

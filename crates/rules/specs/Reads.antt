@@ -3,18 +3,19 @@
 use Prim.Native.Nat.{ℕ}
 use Prim.Native.Char.{code}
 use mathlib.Core.List.{List, []}
-use mathlib.Core.Bool.{cond}
 use lib.Dec.{eqb}
 use lib.ListN.{getD, drop}
 use Rattle.rules.specs.Choice.{given, need, byte}
 use Rattle.rules.specs.Refusals.{Said, says, refuses, no, refusal, andThen}
 use Rattle.rules.specs.Numbers.{wholeOf}
 use Rattle.rules.specs.Listed.{packedOf}
-use Rattle.rules.specs.Layouts.{Span, firstStart, allowed, look, columnText}
-use Rattle.rules.specs.Lines.{dateLine, layoutLine, headLine, pointLine, eLine, fLine, bLine, kLine}
+use Rattle.rules.specs.Families.{firstStart, layoutLetter, familyOf}
+use Rattle.rules.specs.Layouts.{Span, entriesOf, allowed, lookIn, columnText}
+use Rattle.rules.specs.Lines.{dateLine, layoutLine, headLine, pointLine, eLine, fLine, bLine, kLine, columnedLine}
 use Rattle.rules.specs.declared.Reason.the-variants.{BadValue, Absent, NotNumber}
 use Rattle.rules.specs.declared.Signed.{Signed}
 use Rattle.rules.specs.declared.Date.{Date}
+use Rattle.rules.specs.declared.Entry.{Entry}
 use Rattle.rules.specs.declared.Layout.{Layout}
 use Rattle.rules.specs.declared.Family.{Family}
 use Rattle.rules.specs.declared.Family.the-variants as family
@@ -40,16 +41,16 @@ module _ {A : Type 0} where
   ofKind letter l f = need (eqb (getD l 0 0) letter) (no BadValue 0) f
 
   -- "17 BAD_VALUE: value, layout .. given is not allowed"
-  abbrev pub withLayout : Family → Layout → (Unit {0} → Said A) → Said A
-  withLayout f layout g = need (allowed (firstStart f) layout) (no BadValue 0) g
+  abbrev pub byLayout : Family → Layout → (Unit {0} → Said A) → Said A
+  byLayout f layout g = need (allowed (firstStart f) layout) (no BadValue 0) g
 
 -- the fix of a B line with its I layout
 unfoldable pub fixSaid : List ℕ → Layout → Said Fix
-fixSaid l layout = ofKind (code "B") l λ _. withLayout family.B layout λ _. bLine layout l
+fixSaid l layout = ofKind (code "B") l λ _. byLayout family.B layout λ _. bLine layout l
 
 -- the time of a K line with its J layout
 unfoldable pub extraSaid : List ℕ → Layout → Said ℕ
-extraSaid l layout = ofKind (code "K") l λ _. withLayout family.K layout λ _. kLine layout l
+extraSaid l layout = ofKind (code "K") l λ _. byLayout family.K layout λ _. kLine layout l
 
 -- the time of an E line, and of an F line
 unfoldable pub eventSaid : List ℕ → Said ℕ
@@ -61,11 +62,6 @@ satellitesSaid l = ofKind (code "F") l λ _. fLine l
 -- the date of line 2
 unfoldable pub dateSaid : List ℕ → Said Date
 dateSaid l = ofKind (code "H") l λ _. dateLine l
-
--- the kind of line that tells the layout of a family
-abbrev pub layoutLetter : Family → ℕ
-layoutLetter family.B = code "I"
-layoutLetter family.K = code "J"
 
 -- the layout of an I line, for B lines, and of a J line, for K lines
 unfoldable pub layoutSaid : Family → List ℕ → Said Layout
@@ -87,16 +83,19 @@ unfoldable pub pointRest : List ℕ → Said Point → List ℕ
 pointRest l (says p) = drop (byte 19) l
 pointRest l (refuses n k b) = []
 
--- a B line or a K line with its layout: 17, and the checks of the line
-unfoldable pub lineSaid : List ℕ → Layout → Said (Unit {0})
-lineSaid l layout =
-    cond (eqb (getD l 0 0) (code "B")) (andThen (fixSaid l layout) λ _. says tt) (andThen (extraSaid l layout) λ _. says tt)
+-- a line of a family with its layout, whichever family it is of: 17, the checks of the line, and then the entries of its columns
+unfoldable pub entriesSaid : List ℕ → Layout → Said (List Entry)
+entriesSaid l layout =
+    given (familyOf (getD l 0 0)) (no BadValue 0) λ f.
+    byLayout f layout λ _.
+    andThen (columnedLine f layout l) λ _.
+    says (entriesOf layout)
 
 -- "A column is read by its code as text": the places of its first and last byte; "19 ABSENT: code (any 3 bytes) not in the layout"
 unfoldable pub columnSaid : List ℕ → Layout → List ℕ → Said Span
 columnSaid l layout name =
-    andThen (lineSaid l layout) λ _.
-    given (look layout (packedOf name)) (no Absent 0) λ s.
+    andThen (entriesSaid l layout) λ es.
+    given (lookIn es (packedOf name)) (no Absent 0) λ s.
     says s
 
 -- its text; none where refused

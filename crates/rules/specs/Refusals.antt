@@ -1,5 +1,7 @@
 -- Document 01, 'Refusal numbers': the table, and what an answer says.
 use Prim.Native.Nat.{ℕ}
+use Rattle.rules.specs.declared.Class.{Class}
+use Rattle.rules.specs.declared.Class.the-variants as class
 use Rattle.rules.specs.declared.Reason.{Reason}
 use Rattle.rules.specs.declared.Reason.the-variants.{Empty, TooLong, LineEnd, EmptyLine, Kind, Order, Length, Character, Form, Tile, Twice, Width, Column, Back, TableFull, EndsEarly, BadValue, NoRoom, Absent, NotNumber, InputOver}
 use Rattle.rules.specs.declared.Refusal.{Refusal}
@@ -70,19 +72,15 @@ unfoldable pub outcomeTold : Outcome → Said (Unit {0})
 outcomeTold Accepted = says tt
 outcomeTold (Refused r) = refusal r
 
--- The classes of fields. Today a field of any class that breaks its rule is FORM; the number is told here, and nowhere else.
-pub data Class : Type 0 where
-  time position altitude date other : Class
-
--- "9 FORM: first field against its rule"
+-- "9 FORM: first field against its rule". Today a field of any class that breaks its rule is FORM; the number is told here, and nowhere else.
 abbrev pub reasonOf : Class → Reason
-reasonOf time = Form
-reasonOf position = Form
-reasonOf altitude = Form
-reasonOf date = Form
-reasonOf other = Form
+reasonOf class.Time = Form
+reasonOf class.Position = Form
+reasonOf class.Altitude = Form
+reasonOf class.Date = Form
+reasonOf class.Other = Form
 
 module _ {A : Type 0} where
   -- "line, field's first byte"
   abbrev pub breaks : Class → ℕ → Said A
-  breaks class first = no (reasonOf class) first
+  breaks c first = no (reasonOf c) first

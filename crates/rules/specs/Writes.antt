@@ -7,13 +7,14 @@ use lib.Dec.{eqb, leb}
 use lib.IntN.{ℤ, pos, negsuc}
 use lib.ListN.{length}
 use lib.Seq.{sets}
+use Rattle.rules.specs.Families.{layoutLetter}
 use Rattle.rules.specs.Choice.{need}
 use Rattle.rules.specs.Refusals.{Said, says, refuses, no, refusal}
 use Rattle.rules.specs.Numbers.{digitsOf}
 use Rattle.rules.specs.Fields.{timeText, dateText, latitudeText, longitudeText, altitudeText}
 use Rattle.rules.specs.Listed.{codeText}
 use Rattle.rules.specs.Layouts.{entriesOf}
-use Rattle.rules.specs.Reads.{fixSaid, extraSaid, headSaid, pointSaid, layoutLetter}
+use Rattle.rules.specs.Reads.{fixSaid, extraSaid, headSaid, pointSaid}
 use Rattle.rules.specs.declared.Reason.the-variants.{BadValue, NoRoom}
 use Rattle.rules.specs.declared.Date.{Date}
 use Rattle.rules.specs.declared.Position.{Position}

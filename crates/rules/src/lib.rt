@@ -25,6 +25,15 @@ pub enum Reason {
     InputOver,
 }
 
+// The classes of fields, by which a field that breaks its rule is refused.
+pub enum Class {
+    Time,
+    Position,
+    Altitude,
+    Date,
+    Other,
+}
+
 // A refusal: why, in which line, at which byte of it. Lines and bytes count from 1; 0 stands for none.
 pub struct Refusal {
     pub reason: Reason,
@@ -246,14 +255,45 @@ pub enum Kind {
     NoKind,
 }
 
-// What an accepted file says: its date, the layouts of its B lines and of its K lines, and how many lines, B lines and K lines it has.
+// What a kind of line does in a file: the A line opens it, H lines head it, I and J lines tell a layout, B and K lines have columns, C lines declare a task. No role: no byte from A to Z.
+pub enum Role {
+    Opens,
+    Heads,
+    Tells(Family),
+    Columned(Family),
+    Declares,
+    Event,
+    Satellites,
+    Differential,
+    Seals,
+    Remark,
+    Other,
+    NoRole,
+}
+
+// What a file must have at its end. Strict: a G line.
+pub enum Seal {
+    Strict,
+}
+
+// A layout for the lines of each family.
+pub struct Layouts {
+    pub b: Layout,
+    pub k: Layout,
+}
+
+// How many lines of each family there are.
+pub struct Counts {
+    pub b: u32,
+    pub k: u32,
+}
+
+// What an accepted file says: its date, the layouts of its families, how many lines it has, and how many of each family.
 pub struct Flight {
     pub date: Date,
-    pub fixes: Layout,
-    pub extras: Layout,
+    pub layouts: Layouts,
     pub lines: u32,
-    pub bs: u32,
-    pub ks: u32,
+    pub counts: Counts,
 }
 
 // What the lines so far have left: the part of the file that they reached, whether a declaration was begun, how many of its points are

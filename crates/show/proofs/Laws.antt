@@ -14,14 +14,14 @@ use lib.Seq.{take-all, take-nil}
 use lib.Signed.{mag, nonNeg, leZ}
 use Rattle.rules.specs.Choice.{need, part, bytes}
 use Rattle.rules.specs.Layouts.{lineLength, unused}
-use Rattle.rules.specs.Listing.{decimal, shown, shownLetter, shownMetres, refusedText, okText, fixShown, columnShown}
+use Rattle.rules.specs.Listing.{decimal, shown, shownLetter, shownMetres, lf, refusedText, okText, fixShown, columnShown}
 use Rattle.rules.specs.declared.Entry.{Entry}
 use Rattle.rules.specs.declared.Layout.{Layout}
 use Rattle.rules.specs.declared.Fix.{Fix}
 use Rattle.rules.specs.declared.Flight.{Flight}
 use Rattle.pieces.specs.Buffer.{Fills}
 use Rattle.pieces.proofs.Laws.{number-room}
-use Rattle.show.specs.Lines.{columnLine, positionShown, fixPlaces, fixHeights}
+use Rattle.show.specs.Lines.{columnLine, counted, okNumbers, positionShown, fixPlaces, fixHeights}
 
 -- ---- signs
 
@@ -84,7 +84,27 @@ module _ (a e : ℕ) (l : List ℕ) where
     take-all (length l - a) (drop a l) (simp length-drop (omega arith)),
   )
 
--- ---- a FIX line of its two parts
+-- ---- lines of their parts
+
+module _ (w : List ℕ) (a b c : ℕ) (rest : List ℕ) where
+  regrouped : counted w a b c ++ rest ≡ w ++ (shown a ++ (shown b ++ (shown c ++ rest)))
+  unfolding counted
+  regrouped = simp append-assoc
+
+pub refused-parts : (n l b : ℕ) → refusedText n l b ≡ counted (bytes "REFUSED") n l b ++ lf
+unfolding refusedText bytes
+refused-parts n l b = sym (regrouped (bytes "REFUSED") n l b lf)
+
+pub ok-parts : (f : Flight) → okText f ≡ okNumbers (f .lines) (f .counts .b) (f .counts .k) (lineLength 36 (f .layouts .b)) (lineLength 8 (f .layouts .k))
+unfolding okText okNumbers bytes
+ok-parts f = sym (regrouped (bytes "OK") (f .lines) (f .counts .b) (f .counts .k) (shown (lineLength 36 (f .layouts .b)) ++ (shown (lineLength 8 (f .layouts .k)) ++ lf)))
+
+grouped : (w a b c d rest : List ℕ) → w ++ (a ++ (b ++ ((c ++ d) ++ rest))) ≡ (w ++ (a ++ (b ++ c))) ++ (d ++ rest)
+grouped w a b c d rest = simp append-assoc
+
+pub places-parts : (n : ℕ) (f : Fix) → fixPlaces n f ≡ counted (bytes "FIX") n (f .time) (f .lat .count) ++ (shownLetter (f .lat .letter) ++ positionShown (f .lon))
+unfolding fixPlaces positionShown counted bytes
+places-parts n f = grouped (bytes "FIX") (shown n) (shown (f .time)) (shown (f .lat .count)) (shownLetter (f .lat .letter)) (positionShown (f .lon))
 
 regroup : (w a b c d e f rest : List ℕ) → w ++ (a ++ (b ++ (c ++ (d ++ (e ++ (f ++ rest)))))) ≡ (w ++ (a ++ (b ++ ((c ++ d) ++ (e ++ f))))) ++ rest
 regroup w a b c d e f rest = simp append-assoc
@@ -108,7 +128,7 @@ pub ok-room : (f : Flight) → length (okText f) ≤ 288
 unfolding okText bytes
 ok-room f =
     simp length-append
-    (omega (arith, number-room (f .lines), number-room (f .bs), number-room (f .ks), number-room (lineLength 36 (f .fixes)), number-room (lineLength 8 (f .extras))))
+    (omega (arith, number-room (f .lines), number-room (f .counts .b), number-room (f .counts .k), number-room (lineLength 36 (f .layouts .b)), number-room (lineLength 8 (f .layouts .k))))
 
 pub fix-room : (n : ℕ) (f : Fix) → length (fixShown n f) ≤ 288
 unfolding fixShown bytes

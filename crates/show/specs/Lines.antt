@@ -5,11 +5,9 @@ use lib.Dec.{leb}
 pub use Rattle.pieces.specs.Buffer.{Shown}
 use Rattle.rules.specs.Choice.{need, bytes}
 use Rattle.rules.specs.Refusals.{number}
-use Rattle.rules.specs.Layouts.{lineLength}
 use Rattle.rules.specs.Listing.{shown, shownLetter, shownMetres, lf, refusedText, okText, fixShown, columnShown}
 use Rattle.rules.specs.declared.Refusal.{Refusal}
 use Rattle.rules.specs.declared.Entry.{Entry}
-use Rattle.rules.specs.declared.Layout.{Layout}
 use Rattle.rules.specs.declared.Position.{Position}
 use Rattle.rules.specs.declared.Fix.{Fix}
 use Rattle.rules.specs.declared.Flight.{Flight}
@@ -32,9 +30,14 @@ ColumnShown l e out r after = Shown (columnLine l e) out r after
 
 -- ---- the parts that the longer lines are put together from
 
--- an OK line from the lengths on
-unfoldable pub lengthsShown : Layout → Layout → List ℕ
-lengthsShown fixes extras = shown (lineLength 36 fixes) ++ (shown (lineLength 8 extras) ++ lf)
+-- a word and three numbers, with which a line begins
+unfoldable pub counted : List ℕ → ℕ → ℕ → ℕ → List ℕ
+counted word a b c = word ++ (shown a ++ (shown b ++ shown c))
+
+-- an OK line of its five numbers
+unfoldable pub okNumbers : ℕ → ℕ → ℕ → ℕ → ℕ → List ℕ
+unfolding bytes
+okNumbers l b k x y = counted (bytes "OK") l b k ++ (shown x ++ (shown y ++ lf))
 
 unfoldable pub positionShown : Position → List ℕ
 positionShown p = shown (p .count) ++ shownLetter (p .letter)

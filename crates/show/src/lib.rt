@@ -3,6 +3,7 @@ mod lines;
 mod values;
 
 ghost use Rattle.show.specs.Lines.{RefusalShown, FlightShown, FixShown, ColumnShown};
+use lines::line_length;
 pub use lines::put_column;
 pub use lines::put_fix;
 use lines::put_flight;
@@ -25,7 +26,13 @@ pub fn refused(why: Refusal, out: &mut [u8; 288]) -> usize
 pub fn ok(f: Flight, out: &mut [u8; 288]) -> usize
     ensures { λ r. ⌜ FlightShown f (now (out .entry)) r (now (out .exit)) ⌝ }
 {
-    put_flight(out, f)
+    let layouts = f.layouts;
+    let fixes = layouts.b;
+    let extras = layouts.k;
+    let b = line_length(36, fixes);
+    let k = line_length(8, extras);
+    let counts = f.counts;
+    put_flight(out, f.lines, counts.b, counts.k, b, k)
 }
 
 // FIX and what the B line of that number says before its columns: how many bytes the line has.

@@ -3,10 +3,9 @@ ghost use Prim.Native.Nat.{_≤_};
 ghost use mathlib.Core.Path.{_≡_};
 ghost use Rattle.rules.specs.Choice.{byte};
 ghost use Rattle.rules.specs.Layouts.{lineLength, columnText, spanOf};
-ghost use Rattle.rules.specs.Listing.{refusedText, okText, fixShown, columnShown};
+ghost use Rattle.rules.specs.Listing.{refusedText, fixShown, columnShown};
 ghost use Rattle.pieces.specs.Buffer.{Fills};
-ghost use Rattle.show.specs.Lines.{columnLine, lengthsShown, positionShown, fixPlaces, fixHeights};
-use crate::values::put_code;
+ghost use Rattle.show.specs.Lines.{columnLine, counted, okNumbers, positionShown, fixPlaces, fixHeights};
 use crate::values::put_letter;
 use crate::values::put_metres;
 use pieces::put_byte;
@@ -14,23 +13,29 @@ use pieces::put_shown;
 use pieces::put_text;
 use rules::Entry;
 use rules::Fix;
-use rules::Flight;
 use rules::Layout;
 use rules::Position;
+
+// A word and three numbers, with which a line begins.
+fn put_counted(out: &mut [u8], at: usize, word: &[u8], a: u64, b: u64, c: u64) -> usize
+    ensures { λ r. ⌜ Fills (now (out .entry)) at (counted (now (word .entry)) a b c) r (now (out .exit)) ⌝ }
+{
+    let x = put_text(out, at, word);
+    let y = put_shown(out, x, a);
+    let z = put_shown(out, y, b);
+    put_shown(out, z, c)
+}
 
 // A refusal's line.
 pub(crate) fn put_refusal(out: &mut [u8], number: u8, line: u32, byte: u32) -> usize
     ensures { λ r. ⌜ Fills (now (out .entry)) 0 (refusedText number line byte) r (now (out .exit)) ⌝ }
 {
-    let a = put_text(out, 0, b"REFUSED");
-    let b = put_shown(out, a, number as u64);
-    let c = put_shown(out, b, line as u64);
-    let d = put_shown(out, c, byte as u64);
-    put_byte(out, d, b'\n')
+    let a = put_counted(out, 0, b"REFUSED", number as u64, line as u64, byte as u64);
+    put_byte(out, a, b'\n')
 }
 
 // How many bytes a line of a layout has whose first column starts at a place.
-fn line_length(start: usize, l: Layout) -> usize
+pub(crate) fn line_length(start: usize, l: Layout) -> usize
     requires { ⌜ 1 ≤ start ⌝ }
     ensures { λ r. ⌜ r ≡ lineLength start l ⌝ }
 {
@@ -45,24 +50,21 @@ fn line_length(start: usize, l: Layout) -> usize
     last.last as usize
 }
 
-// The lengths of B and of K lines, and the line's end.
-fn put_lengths(out: &mut [u8], at: usize, fixes: Layout, extras: Layout) -> usize
-    ensures { λ r. ⌜ Fills (now (out .entry)) at (lengthsShown fixes extras) r (now (out .exit)) ⌝ }
+// The line of a file that is accepted: its counts of lines, and the lengths of B and of K lines.
+pub(crate) fn put_flight(
+    out: &mut [u8],
+    lines: u32,
+    bs: u32,
+    ks: u32,
+    fix: usize,
+    extra: usize,
+) -> usize
+    ensures { λ r. ⌜ Fills (now (out .entry)) 0 (okNumbers lines bs ks fix extra) r (now (out .exit)) ⌝ }
 {
-    let a = put_shown(out, at, line_length(36, fixes) as u64);
-    let b = put_shown(out, a, line_length(8, extras) as u64);
-    put_byte(out, b, b'\n')
-}
-
-// The line of a file that is accepted.
-pub(crate) fn put_flight(out: &mut [u8], f: Flight) -> usize
-    ensures { λ r. ⌜ Fills (now (out .entry)) 0 (okText f) r (now (out .exit)) ⌝ }
-{
-    let a = put_text(out, 0, b"OK");
-    let b = put_shown(out, a, f.lines as u64);
-    let c = put_shown(out, b, f.bs as u64);
-    let d = put_shown(out, c, f.ks as u64);
-    put_lengths(out, d, f.fixes, f.extras)
+    let a = put_counted(out, 0, b"OK", lines as u64, bs as u64, ks as u64);
+    let b = put_shown(out, a, fix as u64);
+    let c = put_shown(out, b, extra as u64);
+    put_byte(out, c, b'\n')
 }
 
 // A latitude or a longitude with its letter.
@@ -77,11 +79,9 @@ fn put_position(out: &mut [u8], at: usize, p: Position) -> usize
 fn put_places(out: &mut [u8], at: usize, line: u32, f: Fix) -> usize
     ensures { λ r. ⌜ Fills (now (out .entry)) at (fixPlaces line f) r (now (out .exit)) ⌝ }
 {
-    let a = put_text(out, at, b"FIX");
-    let b = put_shown(out, a, line as u64);
-    let c = put_shown(out, b, f.time as u64);
-    let d = put_position(out, c, f.lat);
-    put_position(out, d, f.lon)
+    let a = put_counted(out, at, b"FIX", line as u64, f.time as u64, f.lat.count);
+    let b = put_letter(out, a, f.lat.letter);
+    put_position(out, b, f.lon)
 }
 
 // A fix's line from its validity on.
@@ -135,11 +135,20 @@ fn put_spelt(out: &mut [u8], at: usize, line: &[u8], e: Entry) -> usize
     requires { ⌜ e .code ≤ 0xFFFFFF ⌝ }
     ensures { λ r. ⌜ Fills (now (out .entry)) at (columnShown (now (line .entry)) e) r (now (out .exit)) ⌝ }
 {
-    let a = put_text(out, at, b"COL ");
-    let b = put_code(out, a, e.code);
-    let c = put_byte(out, b, b' ');
-    let d = put_text(out, c, column_text(line, e));
-    put_byte(out, d, b'\n')
+    let code = e.code;
+    let head = [
+        b'C',
+        b'O',
+        b'L',
+        b' ',
+        (code / 65536) as u8,
+        (code / 256 % 256) as u8,
+        (code % 256) as u8,
+        b' ',
+    ];
+    let a = put_text(out, at, &head);
+    let b = put_text(out, a, column_text(line, e));
+    put_byte(out, b, b'\n')
 }
 
 // A column's line, from a place of the buffer on; nothing where the code is no three bytes.

@@ -1,10 +1,8 @@
-// The pieces that the listing's lines alone have: letters, altitudes and codes, each put into the buffer at a place of it and answering the place behind it.
-ghost use Prim.Native.Nat.{_≤_};
+// The pieces that the listing's lines alone have: letters and altitudes, each put into the buffer at a place of it and answering the place behind it.
 ghost use mathlib.Core.Path.{_≡_};
 ghost use lib.IntN.{natAbs};
 ghost use lib.Signed.{nonNeg};
 ghost use Rattle.pieces.specs.Buffer.{Fills};
-ghost use Rattle.rules.specs.Listed.{codeText};
 ghost use Rattle.rules.specs.Listing.{shownLetter, shownMetres};
 use pieces::put_byte;
 use pieces::put_decimal;
@@ -49,14 +47,4 @@ pub(crate) fn put_metres(out: &mut [u8], at: usize, h: Height) -> usize
     let a = put_byte(out, at, b' ');
     let b = put_byte(out, a, b'-');
     put_decimal(out, b, metres)
-}
-
-// A code's three characters.
-pub(crate) fn put_code(out: &mut [u8], at: usize, code: u32) -> usize
-    requires { ⌜ code ≤ 0xFFFFFF ⌝ }
-    ensures { λ r. ⌜ Fills (now (out .entry)) at (codeText code) r (now (out .exit)) ⌝ }
-{
-    let a = put_byte(out, at, (code / 65536) as u8);
-    let b = put_byte(out, a, (code / 256 % 256) as u8);
-    put_byte(out, b, (code % 256) as u8)
 }

@@ -1,167 +1,141 @@
--- A layout that an I or a J line tells is allowed, over the first start, and so is the empty one. Assumes nothing.
-use Prim.Native.Nat.{ℕ, zero, suc, _+_, _-_, _*_, _/_, _%_, _≤_, _<_}
-use mathlib.Core.Bool.{Bool, true, false, not, _&&_, _||_}
-use mathlib.Core.List.{List, [], _∷_, _++_, append-nil}
-use mathlib.Core.Option.{none, some}
+-- A layout is its entries and nothing behind them; one that an I or a J line tells is allowed, over the first start, and so is the empty one. Assumes nothing.
+use Prim.Native.Nat.{ℕ, zero, suc, _+_, _-_, _*_, _≤_, _<_}
+use mathlib.Core.Bool.{Bool, true, false, _&&_}
+use mathlib.Core.List.{List, [], _∷_, _++_, append-nil, append-assoc}
+use mathlib.Core.Option.{Option, none, some}
 use mathlib.Core.Path.{_≡_, refl, sym, ap, _∙_}
-use native.Mathlib.Nat.{add-zero}
-use native.Mathlib.Numerals.{add-one}
 use native.Mathlib.Omega.{arith}
-use borrow.Author.Tests.{le-leb, leb-true, eqb-true, eq-eqb, not-true}
-use lib.Dec.{leb, eqb}
-use lib.ListN.{length, getD, take, drop, replicate, length-set}
-use lib.Seq.{take-suc-set, append-snoc, drop-set-lt, getD-drop}
-use Rattle.rules.specs.Choice.{leads}
-use Rattle.rules.specs.Refusals.{Said, says, refuses}
-use Rattle.rules.specs.Chars.{isDigit, isCode, codesAt}
+use borrow.Author.Tests.{le-leb, leb-true, eqb-true, eqb-false, ne-eqb}
+use lib.Dec.{eqb, leb}
+use lib.ListN.{length, getD, drop, set, replicate, length-append, length-drop, length-replicate, take-append-drop}
+use lib.Seq.{take-append-seam, drop-append-seam, set-append-seam, append-snoc, length-take-le}
+use Rattle.rules.specs.Families.{firstStart, layoutLetter}
+use Rattle.rules.specs.Choice.{given, leads, firstOf, Each}
+use Rattle.rules.specs.Refusals.{says}
 use Rattle.rules.specs.Numbers.{numberAt}
-use Rattle.rules.specs.Listed.{packed, codeAt, isCodeWord, widthFits}
-use Rattle.rules.specs.Layouts.{firstStart, unused, emptyLayout, withEntry, entriesOf, carries, placed, entryAt, entriesFrom, layoutFields, isSaid, isSpelt, allPlaced, isUnused, allowed}
+use Rattle.rules.specs.Layouts.{unused, emptyLayout, withEntry, entriesOf, Span, spanOf, look, carries, entriesFrom, layoutFields, allPlaced, isUnused, allowed}
 use Rattle.rules.specs.Lines.{shaped, layoutLine}
-use Rattle.rules.specs.Reads.{layoutLetter, layoutSaid}
+use Rattle.rules.specs.Reads.{layoutSaid}
 use Rattle.rules.specs.declared.Entry.{Entry}
 use Rattle.rules.specs.declared.Layout.{Layout}
 use Rattle.rules.specs.declared.Family.{Family}
-use Rattle.trips.proofs.Laws.{none-some, refuses-says, false-true, given-inv, need-inv, then-inv, and-inv}
-use Rattle.trips.proofs.Texts.{digit-range, shaped-there}
-use Rattle.trips.proofs.Digits.{number-there}
+use Rattle.rules.proofs.Inverse.{refuses-says, given-inv, need-inv, then-inv, and-inv}
+use Rattle.trips.proofs.Texts.{shaped-there}
+use Rattle.sound.proofs.Each.{each-map, nothing-found, none-found}
+use Rattle.sound.proofs.Entries.{withAll, Tiled, tiled-there, tiled-said, entries-there}
 
--- ---- an entry
+-- ---- a layout is its entries, and nothing behind them
 
-pub record PlacedAs (start : ℕ) (before : Layout) (e : Entry) : Type 0 where
-  pub first : e .first ≡ start
-  pub order : e .first ≤ e .last
-  pub new : carries before (e .code) ≡ false
-  pub width : widthFits (e .code) (e .last - e .first + 1) ≡ true
+-- they stand in the first of 13 slots, and the others are all zero
+abbrev pub laid : List Entry → Layout
+laid es = record { count = length es; entries = es ++ replicate (13 - length es) unused }
 
-placed-there : (start : ℕ) (before : Layout) (e : Entry) (n : ℕ) (d : Entry) → placed start before e n ≡ says d → PlacedAs start before e × (e ≡ d)
-unfolding placed
-placed-there start before e n d h =
-    let a = need-inv (eqb (e .first) start) _ (says d) _ refuses-says h in
-    let b = need-inv (leb (e .first) (e .last)) _ (says d) _ refuses-says (a .1) in
-    let c = need-inv (not (carries before (e .code))) _ (says d) _ refuses-says (b .1) in
-    let w = need-inv (widthFits (e .code) (e .last - e .first + 1)) _ (says d) _ refuses-says (c .1) in
-    (record { first = eqb-true _ _ (a .0); order = leb-true _ _ (b .0); new = not-true _ (c .0); width = w .0 }, cc)
+pub with-laid : (es : List Entry) (e : Entry) → length es < 13 → withEntry (laid es) e ≡ laid (es ++ (e ∷ []))
+with-laid es e h =
+    let n : length es + 1 ≡ length (es ++ (e ∷ [])) = simp length-append in
+    let k : 13 - length es ≡ suc (13 - length (es ++ (e ∷ []))) = omega arith in
+    let s : set (es ++ replicate (13 - length es) unused) (length es) e ≡ (es ++ (e ∷ [])) ++ replicate (13 - length (es ++ (e ∷ []))) unused =
+    rw k (set-append-seam es unused (replicate (13 - length (es ++ (e ∷ []))) unused) e ∙ sym (append-snoc es e (replicate (13 - length (es ++ (e ∷ []))) unused))) in
+    λ i. record { count = n i; entries = s i }
 
-placed-here : (start : ℕ) (before : Layout) (e : Entry) (n : ℕ) → PlacedAs start before e → placed start before e n ≡ says e
-unfolding placed
-placed-here start before e n p = simp (eq-eqb _ _ (p .first), le-leb _ _ (p .order), p .new, p .width)
+pub all-laid : (before es : List Entry) → length before + length es ≤ 13 → withAll (laid before) es ≡ laid (before ++ es)
+all-laid before [] h = ap laid (sym (append-nil before))
+all-laid before (e ∷ es) h =
+    ap (λ x. withAll x es) (with-laid before e (omega arith))
+    ∙ all-laid (before ++ (e ∷ [])) es (omega (arith, length-append before (e ∷ [])))
+    ∙ ap laid (append-assoc before (e ∷ []) es)
 
-pub said-placed : (start : ℕ) (before : Layout) (e : Entry) → isSaid (placed start before e 0) ≡ true → PlacedAs start before e
-said-placed start before e h = go (placed start before e 0) refl h
-  where
-    go : (s : Said Entry) → placed start before e 0 ≡ s → isSaid s ≡ true → PlacedAs start before e
-    go (says d) q t = placed-there start before e 0 d q .0
-    go (refuses n l b) q t = absurd (false-true t)
+pub entries-laid : (es : List Entry) → entriesOf (laid es) ≡ es
+entries-laid es = take-append-seam es (replicate (13 - length es) unused)
 
--- ---- an entry that was read can be spelt
+unused-there : (e : Entry) → isUnused e ≡ true → e ≡ unused
+unfolding isUnused
+unused-there e h =
+    let a = and-inv (eqb (e .first) 0 && eqb (e .last) 0) (eqb (e .code) 0) h in
+    let b = and-inv (eqb (e .first) 0) (eqb (e .last) 0) (a .0) in
+    let x = eqb-true _ _ (b .0) in
+    let y = eqb-true _ _ (b .1) in
+    let z = eqb-true _ _ (a .1) in
+    λ i. record { first = x i; last = y i; code = z i }
 
-leads-there : {A : Type 0} (test : A → Bool) (d : A) (n : ℕ) (l : List A) (i : ℕ) → leads test n l ≡ true → i < n → test (getD l i d) ≡ true
+all-unused : (n : ℕ) → leads isUnused n (replicate n unused) ≡ true
+unfolding leads isUnused
+all-unused zero = refl
+all-unused (suc n) = all-unused n
+
+none-used : (n : ℕ) (es : List Entry) → length es ≡ n → leads isUnused n es ≡ true → es ≡ replicate n unused
 unfolding leads
-leads-there test d zero l i h p = absurd (omega arith)
-leads-there test d (suc n) [] i h p = absurd (false-true h)
-leads-there test d (suc n) (x ∷ l) zero h p = and-inv (test x) _ h .0
-leads-there test d (suc n) (x ∷ l) (suc i) h p = leads-there test d n l i (and-inv (test x) _ h .1) (omega arith)
+none-used zero [] e h = refl
+none-used zero (x ∷ es) e h = absurd (omega arith)
+none-used (suc n) [] e h = absurd (omega arith)
+none-used (suc n) (x ∷ es) e h =
+    let a = and-inv (isUnused x) (leads isUnused n es) h in
+    ap (λ y. y ∷ es) (unused-there x (a .0)) ∙ ap (λ y. unused ∷ y) (none-used n es (omega arith) (a .1))
 
-code-low : (b : ℕ) → isCode b ≡ true → b ≤ 90
-unfolding isCode
-code-low b h = go (isDigit b) refl h
+pub laid-allowed : (start : ℕ) (es : List Entry) → length es ≤ 13 → Tiled es start emptyLayout → allowed start (laid es) ≡ true
+unfolding allowed
+laid-allowed start es n w =
+    let d : drop (length es) (es ++ replicate (13 - length es) unused) ≡ replicate (13 - length es) unused = drop-append-seam es _ in
+    rw (le-leb (length es) 13 n, entries-laid es, tiled-said es start emptyLayout w, d) (all-unused (13 - length es))
+
+-- ---- entries of different codes
+
+abbrev pub Coded : ℕ → Entry → Bool
+Coded x e = eqb (e .code) x
+
+-- a code is carried by none of the entries exactly where it is none of theirs
+pub carries-none : (es : List Entry) (x : ℕ) → carries (laid es) x ≡ false → Each (λ e. e .code ≡ x → ⊥) es
+unfolding carries look
+carries-none es x h =
+    each-map es (λ e. eqb-false (e .code) x) (nothing-found (Coded x) (λ k e. spanOf e) es 0
+    (ap (λ y. firstOf (Coded x) (λ k e. spanOf e) y 0) (sym (entries-laid es)) ∙ none-there (firstOf (Coded x) (λ k e. spanOf e) (entriesOf (laid es)) 0) h))
   where
-    go : (t : Bool) → isDigit b ≡ t → (t || (leb 65 b && leb b 90)) ≡ true → b ≤ 90
-    go true p q = omega (arith, digit-range b p .1)
-    go false p q = leb-true b 90 (and-inv (leb 65 b) _ q .1)
+    none-there : (o : Option Span) → given o false (λ s. true) ≡ false → o ≡ none
+    none-there none e = refl
+    none-there (some s) e = let z : _≡_ {A = ℕ} 0 1 = cc in absurd (omega arith)
 
-code-word : (s : List ℕ) (at x : ℕ) → codeAt s at ≡ some x → isCodeWord x ≡ true
-unfolding codeAt codesAt isCodeWord
-code-word s at x h =
-    let n = need-inv (leads isCode 3 (drop at s)) none (some x) _ none-some h in
-    let is : (i : ℕ) → i < 3 → isCode (getD s (at + i) 0) ≡ true = λ i p. rw getD-drop at (leads-there isCode 0 3 (drop at s) i (n .0) p) in
-    let a : isCode (getD s at 0) ≡ true = rw add-zero at (is 0 (omega arith)) in
-    let b = is 1 (omega arith) in
-    let c = is 2 (omega arith) in
-    let e : packed (getD s at 0) (getD s (at + 1) 0) (getD s (at + 2) 0) ≡ x = cc in
-    let lb = code-low _ b in
-    let lc = code-low _ c in
-    let high : x / 65536 ≡ getD s at 0 = omega arith in
-    let mid : x / 256 % 256 ≡ getD s (at + 1) 0 = omega arith in
-    let low : x % 256 ≡ getD s (at + 2) 0 = omega arith in
-    simp (high, mid, low, a, b, c)
-
-entry-there : (l : List ℕ) (at start : ℕ) (before : Layout) (e : Entry) → entryAt l at start before ≡ says e → (isSpelt e ≡ true) × PlacedAs start before e
-unfolding entryAt isSpelt
-entry-there l at start before e h =
-    let a = given-inv (numberAt l at 2) _ (says e) _ refuses-says h in
-    let b = given-inv (numberAt l (at + 2) 2) _ (says e) _ refuses-says (a .2) in
-    let c = given-inv (codeAt l (at + 4)) _ (says e) _ refuses-says (b .2) in
-    let p = placed-there start before (record { first = a .0; last = b .0; code = c .0 }) (at + 1) e (c .2) in
-    let n = number-there l (at + 2) 2 (at + 2 + 2) (b .0) refl (b .1) in
-    rw (← p .1) (simp (le-leb (b .0) 99 (omega arith), code-word l (at + 4) (c .0) (c .1)), p .0)
-
--- ---- the entries, put one behind the other
-
-abbrev pub joined : Layout → List Entry → Layout
-joined before [] = before
-joined before (e ∷ es) = joined (withEntry before e) es
-
-entries-there : (left : ℕ) (l : List ℕ) (at start : ℕ) (before layout : Layout) → entriesFrom left l at start before ≡ says layout
-    → (es : List Entry) × (length es ≡ left) × (joined before es ≡ layout) × (allPlaced es start before ≡ true)
-unfolding entriesFrom allPlaced
-entries-there zero l at start before layout h = ([], refl, cc, refl)
-entries-there (suc left) l at start before layout h =
-    let t = then-inv (entryAt l at start before) layout _ h in
-    let p = entry-there l at start before (t .0) (t .1) in
-    let r = entries-there left l (at + 7) (t .0 .last + 1) (withEntry before (t .0)) layout (t .2) in
-    (t .0 ∷ r .0, ap suc (r .1), r .2, simp (p .0, placed-here start before (t .0) 0 (p .1), r .3))
-
-pub record Joined (before : Layout) (es : List Entry) : Type 0 where
-  pub count : joined before es .count ≡ before .count + length es
-  pub all : entriesOf (joined before es) ≡ entriesOf before ++ es
-  pub rest : drop (before .count + length es) (joined before es .entries) ≡ drop (before .count + length es) (before .entries)
-  pub full : length (joined before es .entries) ≡ length (before .entries)
-
-pub one-more : (before : Layout) (e : Entry) → before .count < length (before .entries) → entriesOf (withEntry before e) ≡ entriesOf before ++ (e ∷ [])
-one-more before e h = rw add-one (take-suc-set (before .entries) (before .count) e h)
-
-joining : (before : Layout) (es : List Entry) → before .count + length es ≤ length (before .entries) → Joined before es
-joining before [] h = record { count = omega arith; all = sym (append-nil (entriesOf before)); rest = refl; full = refl }
-joining before (e ∷ es) h =
-    let r = joining (withEntry before e) es (rw length-set (omega arith)) in
-    let n : before .count + 1 + length es ≡ before .count + suc (length es) = omega arith in
-    record {
-      count = omega (arith, r .count);
-      all = r .all ∙ rw (one-more before e (omega arith)) (append-snoc (entriesOf before) e es);
-      rest = rw (← n) (r .rest ∙ drop-set-lt (before .count + 1 + length es) (before .entries) (before .count) e (omega arith));
-      full = r .full ∙ length-set (before .entries) (before .count) e;
-    }
+pub none-carries : (es : List Entry) (x : ℕ) → Each (λ e. e .code ≡ x → ⊥) es → carries (laid es) x ≡ false
+unfolding carries look
+none-carries es x h =
+    let n = none-found (Coded x) (λ k e. spanOf e) es 0 (each-map es (λ e. ne-eqb (e .code) x) h) in
+    ap (λ o. given o false (λ s. true)) (ap (λ y. firstOf (Coded x) (λ k e. spanOf e) y 0) (entries-laid es) ∙ n)
 
 -- ---- the layout of a line
 
+-- one that a line can tell
 pub record Sound (start : ℕ) (layout : Layout) : Type 0 where
   pub right : allowed start layout ≡ true
   pub full : length (layout .entries) ≡ 13
 
-unused-leads : {A : Type 0} (test : A → Bool) (a : A) → test a ≡ true → (k n : ℕ) → leads test (k - n) (drop n (replicate k a)) ≡ true
-unfolding leads
-unused-leads test a p zero n = let z : 0 - n ≡ 0 = omega arith in rw z
-unused-leads test a p (suc k) zero =
-    let z : suc k - 0 ≡ suc k = omega arith in
-    let y : k - 0 ≡ k = omega arith in
-    rw (z, p) (rw y at (unused-leads test a p k 0))
-unused-leads test a p (suc k) (suc n) = let z : suc k - suc n ≡ k - n = omega arith in rw z (unused-leads test a p k n)
+-- an allowed layout of 13 slots
+pub record Allowed (start : ℕ) (layout : Layout) : Type 0 where
+  pub few : layout .count ≤ 13
+  pub count : length (entriesOf layout) ≡ layout .count
+  pub tiled : Tiled (entriesOf layout) start emptyLayout
+
+pub allowed-there : (start : ℕ) (layout : Layout) → allowed start layout ≡ true → length (layout .entries) ≡ 13 → Allowed start layout × (layout ≡ laid (entriesOf layout))
+unfolding allowed
+allowed-there start layout h n =
+    let a = and-inv (leb (layout .count) 13 && allPlaced (entriesOf layout) start emptyLayout) _ h in
+    let b = and-inv (leb (layout .count) 13) (allPlaced (entriesOf layout) start emptyLayout) (a .0) in
+    let c = leb-true (layout .count) 13 (b .0) in
+    let k = length-take-le (layout .count) (layout .entries) (omega arith) in
+    let z = none-used (13 - layout .count) (drop (layout .count) (layout .entries)) (omega (arith, length-drop (layout .count) (layout .entries))) (a .1) in
+    let e : layout .entries ≡ entriesOf layout ++ replicate (13 - length (entriesOf layout)) unused =
+    sym (take-append-drop (layout .count) (layout .entries))
+    ∙ ap (λ x. entriesOf layout ++ x) z
+    ∙ ap (λ x. entriesOf layout ++ replicate (13 - x) unused) (sym k) in (
+      record { few = c; count = k; tiled = tiled-there (entriesOf layout) start emptyLayout (b .1) },
+      λ i. record { count = sym k i; entries = e i },
+    )
 
 sound-entries : (start nn : ℕ) (l : List ℕ) (layout : Layout) → nn ≤ 13 → entriesFrom nn l 3 start emptyLayout ≡ says layout → Sound start layout
-unfolding allowed isUnused
 sound-entries start nn l layout h e =
-    let r = entries-there nn l 3 start emptyLayout layout e in
-    let j = joining emptyLayout (r .0) (omega (arith, r .1)) in
-    let count : joined emptyLayout (r .0) .count ≡ nn = j .count ∙ omega (arith, r .1) in
-    let n : 0 + length (r .0) ≡ nn = omega (arith, r .1) in
-    let rest : drop nn (joined emptyLayout (r .0) .entries) ≡ drop nn (replicate 13 unused) = rw n at (j .rest) in
-    let all : take nn (joined emptyLayout (r .0) .entries) ≡ r .0 = rw count at (j .all) in
-    rw (← r .2) record {
-      right = simp (count, le-leb nn 13 h, all, r .3, rest, unused-leads isUnused unused refl 13 nn);
-      full = j .full;
-    }
+    let r = entries-there nn l 3 (3 + 7 * nn) start emptyLayout layout refl e in
+    let es = r .entries in
+    let few : length es ≤ 13 = omega (arith, r .count) in
+    let is : layout ≡ laid es = sym (r .is) ∙ all-laid [] es (omega arith) in
+    rw is record { right = laid-allowed start es few (r .tiled); full = rw length-append (rw length-replicate (omega arith)) }
 
 pub sound-line : (f : Family) (l : List ℕ) (layout : Layout) → layoutSaid f l ≡ says layout → Sound (firstStart f) layout
 unfolding layoutSaid layoutLine layoutFields

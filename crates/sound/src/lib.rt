@@ -1,1 +1,2 @@
-// A layout that an I or a J line tells is allowed: theorems over the definitions of `rules`. No function stands here.
+// The entries of a layout line both ways, the layout that an I or a J line tells, and the columns that it gives a line: theorems over the definitions of `rules`,
+// for the crates of theorems. No function stands here.

@@ -12,7 +12,7 @@ use Rattle.rules.specs.Fields.{timeAt, timeTold}
 use Rattle.rules.specs.Layouts.{unused, entriesOf}
 use Rattle.rules.specs.Lines.{fixFields}
 use Rattle.rules.specs.Reads.{fixTold}
-use Rattle.rules.specs.Refusals.{Said, breaks, time}
+use Rattle.rules.specs.Refusals.{Said, breaks}
 use Rattle.rules.specs.declared.Entry.{Entry}
 use Rattle.rules.specs.declared.Fix.{Fix}
 use Rattle.rules.specs.declared.FixRead.{FixRead}
@@ -25,6 +25,7 @@ use Rattle.plain.proofs.Laws.{plain-is-mild}
 use Rattle.front.specs.Front.{isFront}
 use Rattle.front.proofs.There.{front-there}
 use Rattle.sure.specs.Sure.{ruleOf, keepsAs, patternOf, keepsPattern, timeOf}
+use Rattle.rules.specs.declared.Class.the-variants as class
 
 -- ---- the pattern of a layout
 
@@ -95,11 +96,11 @@ time-not l r w e g = rw (← e, g)
 
 -- ---- a line with a good front is read where its time is
 
-timed : (o : Option ℕ) (f : ℕ → Said Fix) → ((t : ℕ) → timeOf (f t) ≡ some t) → timeOf (given o (breaks time 2) f) ≡ o
+timed : (o : Option ℕ) (f : ℕ → Said Fix) → ((t : ℕ) → timeOf (f t) ≡ some t) → timeOf (given o (breaks class.Time 2) f) ≡ o
 timed none f e = refl
 timed (some t) f e = e t
 
-front-time : (l : List ℕ) → isFront l ≡ true → timeOf (fixFields l) ≡ timeAt l 1
+pub front-time : (l : List ℕ) → isFront l ≡ true → timeOf (fixFields l) ≡ timeAt l 1
 unfolding fixFields on
 front-time l e =
     let p = front-there l e in

@@ -1,3 +1,4 @@
+pub mod Easy
 pub mod Laws
 pub mod Only
 pub mod Said

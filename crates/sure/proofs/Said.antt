@@ -9,11 +9,12 @@ use borrow.Author.Tests.{leb-true, le-leb, eqb-true}
 use lib.Dec.{eqb, leb}
 use lib.ListN.{length, getD, take, drop}
 use lib.Seq.{drop-drop}
+use Rattle.rules.specs.Families.{firstStart}
 use Rattle.rules.specs.Choice.{leads, firstOf, given, need, part, byte}
 use Rattle.rules.specs.Chars.{isDigit, characters}
 use Rattle.rules.specs.Fields.{timeAt}
-use Rattle.rules.specs.Layouts.{firstStart, entriesOf, spanOf, columnText, badColumn, columns, lineLength, withEntry, isSaid, isSpelt, placed, allPlaced, allowed}
-use Rattle.rules.specs.Lines.{isSized, shaped, shapedBy, bLine, kLine, fixFields}
+use Rattle.rules.specs.Layouts.{entriesOf, spanOf, columnText, badColumn, columns, lineLength, withEntry, isSaid, isSpelt, placed, allPlaced, allowed}
+use Rattle.rules.specs.Lines.{isSized, shaped, shapedBy, bLine, kLine, columnedLine, fixFields}
 use Rattle.rules.specs.Listed.{listedNumber, listed, unlisted, isDigits, keepsSign, keepsRule}
 use Rattle.rules.specs.Refusals.{Said, says, refuses, no}
 use Rattle.rules.specs.declared.Entry.{Entry}
@@ -22,7 +23,8 @@ use Rattle.rules.specs.declared.Family.the-variants as family
 use Rattle.rules.specs.declared.Fix.{Fix}
 use Rattle.rules.specs.declared.Layout.{Layout}
 use Rattle.plain.specs.Plain.{isMild, every}
-use Rattle.plain.proofs.Laws.{and-inv, mild-valid}
+use Rattle.rules.proofs.Inverse.{and-inv}
+use Rattle.plain.proofs.Laws.{mild-valid}
 use Rattle.sure.specs.Sure.{ruleOf, keepsAs, patternOf, keepsPattern, timeOf, fieldsTime, sureTime}
 
 -- ---- the shape
@@ -157,10 +159,10 @@ parts f l size pattern t e =
     record { long = eqb-true (length l) size (a .0); mild = b .0; fields = c .0; columns = c .1 }
 
 -- a fix of this time is read
-pub record FixOf (s : Said Fix) (t : ℕ) : Type 0 where
-  pub fix : Fix
-  pub read : s ≡ says fix
-  pub time : fix .time ≡ t
+record FixOf (s : Said Fix) (t : ℕ) : Type 0 where
+  fix : Fix
+  read : s ≡ says fix
+  time : fix .time ≡ t
 
 fix-of : (s : Said Fix) (t : ℕ) → timeOf s ≡ some t → FixOf s t
 fix-of (says f) t e = record { fix = f; read = refl; time = cc }
@@ -170,17 +172,11 @@ fix-said : (layout : Layout) (l : List ℕ) (f : Fix) → shapedBy (firstStart f
 unfolding bLine
 fix-said layout l f s r c = rw (s, r, c)
 
-module _ (layout : Layout) (l : List ℕ) (t : ℕ) where
-  pub sure-fix : allowed (firstStart family.B) layout ≡ true → Parts family.B l (lineLength (firstStart family.B) layout) (patternOf (entriesOf layout)) t → FixOf (bLine layout l) t
-  unfolding fieldsTime
-  sure-fix a p =
-      let f = fix-of (fixFields l) t (p .fields) in
-      record {
-        fix = f .fix;
-        read = fix-said layout l (f .fix) (mild-shaped (firstStart family.B) layout l (p .long) (p .mild)) (f .read) (columns-said family.B l layout a (p .columns));
-        time = f .time;
-      }
-
-  pub sure-extra : allowed (firstStart family.K) layout ≡ true → Parts family.K l (lineLength (firstStart family.K) layout) (patternOf (entriesOf layout)) t → kLine layout l ≡ says t
-  unfolding kLine fieldsTime
-  sure-extra a p = rw (mild-shaped (firstStart family.K) layout l (p .long) (p .mild), p .fields, columns-said family.K l layout a (p .columns))
+-- a line of a family is read with its time
+pub sure-columned : (f : Family) (layout : Layout) (l : List ℕ) (t : ℕ) → allowed (firstStart f) layout ≡ true → Parts f l (lineLength (firstStart f) layout) (patternOf (entriesOf layout)) t
+    → columnedLine f layout l ≡ says t
+unfolding columnedLine kLine fieldsTime
+sure-columned family.B layout l t a p =
+    let f = fix-of (fixFields l) t (p .fields) in
+    rw (fix-said layout l (f .fix) (mild-shaped (firstStart family.B) layout l (p .long) (p .mild)) (f .read) (columns-said family.B l layout a (p .columns)), f .time)
+sure-columned family.K layout l t a p = rw (mild-shaped (firstStart family.K) layout l (p .long) (p .mild), p .fields, columns-said family.K l layout a (p .columns))

@@ -5,11 +5,12 @@ use mathlib.Core.List.{List, [], _∷_}
 use mathlib.Core.Option.{Option, none, some}
 use mathlib.Core.Path.{_≡_}
 use lib.Dec.{eqb}
-use lib.ListN.{length, drop, replicate}
+use lib.ListN.{length, getD, drop, replicate}
 use lib.Seq.{sets}
+use Rattle.rules.specs.Families.{firstStart}
 use Rattle.rules.specs.Choice.{given, need, part, byte, bytes}
 use Rattle.rules.specs.Fields.{timeAt, timeTold}
-use Rattle.rules.specs.Layouts.{firstStart, entriesOf}
+use Rattle.rules.specs.Layouts.{entriesOf}
 use Rattle.rules.specs.Lines.{fixFields}
 use Rattle.rules.specs.Listed.{isDigits, keepsSign, keepsRule}
 use Rattle.rules.specs.Refusals.{Said, says, refuses}
@@ -19,7 +20,8 @@ use Rattle.rules.specs.declared.Family.the-variants as family
 use Rattle.rules.specs.declared.Fix.{Fix}
 use Rattle.rules.specs.declared.Layout.{Layout}
 use Rattle.rules.specs.declared.Time.{Time}
-use Rattle.plain.specs.Plain.{isMild, every}
+use Rattle.plain.specs.Plain.{isPlain, isMild, every}
+use Rattle.front.specs.Front.{isFront}
 
 -- what the column of a code must hold: 0 any text, 1 digits, 2 digits that may follow a minus; told by a letter and by a minus with a digit
 unfoldable pub ruleOf : ℕ → ℕ
@@ -49,6 +51,23 @@ timeOf (refuses n l b) = none
 unfoldable pub fieldsTime : Family → List ℕ → Option ℕ
 fieldsTime family.B l = timeOf (fixFields l)
 fieldsTime family.K l = timeAt l 1
+
+-- the time of a line with mild bytes alone whose fields before the columns keep their rules
+unfoldable pub cleanTime : Family → List ℕ → Option ℕ
+cleanTime f l = need (every isMild l) none λ _. fieldsTime f l
+
+-- the same, where its columns hold what a pattern says
+unfoldable pub patternTime : Family → List ℕ → List ℕ → Option ℕ
+patternTime f l pattern = need (keepsPattern l pattern) none λ _. cleanTime f l
+
+-- the bytes between the time and the columns tell that the fields there keep their rules; a K line has none there
+abbrev pub isOpen : Family → List ℕ → Bool
+isOpen family.B l = isFront l
+isOpen family.K l = true
+
+-- the same, and the first byte is plain
+unfoldable pub isEasy : Family → List ℕ → Bool
+isEasy f l = isPlain (getD l 0 0) && isOpen f l
 
 -- the time of a line that is surely good, by its length and the pattern of its columns
 unfoldable pub sureTime : Family → List ℕ → ℕ → List ℕ → Option ℕ

@@ -1,14 +1,14 @@
 // A line with columns that is surely good, told quickly: its time, or nothing where the line is refused or not sure to be good.
-ghost use mathlib.Core.Bool.{_||_};
+ghost use mathlib.Core.Bool.{true};
 ghost use mathlib.Core.Path.{_≡_};
 ghost use lib.ListN.{drop};
+ghost use Rattle.rules.specs.Families.{firstStart};
 ghost use Rattle.rules.specs.Choice.{byte};
 ghost use Rattle.rules.specs.Fields.{timeTold};
-ghost use Rattle.rules.specs.Layouts.{firstStart};
 ghost use Rattle.rules.specs.Lines.{fixFields};
 ghost use Rattle.rules.specs.Listed.{isDigits};
 ghost use Rattle.plain.specs.Plain.{isMild, every};
-ghost use Rattle.sure.specs.Sure.{ruleOf, keepsAs, keepsPattern, timeOf, fieldsTime, PatternGiven, SureTold};
+ghost use Rattle.sure.specs.Sure.{ruleOf, keepsAs, keepsPattern, timeOf, fieldsTime, isOpen, isEasy, cleanTime, patternTime, PatternGiven, SureTold};
 use rules::Family;
 use rules::FixRead;
 use rules::Layout;
@@ -109,6 +109,30 @@ fn fields_time(family: Family, line: &[u8]) -> Time
     }
 }
 
+// Whether the bytes between a line's time and its columns tell that the fields there keep their rules. A K line has none there.
+fn is_open(family: Family, line: &[u8]) -> bool
+    ensures { λ r. ⌜ r ≡ isOpen family (now (line .entry)) ⌝ }
+{
+    match family {
+        Family::B => front::is_front(line),
+        Family::K => true,
+    }
+}
+
+// The same, and the line's first byte is plain.
+fn is_easy(family: Family, line: &[u8]) -> bool
+    ensures { λ r. ⌜ r ≡ isEasy family (now (line .entry)) ⌝ }
+{
+    let first = chars::byte(line, 0);
+    if first < 45 {
+        return false;
+    }
+    if 91 < first {
+        return false;
+    }
+    is_open(family, line)
+}
+
 // The offset of a family's first column.
 fn columns_from(family: Family) -> usize
     ensures { λ r. ⌜ r ≡ byte (firstStart family) ⌝ }
@@ -119,14 +143,36 @@ fn columns_from(family: Family) -> usize
     }
 }
 
-// Whether the columns of a line are digits alone, or hold what the pattern says.
-fn keeps_columns(family: Family, line: &[u8], pattern: &[u8]) -> bool
-    ensures { λ r. ⌜ r ≡ (isDigits (drop (byte (firstStart family)) (now (line .entry))) || keepsPattern (now (line .entry)) (now (pattern .entry))) ⌝ }
+// The time of a line with mild bytes alone whose fields keep their rules.
+fn clean_time(family: Family, line: &[u8]) -> Time
+    ensures { λ r. ⌜ timeTold r ≡ cleanTime family (now (line .entry)) ⌝ }
 {
-    if plain::is_digits_from(line, columns_from(family)) {
-        return true;
+    if !is_clean(line) {
+        return Time::NoTime;
     }
-    keeps_pattern(line, pattern)
+    fields_time(family, line)
+}
+
+// The same for a line whose columns are digits. Where its bytes tell that its other fields keep their rules, its time is all that is left to read: what is read as a time,
+// what is within bounds, and digits are all mild.
+fn digits_time(family: Family, line: &[u8]) -> Time
+    requires { ⌜ isDigits (drop (byte (firstStart family)) (now line)) ≡ true ⌝ }
+    ensures { λ r. ⌜ timeTold r ≡ cleanTime family (now (line .entry)) ⌝ }
+{
+    if is_easy(family, line) {
+        return field::time_at(line, 1);
+    }
+    clean_time(family, line)
+}
+
+// The same for a line whose columns are not all digits: they hold what the pattern says.
+fn pattern_time(family: Family, line: &[u8], pattern: &[u8]) -> Time
+    ensures { λ r. ⌜ timeTold r ≡ patternTime family (now (line .entry)) (now (pattern .entry)) ⌝ }
+{
+    if !keeps_pattern(line, pattern) {
+        return Time::NoTime;
+    }
+    clean_time(family, line)
 }
 
 // The time of a line of this many bytes, all mild, whose fields keep their rules and whose columns are digits alone or hold what the pattern says. NoTime for any other line.
@@ -136,14 +182,8 @@ pub fn sure_line(family: Family, line: &[u8], size: usize, pattern: &[u8]) -> Ti
     if line.len() != size {
         return Time::NoTime;
     }
-    if !is_clean(line) {
-        return Time::NoTime;
+    if plain::is_digits_from(line, columns_from(family)) {
+        return digits_time(family, line);
     }
-    let Time::Secs(t) = fields_time(family, line) else {
-        return Time::NoTime;
-    };
-    if !keeps_columns(family, line, pattern) {
-        return Time::NoTime;
-    }
-    Time::Secs(t)
+    pattern_time(family, line, pattern)
 }

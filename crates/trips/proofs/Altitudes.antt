@@ -17,8 +17,9 @@ use Rattle.rules.specs.Chars.{isValid}
 use Rattle.rules.specs.Numbers.{numberAt, digitsOf}
 use Rattle.rules.specs.Fields.{altitudeAt, altitudeText, metresText}
 use Rattle.rules.specs.declared.Height.{Height}
-use Rattle.trips.specs.Limits.{isMetres, isAltitude}
-use Rattle.trips.proofs.Laws.{none-some, bool-eq, given-inv, need-inv, past, byte-there, byte-here}
+use Rattle.rules.specs.Limits.{isMetres, isAltitude}
+use Rattle.rules.proofs.Inverse.{none-some, bool-eq, given-inv, need-inv}
+use Rattle.trips.proofs.Laws.{past, byte-there, byte-here}
 use Rattle.trips.proofs.Texts.{areValid}
 use Rattle.trips.proofs.Digits.{digits-length, digits-clean, digits-front, number-there, number-here}
 use Rattle.trips.proofs.Trip.{Trip}

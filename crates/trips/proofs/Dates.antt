@@ -12,8 +12,8 @@ use Rattle.rules.specs.Choice.{on, leads}
 use Rattle.rules.specs.Numbers.{numberAt}
 use Rattle.rules.specs.Fields.{isLeap, months, daysOf, yearOf, dateAt, dateText}
 use Rattle.rules.specs.declared.Date.{Date}
-use Rattle.trips.specs.Limits.{isDate}
-use Rattle.trips.proofs.Laws.{none-some, false-true, given-inv, need-inv, and-inv}
+use Rattle.rules.specs.Limits.{isDate}
+use Rattle.rules.proofs.Inverse.{none-some, false-true, given-inv, need-inv, and-inv}
 use Rattle.trips.proofs.Digits.{number-there, pairs-length, pairs-clean, pairs-there, pairs-here}
 use Rattle.trips.proofs.Trip.{Trip}
 

@@ -13,7 +13,8 @@ use lib.Seq.{drop-drop}
 use Rattle.rules.specs.Choice.{leads}
 use Rattle.rules.specs.Chars.{isDigit}
 use Rattle.rules.specs.Numbers.{spell, numberAt, digitsOf}
-use Rattle.trips.proofs.Laws.{none-some, need-inv, past}
+use Rattle.rules.proofs.Inverse.{none-some, need-inv}
+use Rattle.trips.proofs.Laws.{past}
 use Rattle.trips.proofs.Texts.{areValid, digit-range, digit-valid, both-valid}
 use Rattle.trips.proofs.Trip.{Trip}
 

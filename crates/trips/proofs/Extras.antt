@@ -19,8 +19,9 @@ use Rattle.rules.specs.Lines.{shapedBy, kLine}
 use Rattle.rules.specs.Reads.{extraSaid}
 use Rattle.rules.specs.Writes.{extraText, isExtra}
 use Rattle.rules.specs.declared.Layout.{Layout}
-use Rattle.trips.specs.Limits.{isTime, goodTail, goodExtra}
-use Rattle.trips.proofs.Laws.{false-true, refuses-says, given-inv, need-inv, then-inv, byte-there}
+use Rattle.rules.specs.Limits.{isTime, goodTail, goodExtra}
+use Rattle.rules.proofs.Inverse.{false-true, refuses-says, given-inv, need-inv, then-inv}
+use Rattle.trips.proofs.Laws.{byte-there}
 use Rattle.trips.proofs.Texts.{areValid}
 use Rattle.trips.proofs.Times.{time-trip}
 use Rattle.trips.proofs.Same.{number-tells}

@@ -23,8 +23,9 @@ use Rattle.rules.specs.Reads.{fixSaid}
 use Rattle.rules.specs.Writes.{fixText, sameFix, isFix}
 use Rattle.rules.specs.declared.Fix.{Fix}
 use Rattle.rules.specs.declared.Layout.{Layout}
-use Rattle.trips.specs.Limits.{isTime, isAltitude, goodTail, goodFixFields, goodFix}
-use Rattle.trips.proofs.Laws.{false-true, refuses-says, given-inv, need-inv, then-inv, past, byte-there, byte-here}
+use Rattle.rules.specs.Limits.{isTime, isAltitude, goodTail, goodFixFields, goodFix}
+use Rattle.rules.proofs.Inverse.{false-true, refuses-says, given-inv, need-inv, then-inv}
+use Rattle.trips.proofs.Laws.{past, byte-there, byte-here}
 use Rattle.trips.proofs.Texts.{areValid, both-valid, valid-low}
 use Rattle.trips.proofs.Times.{time-trip}
 use Rattle.trips.proofs.Positions.{either-valid, latitude-trip, longitude-trip}

@@ -20,8 +20,9 @@ use Rattle.rules.specs.Lines.{shaped, plannedAt, headFields, headLine}
 use Rattle.rules.specs.Reads.{headSaid, headRest}
 use Rattle.rules.specs.Writes.{plannedText, headText, sameHead, isHead}
 use Rattle.rules.specs.declared.Head.{Head}
-use Rattle.trips.specs.Limits.{isTime, isDate, isPlanned, isClean, goodHeadFields, goodHead}
-use Rattle.trips.proofs.Laws.{false-true, refuses-says, given-inv, need-inv, then-inv, past, byte-there}
+use Rattle.rules.specs.Limits.{isTime, isDate, isPlanned, isClean, goodHeadFields, goodHead}
+use Rattle.rules.proofs.Inverse.{false-true, refuses-says, given-inv, need-inv, then-inv}
+use Rattle.trips.proofs.Laws.{past, byte-there}
 use Rattle.trips.proofs.Texts.{areValid, both-valid, front-there, front-here}
 use Rattle.trips.proofs.Trip.{Trip}
 use Rattle.trips.proofs.Digits.{number-trip}

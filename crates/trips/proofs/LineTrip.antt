@@ -7,7 +7,7 @@ use mathlib.Core.Logic.{_↔_}
 use lib.ListN.{drop}
 use Rattle.rules.specs.Refusals.{Said, says}
 use Rattle.rules.specs.Writes.{reads}
-use Rattle.trips.proofs.Laws.{bool-eq}
+use Rattle.rules.proofs.Inverse.{bool-eq}
 use Rattle.trips.proofs.Same.{Tells, reads-says}
 
 -- A line reads as a value exactly when it is the value's own line, the value being good with what stands behind its fields, past `head` bytes.

@@ -16,8 +16,8 @@ use Rattle.rules.specs.Writes.{plannedText}
 use Rattle.rules.specs.declared.Date.{Date}
 use Rattle.rules.specs.declared.Planned.{Planned}
 use Rattle.rules.specs.declared.Planned.the-variants as planned
-use Rattle.trips.specs.Limits.{isPlanned}
-use Rattle.trips.proofs.Laws.{none-some, given-inv}
+use Rattle.rules.specs.Limits.{isPlanned}
+use Rattle.rules.proofs.Inverse.{none-some, given-inv}
 use Rattle.trips.proofs.Texts.{areValid}
 use Rattle.trips.proofs.Digits.{digits-length, digits-clean, number-there, number-here, pairs-join}
 use Rattle.trips.proofs.Dates.{date-trip, date-within}

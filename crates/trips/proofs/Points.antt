@@ -20,8 +20,9 @@ use Rattle.rules.specs.Lines.{shaped, pointLine}
 use Rattle.rules.specs.Reads.{pointSaid, pointRest}
 use Rattle.rules.specs.Writes.{pointText, samePoint, isPoint}
 use Rattle.rules.specs.declared.Point.{Point}
-use Rattle.trips.specs.Limits.{isClean, goodPoint}
-use Rattle.trips.proofs.Laws.{false-true, refuses-says, given-inv, need-inv, then-inv, past, byte-there}
+use Rattle.rules.specs.Limits.{isClean, goodPoint}
+use Rattle.rules.proofs.Inverse.{false-true, refuses-says, given-inv, need-inv, then-inv}
+use Rattle.trips.proofs.Laws.{past, byte-there}
 use Rattle.trips.proofs.Texts.{areValid, both-valid, front-there, front-here}
 use Rattle.trips.proofs.Positions.{latitude-trip, longitude-trip}
 use Rattle.trips.proofs.Same.{point-tells}

@@ -15,7 +15,8 @@ use Rattle.rules.specs.Numbers.{numberAt, digitsOf}
 use Rattle.rules.specs.Fields.{isEither, positionAt, positionText, latitudeAt, longitudeAt, latitudeText, longitudeText}
 use Rattle.rules.specs.Degrees.{isPosition, isLatitude, isLongitude}
 use Rattle.rules.specs.declared.Position.{Position}
-use Rattle.trips.proofs.Laws.{none-some, given-inv, need-inv, and-inv, past, byte-there, byte-here}
+use Rattle.rules.proofs.Inverse.{none-some, given-inv, need-inv, and-inv}
+use Rattle.trips.proofs.Laws.{past, byte-there, byte-here}
 use Rattle.trips.proofs.Texts.{areValid, both-valid, valid-low}
 use Rattle.trips.proofs.Digits.{digits-length, digits-clean, number-there, number-here}
 use Rattle.trips.proofs.Trip.{Trip}

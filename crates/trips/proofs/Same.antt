@@ -9,7 +9,7 @@ use Rattle.rules.specs.Refusals.{Said, says, refuses}
 use Rattle.rules.specs.Writes.{sameInteger, samePosition, sameFix, sameDate, samePlanned, sameHead, samePoint, reads}
 use Rattle.rules.specs.declared.Planned.{Planned}
 use Rattle.rules.specs.declared.Planned.the-variants as planned
-use Rattle.trips.proofs.Laws.{false-true, and-inv}
+use Rattle.rules.proofs.Inverse.{false-true, and-inv}
 
 -- `same` tells equality
 pub record Tells {A : Type 0} (same : A → A → Bool) : Type 0 where

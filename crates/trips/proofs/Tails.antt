@@ -15,8 +15,8 @@ use Rattle.rules.specs.Layouts.{isSaid, withEntry, emptyLayout, entriesOf, isSp
 use Rattle.rules.specs.Lines.{shapedBy}
 use Rattle.rules.specs.declared.Entry.{Entry}
 use Rattle.rules.specs.declared.Layout.{Layout}
-use Rattle.trips.specs.Limits.{isClean, badTail, goodTail}
-use Rattle.trips.proofs.Laws.{false-true, need-inv, and-inv}
+use Rattle.rules.specs.Limits.{isClean, badTail, goodTail}
+use Rattle.rules.proofs.Inverse.{false-true, need-inv, and-inv}
 use Rattle.trips.proofs.Texts.{areValid, nothing-there, nothing-here, front-there, front-here}
 
 -- an entry that is placed starts where it should, and ends no earlier

@@ -12,8 +12,8 @@ use Rattle.rules.specs.Choice.{given, firstOf}
 use Rattle.rules.specs.Refusals.{says, refuses}
 use Rattle.rules.specs.Chars.{isValid, isDigit, firstInvalid, characters}
 use Rattle.rules.specs.Lines.{isSized, shaped}
-use Rattle.trips.specs.Limits.{isClean}
-use Rattle.trips.proofs.Laws.{false-true, refuses-says, need-inv, and-inv}
+use Rattle.rules.specs.Limits.{isClean}
+use Rattle.rules.proofs.Inverse.{false-true, refuses-says, need-inv, and-inv}
 
 -- each byte is valid outside H lines
 unfoldable pub areValid : List ℕ → Bool

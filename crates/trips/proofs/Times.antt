@@ -9,8 +9,8 @@ use lib.Dec.{leb}
 use lib.ListN.{drop}
 use Rattle.rules.specs.Numbers.{numberAt}
 use Rattle.rules.specs.Fields.{timeAt, timeText}
-use Rattle.trips.specs.Limits.{isTime}
-use Rattle.trips.proofs.Laws.{none-some, given-inv, need-inv}
+use Rattle.rules.specs.Limits.{isTime}
+use Rattle.rules.proofs.Inverse.{none-some, given-inv, need-inv}
 use Rattle.trips.proofs.Digits.{pairs-length, pairs-clean, pairs-there, pairs-here}
 use Rattle.trips.proofs.Trip.{Trip}
 

@@ -80,7 +80,7 @@ fn print_layout(family: Family, line: &[u8]) {
 
 // What the readers of a line's kind say of it; an H line is read as a date line and as another, a C line as a head and as a point.
 fn print_line(line: &[u8], fixes: Layout, extras: Layout) {
-    match judge::kind_of(chars::byte(line, 0)) {
+    match line::kind_of(chars::byte(line, 0)) {
         Kind::A => print_outcome(line::recorder(line)),
         Kind::B => print_fix(line, fixes),
         Kind::C => {

@@ -2,48 +2,51 @@
 -- line (OneLine), the lines one after the other (Simulated), what is kept whatever a file says (Kept), the file (WholeFile); files with added columns (Instances), and
 -- files that are none (NotWider). Assumes nothing.
 use Prim.Native.Nat.{ℕ, _+_, _≤_}
+use mathlib.Core.Bool.{true}
 use mathlib.Core.List.{List}
-use mathlib.Core.Path.{_≡_}
-use native.Mathlib.Omega.{arith}
+use mathlib.Core.Option.{Option, some}
+use mathlib.Core.Path.{_≡_, refl}
 use lib.Dec.{lit≤}
 use lib.ListN.{length}
 use Rattle.rules.specs.Refusals.{says}
-use Rattle.rules.specs.Files.{verdict}
+use Rattle.rules.specs.Files.{hasRoom, verdict}
 use Rattle.rules.specs.declared.Flight.{Flight}
+use Rattle.rules.specs.declared.Seal.{Seal}
+use Rattle.rules.specs.declared.Seal.the-variants as seal
 use Rattle.rules.proofs.Computed.{everything, fileOf}
-use Rattle.rules.proofs.Damaged.{fiveLines, verdict-of-five}
-use Rattle.laws.proofs.Counted.{lines-counted}
+use Rattle.rules.proofs.Damaged.{fiveLines, fiveLayout, verdict-of-five}
 use Rattle.wider.specs.Wider.{WiderFile}
 use Rattle.wider.specs.Before.{putIn, ReadsAsBefore}
-use Rattle.wider.proofs.Kept.{lines-more}
 use Rattle.wider.proofs.WholeFile.{reads-as-before}
-use Rattle.wider.proofs.Instances.{told, enlBetween, between, othersMoved, before-and-moved, noColumns, withI, put-i, withJ, put-j, bothLines, bothWidened, both, put-in}
+use Rattle.wider.proofs.Instances.{enlBetween, between, othersMoved, before-and-moved, noColumns, withI, put-i, withJ, put-j, withBoth, put-both, bothLines, bothWidened, both, put-in}
 use Rattle.wider.proofs.NotWider.{five, textChanged, text-changed, valueChanged, value-changed, leftOut, left-out, usedTwice, used-twice, ruleBroken, rule-broken, characterInvalid, character-invalid, wrongPlace, wrong-place}
 
-module _ (file file′ : List ℕ) (room room′ : ℕ) (f : Flight)
-    -- take any accepted file
-    (accepted : verdict file room ≡ says f)
+module _ (seal : Seal) (file file′ : List ℕ) (room room′ : Option ℕ) (f : Flight)
+    -- take any accepted file, whatever it must have at its end
+    (accepted : verdict seal file room ≡ says f)
     -- and add columns to its B lines or K lines (or both): different codes, none yet in that layout, anywhere among the old columns, which may also move, with the I or J
     -- line, put in at its place in the order if there was none, telling the new places; the codes and the added text meet their rules
     (wider : WiderFile file file′)
     -- and every limit ("A file has 1 to 16,777,216 bytes")
     (limit : length file′ ≤ 16777216)
-    -- and the table's room, for the old lines and the I and J lines that are put in (`putIn wider`, 0 to 2), still hold
-    (fits : f .lines + putIn wider ≤ room′) where
+    -- and the table's room, where a table is lent, for the old lines and the I and J lines that are put in (`putIn wider`, 0 to 2), still hold
+    (fits : hasRoom room′ (f .lines + putIn wider) ≡ true) where
   -- then the new file is accepted, and its first fix, its second and so on read as they did before in every old value and every old column, and so do its K lines
-  pub widened : (f′ : Flight) × (verdict file′ room′ ≡ says f′) × ReadsAsBefore file file′ f f′ (putIn wider)
-  widened = reads-as-before file file′ room room′ f accepted wider limit (omega (arith, lines-more wider, lines-counted file room f accepted))
+  pub widened : (f′ : Flight) × (verdict seal file′ room′ ≡ says f′) × ReadsAsBefore file file′ f f′ (putIn wider)
+  widened = reads-as-before seal file file′ room room′ f accepted wider limit fits
 
 -- ---- there are such files, and not every file is one
 
--- ENL put between FXA and SIU of document 01's file of five lines; ZZZ put first and the old columns in the other order; an I line put in; a J line put in; both changed
-pub instances : WiderFile fiveLines enlBetween × WiderFile fiveLines othersMoved × WiderFile noColumns withI × WiderFile noColumns withJ × WiderFile bothLines bothWidened
-instances = (between, before-and-moved, put-i, put-j, both)
+-- ENL put between FXA and SIU of document 01's file of five lines; ZZZ put first and the old columns in the other order; an I line put in; a J line put in; both put in; both
+-- changed
+pub instances : WiderFile fiveLines enlBetween × WiderFile fiveLines othersMoved × WiderFile noColumns withI × WiderFile noColumns withJ × WiderFile noColumns withBoth
+    × WiderFile bothLines bothWidened
+instances = (between, before-and-moved, put-i, put-j, put-both, both)
 
 -- so of the first of these all that is claimed above holds
-pub enl-put-in : (f′ : Flight) × (verdict enlBetween 16 ≡ says f′) × ReadsAsBefore fiveLines enlBetween (five "I023638FXA3940SIU") f′ (putIn between)
-unfolding everything fileOf told
-enl-put-in = widened fiveLines enlBetween 16 16 (five "I023638FXA3940SIU") verdict-of-five between (lit≤ tt) (omega (arith, put-in .0))
+pub enl-put-in : (f′ : Flight) × (verdict seal.Strict enlBetween (some 16) ≡ says f′) × ReadsAsBefore fiveLines enlBetween (five fiveLayout) f′ (putIn between)
+unfolding everything fileOf
+enl-put-in = widened seal.Strict fiveLines enlBetween (some 16) (some 16) (five fiveLayout) verdict-of-five between (lit≤ tt) (rw (put-in .0) refl)
 
 -- the text of an old column changed; the fix changed; an old column left out; a code used twice; a listed code's text against its rule; an invalid character; the J line
 -- put in before the I line

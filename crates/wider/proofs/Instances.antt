@@ -1,23 +1,40 @@
 -- Worked files with added columns, each computed: they show that such files are there, and of every sort. Assumes nothing.
 use Prim.Native.Nat.{ℕ}
 use Prim.Native.String.{String}
+use mathlib.Core.Bool.{true, false}
 use mathlib.Core.List.{List, [], _∷_}
 use mathlib.Core.Path.{_≡_, refl}
 use Rattle.rules.specs.Choice.{bytes}
-use Rattle.rules.specs.Refusals.{valueOr}
+use Rattle.rules.specs.Refusals.{says, valueOr}
+use Rattle.rules.specs.Chars.{characters}
+use Rattle.rules.specs.Listed.{keepsRule}
 use Rattle.rules.specs.Layouts.{emptyLayout}
+use Rattle.rules.specs.Split.{Lines}
 use Rattle.rules.specs.Reads.{layoutSaid}
 use Rattle.rules.specs.declared.Layout.{Layout}
+use Rattle.rules.specs.declared.Layouts.{Layouts}
 use Rattle.rules.specs.declared.Family.{Family}
 use Rattle.rules.specs.declared.Family.the-variants as family
 use Rattle.rules.proofs.Computed.{everything, fileOf}
 use Rattle.rules.proofs.Damaged.{fiveLines}
-use Rattle.wider.specs.Wider.{widthIn, textIn, done, same, fix, extra, without, changed, put, head, from, WiderFile}
+use Rattle.wider.specs.Wider.{widthIn, textIn, KeepsRules, AfterLayouts, done, same, columned, LayoutLines, all, without, changed, put, noLayouts, front, from, WiderFile}
 use Rattle.wider.specs.Before.{putIn}
 
--- the layout that a line tells
+-- the layout that a line tells, the empty one where it tells none; and the layouts that an I line and a J line tell
 unfoldable pub told : Family → String → Layout
 told f l = valueOr emptyLayout (layoutSaid f (bytes l))
+
+abbrev laid : String → String → Layouts
+laid i j = record { b = told family.B i; k = told family.K j }
+
+-- the lines after the layout lines, where no further family has one
+abbrev rest : {fs : List Family} {old new : Layouts} {ls ls′ : Lines} → AfterLayouts old new ls ls′ → LayoutLines fs old new ls ls′
+rest {fs = []} b = all b
+rest {fs = f ∷ fs} b = without (rest b)
+
+-- the text of a column keeps the rules, whether the column is an added one or not
+fit : {x : ℕ} {text : List ℕ} {A : Type 0} → characters false text ≡ says tt → keepsRule x text ≡ true → A → KeepsRules x text
+fit v r h = record { valid = v; rule = r }
 
 -- ENL put between FXA and SIU of document 01's file of five lines
 abbrev pub enlBetween : List ℕ
@@ -27,12 +44,10 @@ enlBetween = fileOf ("AXYZ001" ∷ "HFDTE150724" ∷ "I033638FXA3941ENL4243SIU" 
 pub between : WiderFile fiveLines enlBetween
 unfolding everything fileOf widthIn textIn told
 between =
-    head refl (head refl (from (changed {old = told family.B "I023638FXA3940SIU"} {new = told family.B "I033638FXA3941ENL4243SIU"} refl refl (refl, (refl, tt)) (without (fix refl (record {
-      fields = refl;
-      long = refl;
-      kept = (refl, (refl, tt));
-      added = (λ h. record { valid = refl; rule = refl }, (λ h. record { valid = refl; rule = refl }, (λ h. record { valid = refl; rule = refl }, tt)));
-    }) (same refl done))))))
+    front refl (front refl (from (changed {i = told family.B "I023638FXA3940SIU"} {i′ = told family.B "I033638FXA3941ENL4243SIU"} refl refl (refl, (refl, tt))
+    (rest {old = laid "I023638FXA3940SIU" ""} {new = laid "I033638FXA3941ENL4243SIU" ""}
+    (columned family.B refl (record { fields = refl; long = refl; kept = (refl, (refl, tt)); added = (fit refl refl, (fit refl refl, (fit refl refl, tt))) })
+    (same refl done))))))
 
 -- an unlisted code put before FXA, and the old columns in the other order
 abbrev pub othersMoved : List ℕ
@@ -42,12 +57,10 @@ othersMoved = fileOf ("AXYZ001" ∷ "HFDTE150724" ∷ "I033637ZZZ3839SIU4042FXA"
 pub before-and-moved : WiderFile fiveLines othersMoved
 unfolding everything fileOf widthIn textIn told
 before-and-moved =
-    head refl (head refl (from (changed {old = told family.B "I023638FXA3940SIU"} {new = told family.B "I033637ZZZ3839SIU4042FXA"} refl refl (refl, (refl, tt)) (without (fix refl (record {
-      fields = refl;
-      long = refl;
-      kept = (refl, (refl, tt));
-      added = (λ h. record { valid = refl; rule = refl }, (λ h. record { valid = refl; rule = refl }, (λ h. record { valid = refl; rule = refl }, tt)));
-    }) (same refl done))))))
+    front refl (front refl (from (changed {i = told family.B "I023638FXA3940SIU"} {i′ = told family.B "I033637ZZZ3839SIU4042FXA"} refl refl (refl, (refl, tt))
+    (rest {old = laid "I023638FXA3940SIU" ""} {new = laid "I033637ZZZ3839SIU4042FXA" ""}
+    (columned family.B refl (record { fields = refl; long = refl; kept = (refl, (refl, tt)); added = (fit refl refl, (fit refl refl, (fit refl refl, tt))) })
+    (same refl done))))))
 
 abbrev pub noColumns : List ℕ
 unfolding fileOf
@@ -61,17 +74,11 @@ withI = fileOf ("AXYZ001" ∷ "HFDTE150724" ∷ "HFPLTPILOT" ∷ "I013638ENL" �
 pub put-i : WiderFile noColumns withI
 unfolding everything fileOf widthIn textIn told
 put-i =
-    head refl (head refl (head refl (from (put {new = told family.B "I013638ENL"} refl (without (fix refl (record {
-      fields = refl;
-      long = refl;
-      kept = tt;
-      added = (λ h. record { valid = refl; rule = refl }, tt);
-    }) (extra refl (record { fields = refl; long = refl; kept = tt; added = tt }) (same refl (fix refl (record {
-      fields = refl;
-      long = refl;
-      kept = tt;
-      added = (λ h. record { valid = refl; rule = refl }, tt);
-    }) (same refl done))))))))))
+    front refl (front refl (front refl (from (put {i′ = told family.B "I013638ENL"} refl
+    (rest {old = noLayouts} {new = laid "I013638ENL" ""}
+    (columned family.B refl (record { fields = refl; long = refl; kept = tt; added = (fit refl refl, tt) })
+    (columned family.K refl (record { fields = refl; long = refl; kept = tt; added = tt }) (same refl
+    (columned family.B refl (record { fields = refl; long = refl; kept = tt; added = (fit refl refl, tt) }) (same refl done))))))))))
 
 -- a K column added where there was no J line: it is put in after the last H line
 abbrev pub withJ : List ℕ
@@ -81,17 +88,25 @@ withJ = fileOf ("AXYZ001" ∷ "HFDTE150724" ∷ "HFPLTPILOT" ∷ "J010810HDT" �
 pub put-j : WiderFile noColumns withJ
 unfolding everything fileOf widthIn textIn told
 put-j =
-    head refl (head refl (head refl (from (without (put {new = told family.K "J010810HDT"} refl (fix refl (record {
-      fields = refl;
-      long = refl;
-      kept = tt;
-      added = tt;
-    }) (extra refl (record {
-      fields = refl;
-      long = refl;
-      kept = tt;
-      added = (λ h. record { valid = refl; rule = refl }, tt);
-    }) (same refl (fix refl (record { fields = refl; long = refl; kept = tt; added = tt }) (same refl done))))))))))
+    front refl (front refl (front refl (from (without (put {i′ = told family.K "J010810HDT"} refl
+    (rest {old = noLayouts} {new = laid "" "J010810HDT"}
+    (columned family.B refl (record { fields = refl; long = refl; kept = tt; added = tt })
+    (columned family.K refl (record { fields = refl; long = refl; kept = tt; added = (fit refl refl, tt) }) (same refl
+    (columned family.B refl (record { fields = refl; long = refl; kept = tt; added = tt }) (same refl done)))))))))))
+
+-- both put in
+abbrev pub withBoth : List ℕ
+unfolding fileOf
+withBoth = fileOf ("AXYZ001" ∷ "HFDTE150724" ∷ "HFPLTPILOT" ∷ "I013638ENL" ∷ "J010810HDT" ∷ "B1200005130000N00015000WA0010000120345" ∷ "K120004270" ∷ "E120005PEV" ∷ "B1200055130000N00015000WA0010000120999" ∷ "GABC" ∷ [])
+
+pub put-both : WiderFile noColumns withBoth
+unfolding everything fileOf widthIn textIn told
+put-both =
+    front refl (front refl (front refl (from (put {i′ = told family.B "I013638ENL"} refl (put {i′ = told family.K "J010810HDT"} refl
+    (rest {old = noLayouts} {new = laid "I013638ENL" "J010810HDT"}
+    (columned family.B refl (record { fields = refl; long = refl; kept = tt; added = (fit refl refl, tt) })
+    (columned family.K refl (record { fields = refl; long = refl; kept = tt; added = (fit refl refl, tt) }) (same refl
+    (columned family.B refl (record { fields = refl; long = refl; kept = tt; added = (fit refl refl, tt) }) (same refl done)))))))))))
 
 abbrev pub bothLines : List ℕ
 unfolding fileOf
@@ -105,19 +120,14 @@ bothWidened = fileOf ("AXYZ001" ∷ "HFDTE150724" ∷ "I023639DAE4040ZZZ" ∷ "J
 pub both : WiderFile bothLines bothWidened
 unfolding everything fileOf widthIn textIn told
 both =
-    head refl (head refl (from (changed {new = told family.B "I023639DAE4040ZZZ"} refl refl tt (changed {old = told family.K "J010808TDS"} {new = told family.K "J020810HDT1111TDS"} refl refl (refl, tt) (fix refl (record {
-      fields = refl;
-      long = refl;
-      kept = tt;
-      added = (λ h. record { valid = refl; rule = refl }, (λ h. record { valid = refl; rule = refl }, tt));
-    }) (extra refl (record {
-      fields = refl;
-      long = refl;
-      kept = (refl, tt);
-      added = (λ h. record { valid = refl; rule = refl }, (λ h. record { valid = refl; rule = refl }, tt));
-    }) (same refl done)))))))
+    front refl (front refl (from (changed {i = emptyLayout} {i′ = told family.B "I023639DAE4040ZZZ"} refl refl tt
+    (changed {i = told family.K "J010808TDS"} {i′ = told family.K "J020810HDT1111TDS"} refl refl (refl, tt)
+    (rest {old = laid "I00" "J010808TDS"} {new = laid "I023639DAE4040ZZZ" "J020810HDT1111TDS"}
+    (columned family.B refl (record { fields = refl; long = refl; kept = tt; added = (fit refl refl, (fit refl refl, tt)) })
+    (columned family.K refl (record { fields = refl; long = refl; kept = (refl, tt); added = (fit refl refl, (fit refl refl, tt)) })
+    (same refl done))))))))
 
 -- how many lines were put in
-pub put-in : (putIn between ≡ 0) × (putIn put-i ≡ 1) × (putIn put-j ≡ 1) × (putIn both ≡ 0)
-unfolding between put-i put-j both
-put-in = (refl, refl, refl, refl)
+pub put-in : (putIn between ≡ 0) × (putIn put-i ≡ 1) × (putIn put-j ≡ 1) × (putIn put-both ≡ 2) × (putIn both ≡ 0)
+unfolding between put-i put-j put-both both
+put-in = (refl, refl, refl, refl, refl)

@@ -1,5 +1,5 @@
 pub mod Lists
-pub mod Placed
+pub mod Families
 pub mod OneLine
 pub mod Judged
 pub mod Changing

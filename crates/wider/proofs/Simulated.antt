@@ -1,336 +1,227 @@
--- The lines of a file with added columns pass one after the other, as the old lines did, and its B lines and K lines read as before. Assumes nothing.
-use Prim.Native.Nat.{ℕ, _+_, _≤_}
-use mathlib.Core.Bool.{Bool, true, false, cond}
-use mathlib.Core.List.{List}
+-- The lines of a file with added columns pass one after the other, as the old lines did, and the lines of each family read as before. Assumes nothing.
+use Prim.Native.Nat.{ℕ, _+_, _≤_, _<_}
+use mathlib.Core.Bool.{true, false}
+use mathlib.Core.List.{List, [], _∷_}
+use mathlib.Core.Option.{none, some}
 use mathlib.Core.Path.{_≡_, refl, sym, ap, subst, _∙_}
 use native.Mathlib.Omega.{arith}
 use borrow.Author.Tests.{leb-true}
 use lib.Dec.{leb, eqb}
-use lib.ListN.{length, getD}
-use Rattle.rules.specs.Refusals.{says, andThen}
+use Rattle.rules.specs.Families.{firstStart, layoutOf, withLayout}
+use Rattle.rules.specs.Refusals.{says}
 use Rattle.rules.specs.Layouts.{emptyLayout}
-use Rattle.rules.specs.Lines.{kindOf, aLine, dateLine, hLine}
+use Rattle.rules.specs.Roles.{isFront, isOf, atStart, afterA, afterH, afterLayout, inBody, stageAfter}
 use Rattle.rules.specs.Split.{Lines, end, broken, line}
-use Rattle.rules.specs.Order.{afterG, stageAfter, moved, dated, withFixes, withExtras, ruled, judge, start}
-use Rattle.rules.specs.Files.{finish, run}
-use Rattle.rules.specs.Reads.{fixSaid, extraSaid}
+use Rattle.rules.specs.Order.{moved, laidOut, judge, start}
+use Rattle.rules.specs.Files.{endsAfter, finish, run}
 use Rattle.rules.specs.declared.Layout.{Layout}
-use Rattle.rules.specs.declared.Family.the-variants as family
-use Rattle.rules.specs.declared.Kind.{Kind}
-use Rattle.rules.specs.declared.Kind.the-variants as kind
+use Rattle.rules.specs.declared.Layouts.{Layouts}
+use Rattle.rules.specs.declared.Family.{Family}
+use Rattle.rules.specs.declared.Role.{Role}
 use Rattle.rules.specs.declared.Flight.{Flight}
+use Rattle.rules.specs.declared.Seal.{Seal}
 use Rattle.rules.specs.declared.State.{State}
-use Rattle.trips.proofs.Laws.{refuses-says, false-true, need-inv, then-inv}
-use Rattle.laws.proofs.Chains.{surely}
-use Rattle.laws.proofs.Splitting.{textsOf}
-use Rattle.laws.proofs.Counted.{OneMore, judge-counts}
-use Rattle.wider.specs.Wider.{Extends, isFront, isPlain, AfterLayouts, done, same, fix, extra, without, changed, put, FromJ, FromI, Wider, head, from}
-use Rattle.wider.specs.Before.{isB, isK, linesWith, AsBefore}
-use Rattle.wider.proofs.Lists.{Pairs}
+use Rattle.rules.proofs.Inverse.{refuses-says, false-true, need-inv}
+use Rattle.laws.proofs.Passing.{leading-inv, front-over, roleIn, Leaves, opens, date, header, layout, columned as has-columns, head, point, event, satellites, differential, seals, remark, other, judged, ran, ran-so}
 use Rattle.sound.proofs.Placed.{Sound, sound-line, sound-empty}
-use Rattle.wider.proofs.Judged.{Judged, judged-there, judged-again, run-there, run-here, wideFlight, wide, staged, follows, order-stage, leading-out, isBody, Alike, alike-same, alike-early, order-alike, after-heads}
-use Rattle.wider.proofs.Changing.{is-b, is-k, b-lines, k-lines, step, i-line, j-line, told-kind, told-after, told-passes}
+use Rattle.wider.specs.Wider.{Extends, AfterLayouts, done, same, columned, LayoutLines, all, without, changed, put, noLayouts, Wider, front, from}
+use Rattle.wider.specs.Before.{linesOfFamily}
+use Rattle.wider.proofs.Families.{columned-role, own-layout, with-own, none-yet, Beside, one, apart, beside, Ordered, in-order}
+use Rattle.wider.proofs.Judged.{wideFlight, wide, order-stage, Paired, plain-step, columned-step}
+use Rattle.wider.proofs.Changing.{told-role, told-after, told-passes, staged, Behind, columned-behind, tells-behind, plain-behind, behind-front, judged-alike, sealed-alike}
 
 -- ---- what is shown of the lines ls′ of the new file, from its state on, where those of the old one are ls and say f
 
-pub record Passed (room : ℕ) (st : State) (i i′ j j′ : Layout) (ls ls′ : Lines) (f : Flight) : Type 0 where
+pub record Passed (seal : Seal) (st : State) (ls ls′ : Lines) (f : Flight) (old new : Layouts) : Type 0 where
   pub lines : ℕ
-  pub count : lines ≡ st .flight .lines + length (textsOf ls′)
-  pub runs : run room st ls′ ≡ says (wideFlight i′ j′ lines f)
-  pub old-fixes : f .fixes ≡ i
-  pub old-extras : f .extras ≡ j
-  pub fixes : Pairs (AsBefore fixSaid i i′) (linesWith isB ls) (linesWith isB ls′)
-  pub extras : Pairs (AsBefore extraSaid j j′) (linesWith isK ls) (linesWith isK ls′)
+  pub runs : run seal none st ls′ ≡ says (wideFlight new lines f)
+  pub told : f .layouts ≡ old
+  pub pairs : (g : Family) → Paired old new g (linesOfFamily g ls) (linesOfFamily g ls′)
 
 -- with a line t′ before the new ones
-passed-line : (room : ℕ) (i i′ j j′ : Layout) (f : Flight) (ls ls′ ms : Lines) (st after : State) (t′ : List ℕ) → judge t′ st ≡ says after
-    → after .flight .lines ≡ st .flight .lines + 1 → after .flight .lines ≤ room → (r : Passed room after i i′ j j′ ls ls′ f)
-    → Pairs (AsBefore fixSaid i i′) (linesWith isB ms) (linesWith isB (line t′ ls′)) → Pairs (AsBefore extraSaid j j′) (linesWith isK ms) (linesWith isK (line t′ ls′))
-    → Passed room st i i′ j j′ ms (line t′ ls′) f
-passed-line room i i′ j j′ f ls ls′ ms st after t′ g n h r x y = record {
+before-line : {seal : Seal} {st after : State} {ls ls′ : Lines} {f : Flight} {old new : Layouts} (ms : Lines) (t′ : List ℕ) → judge t′ st ≡ says after
+    → (r : Passed seal after ls ls′ f old new)
+    → ((g : Family) → Paired old new g (linesOfFamily g ls) (linesOfFamily g ls′) → Paired old new g (linesOfFamily g ms) (linesOfFamily g (line t′ ls′)))
+    → Passed seal st ms (line t′ ls′) f old new
+before-line {seal = seal} {st = st} {after = after} {ls′ = ls′} ms t′ j r p = record {
   lines = r .lines;
-  count = omega (arith, r .count);
-  runs = run-here room st after t′ ls′ _ g h (r .runs);
-  old-fixes = r .old-fixes;
-  old-extras = r .old-extras;
-  fixes = x;
-  extras = y;
+  runs = ran-so seal none st t′ ls′ _ (record { after = after; judges = j; fits = refl; runs = r .runs });
+  told = r .told;
+  pairs = λ g. p g (r .pairs g);
 }
 
 -- ---- after the layout lines
 
-plain-is : (k : Kind) → isPlain k ≡ true → (isB k ≡ false) × (isK k ≡ false) × (isBody k ≡ true) × (isFront k ≡ false)
-plain-is kind.A h = absurd (false-true h)
-plain-is kind.B h = absurd (false-true h)
-plain-is kind.C h = (refl, refl, refl, refl)
-plain-is kind.D h = (refl, refl, refl, refl)
-plain-is kind.E h = (refl, refl, refl, refl)
-plain-is kind.F h = (refl, refl, refl, refl)
-plain-is kind.G h = (refl, refl, refl, refl)
-plain-is kind.H h = absurd (false-true h)
-plain-is kind.I h = absurd (false-true h)
-plain-is kind.J h = absurd (false-true h)
-plain-is kind.K h = absurd (false-true h)
-plain-is kind.L h = (refl, refl, refl, refl)
-plain-is kind.Other h = (refl, refl, refl, refl)
-plain-is kind.NoKind h = absurd (false-true h)
+-- the layouts of each family
+abbrev Fit : Family → Layout → Layout → Type 0
+Fit g i i′ = Sound (firstStart g) i × Sound (firstStart g) i′ × Extends i i′
 
-module _ (room room′ : ℕ) (f : Flight) where
-  at-end : (i i′ j j′ : Layout) (st : State) (s n : ℕ) → st .flight .fixes ≡ i → st .flight .extras ≡ j → Alike (st .stage) s → run room st end ≡ says f
-      → Passed room′ (wide i′ j′ n (staged s st)) i i′ j j′ end end f
-  unfolding run finish
-  at-end i i′ j j′ st s n p q a h =
-      let w = need-inv (eqb (st .points) 0) _ (says f) _ refuses-says h in
-      let v = need-inv (leb afterG (st .stage)) _ (says f) _ refuses-says (w .1) in
-      let e : st .flight ≡ f = cc in
-      record {
-        lines = n;
-        count = omega arith;
-        runs = rw (w .0, a .sealed, v .0, ← e);
-        old-fixes = rw (← e) p;
-        old-extras = rw (← e) q;
-        fixes = tt;
-        extras = tt;
-      }
+abbrev pub Fine : Layouts → Layouts → Type 0
+Fine old new = (g : Family) → Fit g (layoutOf g old) (layoutOf g new)
 
-  module _ (i i′ j j′ : Layout) (si : Sound 36 i) (si′ : Sound 36 i′) (sj : Sound 8 j) (sj′ : Sound 8 j′) where
-    body : {ls ls′ : Lines} → AfterLayouts i i′ j j′ ls ls′ → (st : State) (s n : ℕ) → st .flight .fixes ≡ i → st .flight .extras ≡ j → Alike (st .stage) s
-        → n + length (textsOf ls′) ≤ room′ → run room st ls ≡ says f → Passed room′ (wide i′ j′ n (staged s st)) i i′ j j′ ls ls′ f
-    body done st s n p q a m h = at-end i i′ j j′ st s n p q a h
-    body (same {t = t} {ls = ls} {ls′ = ls′} x b) st s n p q a m h =
-        let u = run-there room st t ls f h in
-        let k = kindOf (getD t 0 0) in
-        let g = judged-there k t st (u .0) refl (u .1) in
-        let w = follows i′ j′ (n + 1) k t (moved (g .stage) st) x (u .0) (g .rule) in
-        let o = order-alike k i′ j′ n s st (plain-is k x .2) a ∙ g .order in
-        let new = judged-again t st (u .0) (wide i′ j′ n (staged s st)) (wide i′ j′ (n + 1) (u .0)) (u .1) (record { stage = g .stage; order = o; rule = w .0 }) in
-        let r = body b (u .0) (u .0 .stage) (n + 1) (w .1 ∙ p) (w .2 ∙ q) (alike-same (u .0 .stage)) (omega arith) (u .2) in
-        passed-line room′ i i′ j j′ f ls ls′ (line t ls) _ _ t new refl (omega arith) r (rw (plain-is k x .0) (r .fixes)) (rw (plain-is k x .1) (r .extras))
-    body (fix {t = t} {t′ = t′} {ls = ls} {ls′ = ls′} x w b) st s n p q a m h =
-        let u = run-there room st t ls f h in
-        let d = step b-lines i i′ j′ n s st (u .0) t t′ p si si′ a x w (u .1) in
-        let r = body b (u .0) (u .0 .stage) (n + 1) (d .fixes ∙ p) (d .extras ∙ q) (alike-same (u .0 .stage)) (omega arith) (u .2) in
-        passed-line room′ i i′ j j′ f ls ls′ (line t ls) _ _ t′ (d .judged) refl (omega arith) r
-        (rw (d .is-kind, d .is-kind′) (d .reads, r .fixes)) (rw (d .is-kind, d .is-kind′) (r .extras))
-    body (extra {t = t} {t′ = t′} {ls = ls} {ls′ = ls′} x w b) st s n p q a m h =
-        let u = run-there room st t ls f h in
-        let d = step k-lines j i′ j′ n s st (u .0) t t′ q sj sj′ a x w (u .1) in
-        let r = body b (u .0) (u .0 .stage) (n + 1) (d .fixes ∙ p) (d .extras ∙ q) (alike-same (u .0 .stage)) (omega arith) (u .2) in
-        passed-line room′ i i′ j j′ f ls ls′ (line t ls) _ _ t′ (d .judged) refl (omega arith) r
-        (rw (d .is-kind, d .is-kind′) (r .fixes)) (rw (d .is-kind, d .is-kind′) (d .reads, r .extras))
-
--- ---- the J line
-
--- what is shown from the J line's place on
-record PassedJ (room : ℕ) (st : State) (i i′ : Layout) (ls ls′ : Lines) (f : Flight) : Type 0 where
-  j : Layout
-  j′ : Layout
-  passed : Passed room st i i′ j j′ ls ls′ f
-
-module _ (room room′ : ℕ) (f : Flight) (i i′ : Layout) (si : Sound 36 i) (si′ : Sound 36 i′) where
-  fromJ : {ls ls′ : Lines} → FromJ i i′ ls ls′ → (st : State) (s n : ℕ) → st .flight .fixes ≡ i → st .flight .extras ≡ emptyLayout → st .points ≡ 0
-      → 2 ≤ st .stage → st .stage ≤ 3 → 2 ≤ s → s ≤ 3 → n + length (textsOf ls′) ≤ room′ → run room st ls ≡ says f
-      → PassedJ room′ (wide i′ emptyLayout n (staged s st)) i i′ ls ls′ f
-  fromJ (without b) st s n p q z a c a′ c′ m h = record {
-    j = emptyLayout;
-    j′ = emptyLayout;
-    passed =
-        body room room′ f i i′ emptyLayout emptyLayout si si′ (sound-empty 8) (sound-empty 8) b st s n p q
-        (alike-early (st .stage) s a (omega arith) a′ (omega arith)) m h;
-  }
-  fromJ (changed {t = t} {t′ = t′} {old = j} {new = j′} {ls = ls} {ls′ = ls′} e e′ x b) st s n p q z a c a′ c′ m h =
-      let u = run-there room st t ls f h in
-      let g = told-after j-line t j e st (u .0) (u .1) in
-      let k = told-kind j-line t j e in
-      let k′ = told-kind j-line t′ j′ e′ in
-      let new = told-passes j-line t′ j′ e′ (wide i′ emptyLayout n (staged s st)) z a′ c′ in
-      let r = body room room′ f i i′ j j′ si si′ (sound-line family.K t j e) (sound-line family.K t′ j′ e′) b (withExtras j (moved 4 st)) 4 (n + 1) p refl (alike-same 4)
-      (omega arith) (ap (λ (x : State). run room x ls) g ∙ u .2) in
-      record {
-        j = j;
-        j′ = j′;
-        passed = passed-line room′ i i′ j j′ f ls ls′ (line t ls) _ _ t′ new refl (omega arith) r (rw (k, k′) (r .fixes)) (rw (k, k′) (r .extras));
-      }
-  fromJ (put {t′ = t′} {new = j′} {ls = ls} {ls′ = ls′} e′ b) st s n p q z a c a′ c′ m h =
-      let k′ = told-kind j-line t′ j′ e′ in
-      let new = told-passes j-line t′ j′ e′ (wide i′ emptyLayout n (staged s st)) z a′ c′ in
-      let r = body room room′ f i i′ emptyLayout j′ si si′ (sound-empty 8) (sound-line family.K t′ j′ e′) b st 4 (n + 1) p q
-      (alike-early (st .stage) 4 a (omega arith) (omega arith) (omega arith)) (omega arith) h in
-      record {
-        j = emptyLayout;
-        j′ = j′;
-        passed = passed-line room′ i i′ emptyLayout j′ f ls ls′ ls _ _ t′ new refl (omega arith) r (rw k′ (r .fixes)) (rw k′ (r .extras));
-      }
-
--- ---- the lines before the layout lines
-
-abbrev NotHead : Lines → Type 0
-NotHead end = Unit {0}
-NotHead (broken n) = Unit {0}
-NotHead (line t ls) = isFront (kindOf (getD t 0 0)) ≡ false
-
-body-later : {i i′ j j′ : Layout} {ls ls′ : Lines} → AfterLayouts i i′ j j′ ls ls′ → NotHead ls
-body-later done = tt
-body-later (same {t = t} x b) = plain-is (kindOf (getD t 0 0)) x .3
-body-later (fix x w b) = ap isFront (ap kindOf x ∙ is-b)
-body-later (extra x w b) = ap isFront (ap kindOf x ∙ is-k)
-
-fromJ-later : {i i′ : Layout} {ls ls′ : Lines} → FromJ i i′ ls ls′ → NotHead ls
-fromJ-later (without b) = body-later b
-fromJ-later (changed {t = t} {old = j} e e′ x b) = ap isFront (told-kind j-line t j e)
-fromJ-later (put e′ b) = body-later b
-
--- what is no A and no H line, and neither is the end, comes after the H lines
-heads-over : (room : ℕ) (ls : Lines) (st : State) (f : Flight) → NotHead ls → run room st ls ≡ says f → 2 ≤ st .stage
+-- what a file says at its end
+ended : (seal : Seal) (st : State) (f : Flight) → run seal none st end ≡ says f → (eqb (st .points) 0 ≡ true) × (leb (endsAfter seal) (st .stage) ≡ true) × (st .flight ≡ f)
 unfolding run finish
-heads-over room end st f x h =
+ended seal st f h =
     let w = need-inv (eqb (st .points) 0) _ (says f) _ refuses-says h in
-    let v = need-inv (leb afterG (st .stage)) _ (says f) _ refuses-says (w .1) in
-    omega (arith, leb-true afterG (st .stage) (v .0))
-heads-over room (broken n) st f x h = absurd (refuses-says h)
-heads-over room (line t ls) st f x h =
-    let u = run-there room st t ls f h in
-    let k = kindOf (getD t 0 0) in
-    let g = judged-there k t st (u .0) refl (u .1) in
-    after-heads k (st .stage) (g .stage) x (order-stage k st (g .stage) (g .order))
+    let v = need-inv (leb (endsAfter seal) (st .stage)) _ (says f) _ refuses-says (w .1) in
+    (w .0, v .0, cc)
 
-record Early (st : State) : Type 0 where
-  stage : st .stage ≤ 2
-  points : st .points ≡ 0
-  fixes : st .flight .fixes ≡ emptyLayout
-  extras : st .flight .extras ≡ emptyLayout
+module _ (seal : Seal) (f : Flight) where
+  at-end : (old new : Layouts) (st : State) (n : ℕ) → st .flight .layouts ≡ old → run seal none st end ≡ says f → Passed seal (wide new n st) end end f old new
+  unfolding run finish
+  at-end old new st n p h =
+      let e = ended seal st f h in
+      record { lines = n; runs = rw (e .0, e .1, ← e .2); told = rw (← e .2) p; pairs = λ g. tt }
 
--- what is shown of all lines
-pub record Went (room : ℕ) (st : State) (ls ls′ : Lines) (f : Flight) : Type 0 where
-  pub i : Layout
-  pub i′ : Layout
-  pub j : Layout
-  pub j′ : Layout
-  pub sound : Sound 36 i
-  pub sound′ : Sound 36 i′
-  pub extends : Extends i i′
-  pub passed : Passed room st i i′ j j′ ls ls′ f
+  body : {old new : Layouts} {ls ls′ : Lines} → Fine old new → AfterLayouts old new ls ls′ → (st : State) (n : ℕ) → st .flight .layouts ≡ old → run seal none st ls ≡ says f
+      → Passed seal (wide new n st) ls ls′ f old new
+  body {old = old} {new = new} fi done st n p h = at-end old new st n p h
+  body {old = old} {new = new} fi (same {t = t} {ls = ls} x b) st n p h =
+      let u = ran seal none st t ls f h in
+      let d = plain-step old new n t st (u .after) x (u .judges) in
+      before-line (line t ls) t (d .judges) (body fi b (u .after) (n + 1) (d .layouts ∙ p) (u .runs)) (λ g. d .pairs g _ _)
+  body {old = old} {new = new} fi (columned {t = t} {t′ = t′} {ls = ls} g k w b) st n p h =
+      let u = ran seal none st t ls f h in
+      let d = columned-step g old new t t′ (fi g .0) (fi g .1) k w n st (u .after) p (u .judges) in
+      before-line (line t ls) t′ (d .judges) (body fi b (u .after) (n + 1) (d .layouts ∙ p) (u .runs)) (λ g. d .pairs g _ _)
 
-module _ (room room′ : ℕ) (f : Flight) where
-  fromI : {ls ls′ : Lines} → FromI ls ls′ → (st : State) → Early st → st .flight .lines + length (textsOf ls′) ≤ room′ → run room st ls ≡ says f → Went room′ st ls ls′ f
-  fromI (without {ls = ls} {ls′ = ls′} b) st y m h =
-      let a = heads-over room ls st f (fromJ-later b) h in
-      let r = fromJ room room′ f emptyLayout emptyLayout (sound-empty 36) (sound-empty 36) b st (st .stage) (st .flight .lines) (y .fixes) (y .extras) (y .points)
-      a (omega (arith, y .stage)) a (omega (arith, y .stage)) m h in
-      let e : wide emptyLayout emptyLayout (st .flight .lines) (staged (st .stage) st) ≡ st =
-      ap (λ x. withFixes x (withExtras emptyLayout st)) (sym (y .fixes)) ∙ ap (λ x. withExtras x st) (sym (y .extras)) in
-      record {
-        i = emptyLayout;
-        i′ = emptyLayout;
-        j = r .j;
-        j′ = r .j′;
-        sound = sound-empty 36;
-        sound′ = sound-empty 36;
-        extends = tt;
-        passed = subst (λ x. Passed room′ x emptyLayout emptyLayout (r .j) (r .j′) ls ls′ f) e (r .passed);
-      }
-  fromI (changed {t = t} {t′ = t′} {old = i} {new = i′} {ls = ls} {ls′ = ls′} e e′ x b) st y m h =
-      let u = run-there room st t ls f h in
-      let g = told-after i-line t i e st (u .0) (u .1) in
-      let k = told-kind i-line t i e in
-      let k′ = told-kind i-line t′ i′ e′ in
-      let a = heads-over room (line t ls) st f (ap isFront k) h in
-      let new = told-passes i-line t′ i′ e′ st (y .points) a (y .stage) in
-      let so = sound-line family.B t i e in
-      let so′ = sound-line family.B t′ i′ e′ in
-      let r = fromJ room room′ f i i′ so so′ b (withFixes i (moved 3 st)) 3 (st .flight .lines + 1) refl (y .extras) (y .points)
-      (omega arith) (omega arith) (omega arith) (omega arith) (omega arith) (ap (λ (x : State). run room x ls) g ∙ u .2) in
-      let w : wide i′ emptyLayout (st .flight .lines + 1) (staged 3 (withFixes i (moved 3 st))) ≡ withFixes i′ (moved 3 st) =
-      ap (λ (x : Layout). withFixes i′ (moved 3 (withExtras x st))) (sym (y .extras)) in
-      let p = subst (λ (x : State). Passed room′ x i i′ (r .j) (r .j′) ls ls′ f) w (r .passed) in
-      record {
-        i = i;
-        i′ = i′;
-        j = r .j;
-        j′ = r .j′;
-        sound = so;
-        sound′ = so′;
-        extends = x;
-        passed = passed-line room′ i i′ (r .j) (r .j′) f ls ls′ (line t ls) st _ t′ new refl (omega arith) p (rw (k, k′) (p .fixes)) (rw (k, k′) (p .extras));
-      }
-  fromI (put {t′ = t′} {new = i′} {ls = ls} {ls′ = ls′} e′ b) st y m h =
-      let a = heads-over room ls st f (fromJ-later b) h in
-      let k′ = told-kind i-line t′ i′ e′ in
-      let new = told-passes i-line t′ i′ e′ st (y .points) a (y .stage) in
-      let so′ = sound-line family.B t′ i′ e′ in
-      let r = fromJ room room′ f emptyLayout i′ (sound-empty 36) so′ b st 3 (st .flight .lines + 1) (y .fixes) (y .extras) (y .points)
-      a (omega (arith, y .stage)) (omega arith) (omega arith) (omega arith) h in
-      let w : wide i′ emptyLayout (st .flight .lines + 1) (staged 3 st) ≡ withFixes i′ (moved 3 st) =
-      ap (λ (x : Layout). withFixes i′ (moved 3 (withExtras x st))) (sym (y .extras)) in
-      let p = subst (λ (x : State). Passed room′ x emptyLayout i′ (r .j) (r .j′) ls ls′ f) w (r .passed) in
-      record {
-        i = emptyLayout;
-        i′ = i′;
-        j = r .j;
-        j′ = r .j′;
-        sound = sound-empty 36;
-        sound′ = so′;
-        extends = tt;
-        passed = passed-line room′ emptyLayout i′ (r .j) (r .j′) f ls ls′ ls st _ t′ new refl (omega arith) p (rw k′ (p .fixes)) (rw k′ (p .extras));
-      }
+-- ---- behind the part `low`: the end, or a line that comes only behind the front
+
+abbrev pub Begins : ℕ → Lines → Type 0
+Begins low end = Unit {0}
+Begins low (broken n) = Unit {0}
+Begins low (line t ls) = Behind low (roleIn t)
+
+module _ (seal : Seal) (low : ℕ) (st : State) (early : st .stage ≤ low) where
+  pub front-behind : (ls : Lines) (f : Flight) → Begins low ls → run seal none st ls ≡ says f → afterH ≤ st .stage
+  unfolding run
+  front-behind end f b h = omega (arith, front-over seal, leb-true (endsAfter seal) (st .stage) (ended seal st f h .1))
+  front-behind (broken n) f b h = absurd (refuses-says h)
+  front-behind (line t ls) f b h = let u = ran seal none st t ls f h in behind-front low t b st early (u .after) (u .judges)
+
+  run-alike : (ls : Lines) (s : ℕ) → Begins low ls → low < inBody → s ≤ low → afterH ≤ s → afterH ≤ st .stage → run seal none (staged s st) ls ≡ run seal none st ls
+  unfolding run finish
+  run-alike end s b i e a a′ = rw (sealed-alike seal (st .stage) s a′ (omega arith) a (omega arith))
+  run-alike (broken n) s b i e a a′ = refl
+  run-alike (line t ls) s b i e a a′ = rw (judged-alike low t b st early s e a a′)
+
+-- ---- the layout lines
+
+ordered-from : (low low′ : ℕ) (fs : List Family) → low ≤ low′ → Ordered low′ fs → Ordered low fs
+ordered-from low low′ [] h o = omega arith
+ordered-from low low′ (f ∷ fs) h o = (omega (arith, o .0), o .1)
+
+in-body : (low : ℕ) (fs : List Family) → Ordered low fs → low < inBody
+in-body low [] o = o
+in-body low (f ∷ fs) o = omega (arith, o .0, in-body (afterLayout f) fs (o .1))
+
+-- so begin the lines from there on
+begins : {fs : List Family} {old new : Layouts} {ls ls′ : Lines} (low : ℕ) → LayoutLines fs old new ls ls′ → Ordered low fs → Begins low ls
+begins low (all done) o = tt
+begins low (all (same {t = t} x b)) o = plain-behind low (roleIn t) x o
+begins low (all (columned {t = t} f k w b)) o = rw (columned-role f t k) (columned-behind low f o)
+begins low (without {f = f} {fs = fs} r) o = begins low r (ordered-from low (afterLayout f) fs (omega (arith, o .0)) (o .1))
+begins low (changed {f = f} {t = t} {i = i} e e′ x r) o = rw (told-role f t i e) (tells-behind low f (o .0))
+begins low (put {f = f} {fs = fs} e′ r) o = begins low r (ordered-from low (afterLayout f) fs (omega (arith, o .0)) (o .1))
+
+fine-with : (f : Family) (i i′ : Layout) (old new : Layouts) → Fit f i i′ → Fine old new → Fine (withLayout f i old) (withLayout f i′ new)
+fine-with f i i′ old new x fi g = by g (beside f g)
+  where
+    by : (g : Family) → Beside f g → Fit g (layoutOf g (withLayout f i old)) (layoutOf g (withLayout f i′ new))
+    by g (one q) = rw (own-layout g i old, own-layout g i′ new) x
+    by g (apart q h) = rw (h i old, h i′ new) (fi g)
+
+-- no layout is told yet behind the part `low`
+abbrev Later : ℕ → Layouts → Type 0
+Later low ls = (g : Family) → low < afterLayout g → layoutOf g ls ≡ emptyLayout
+
+later-with : (low : ℕ) (f : Family) (i : Layout) (ls : Layouts) → low < afterLayout f → Later low ls → Later (afterLayout f) (withLayout f i ls)
+later-with low f i ls h la g p = by g (beside f g) p
+  where
+    by : (g : Family) → Beside f g → afterLayout f < afterLayout g → layoutOf g (withLayout f i ls) ≡ emptyLayout
+    by g (one q) p = absurd (omega arith)
+    by g (apart q k) p = k i ls ∙ la g (omega arith)
+
+-- what is shown of the lines from there on, whatever layouts they tell
+pub record Went (seal : Seal) (st : State) (ls ls′ : Lines) (f : Flight) : Type 0 where
+  pub old : Layouts
+  pub new : Layouts
+  pub fine : Fine old new
+  pub passed : Passed seal st ls ls′ f old new
+
+-- with a line t′ before the new ones, and ms for the old ones, which is of no family
+went-line : {seal : Seal} {st after : State} {ls ls′ : Lines} {f : Flight} (ms : Lines) (t′ : List ℕ) → judge t′ st ≡ says after
+    → ((g : Family) → (linesOfFamily g ms ≡ linesOfFamily g ls) × (isOf g (roleIn t′) ≡ false)) → Went seal after ls ls′ f → Went seal st ms (line t′ ls′) f
+went-line ms t′ j p r = record {
+  old = r .old;
+  new = r .new;
+  fine = r .fine;
+  passed = before-line {old = r .old} {new = r .new} ms t′ j (r .passed) (λ g y. rw (p g .0, p g .1) y);
+}
+
+module _ (seal : Seal) (f : Flight) where
+  layouts-went : {fs : List Family} {old new : Layouts} {ls ls′ : Lines} (low : ℕ) → LayoutLines fs old new ls ls′ → Ordered low fs → Later low old → Fine old new
+      → (st : State) (n : ℕ) → st .flight .layouts ≡ old → st .points ≡ 0 → afterH ≤ st .stage → st .stage ≤ low → run seal none st ls ≡ says f
+      → Went seal (wide new n st) ls ls′ f
+  layouts-went {old = old} {new = new} low (all b) o la fi st n p z a c h = record { old = old; new = new; fine = fi; passed = body seal f fi b st n p h }
+  layouts-went low (without {f = g} r) o la fi st n p z a c h =
+      layouts-went (afterLayout g) r (o .1) (λ q k. la q (omega (arith, o .0))) fi st n p z a (omega (arith, o .0)) h
+  layouts-went {old = old} {new = new} low (changed {f = g} {t = t} {t′ = t′} {i = i} {i′ = i′} {ls = ls} e e′ x r) o la fi st n p z a c h =
+      let u = ran seal none st t ls f h in
+      let m = told-after g t i e st (u .after) (u .judges) in
+      let w = layouts-went (afterLayout g) r (o .1) (later-with low g i old (o .0) la) (fine-with g i i′ old new (sound-line g t i e, sound-line g t′ i′ e′, x) fi)
+      (laidOut g i (moved (afterLayout g) st)) (n + 1) (ap (withLayout g i) p) z (omega (arith, o .0)) (omega arith) (rw m (u .runs)) in
+      let j = told-passes g t′ i′ e′ (wide new n st) z a (omega (arith, o .0)) in
+      went-line (line t ls) t′ j (λ q. (rw (told-role g t i e), rw (told-role g t′ i′ e′))) w
+  layouts-went {old = old} {new = new} low (put {f = g} {fs = fs} {t′ = t′} {i′ = i′} {ls = ls} e′ r) o la fi st n p z a c h =
+      let s = afterLayout g in
+      let q : withLayout g emptyLayout old ≡ old = ap (λ y. withLayout g y old) (sym (la g (omega (arith, o .0)))) ∙ with-own g old in
+      let fi′ = rw q at (fine-with g emptyLayout i′ old new (sound-empty (firstStart g), sound-line g t′ i′ e′, tt) fi) in
+      let same-run = run-alike seal s st (omega (arith, o .0)) ls s (begins s r (o .1)) (in-body s fs (o .1)) (omega arith) (omega (arith, o .0)) a in
+      let w = layouts-went s r (o .1) (λ q k. la q (omega (arith, o .0))) fi′ (staged s st) (n + 1) p z (omega (arith, o .0)) (omega arith) (same-run ∙ h) in
+      let j = told-passes g t′ i′ e′ (wide new n st) z a (omega (arith, o .0)) in
+      went-line ls t′ j (λ q. (refl, rw (told-role g t′ i′ e′))) w
 
 -- ---- the A line and the H lines
 
-early-next : (k : Kind) (t : List ℕ) (st after : State) → isFront k ≡ true → Judged k t st after → Early st → Early after × (isB k ≡ false) × (isK k ≡ false)
-unfolding ruled stageAfter
-early-next kind.A t st after x g y =
-    let n = leading-out 0 0 1 (st .stage) (g .stage) (order-stage kind.A st (g .stage) (g .order)) .2 in
-    let r = then-inv (aLine t) after _ (g .rule) in
-    let e : moved (g .stage) st ≡ after = cc in
-    (rw (← e) record { stage = omega arith; points = y .points; fixes = y .fixes; extras = y .extras }, refl, refl)
-early-next kind.B t st after x g y = absurd (false-true x)
-early-next kind.C t st after x g y = absurd (false-true x)
-early-next kind.D t st after x g y = absurd (false-true x)
-early-next kind.E t st after x g y = absurd (false-true x)
-early-next kind.F t st after x g y = absurd (false-true x)
-early-next kind.G t st after x g y = absurd (false-true x)
-early-next kind.H t st after x g y =
-    let n = leading-out 1 2 2 (st .stage) (g .stage) (order-stage kind.H st (g .stage) (g .order)) .2 in
-    (go n (eqb (st .flight .lines + 1) 2) (g .rule), refl, refl)
-  where
-    go : 2 ≡ g .stage → (b : Bool) → cond b (andThen (dateLine t) λ d. says (dated d (moved (g .stage) st))) (andThen (hLine t) λ _. says (moved (g .stage) st)) ≡ says after → Early after
-    go n true h =
-        let r = then-inv (dateLine t) after _ h in
-        let e : dated (r .0) (moved (g .stage) st) ≡ after = cc in
-        rw (← e) record { stage = omega arith; points = y .points; fixes = y .fixes; extras = y .extras }
-    go n false h =
-        let r = then-inv (hLine t) after _ h in
-        let e : moved (g .stage) st ≡ after = cc in
-        rw (← e) record { stage = omega arith; points = y .points; fixes = y .fixes; extras = y .extras }
-early-next kind.I t st after x g y = absurd (false-true x)
-early-next kind.J t st after x g y = absurd (false-true x)
-early-next kind.K t st after x g y = absurd (false-true x)
-early-next kind.L t st after x g y = absurd (false-true x)
-early-next kind.Other t st after x g y = absurd (false-true x)
-early-next kind.NoKind t st after x g y = absurd (false-true x)
+record Early (st : State) : Type 0 where
+  stage : st .stage ≤ afterH
+  points : st .points ≡ 0
+  layouts : st .flight .layouts ≡ noLayouts
 
-module _ (room room′ : ℕ) (f : Flight) where
-  went : {ls ls′ : Lines} → Wider ls ls′ → (st : State) → Early st → st .flight .lines + length (textsOf ls′) ≤ room′ → run room st ls ≡ says f → Went room′ st ls ls′ f
-  went (from p) st y m h = fromI room room′ f p st y m h
-  went (head {t = t} {ls = ls} {ls′ = ls′} x w) st y m h =
-      let u = run-there room st t ls f h in
-      let k = kindOf (getD t 0 0) in
-      let n = early-next k t st (u .0) x (judged-there k t st (u .0) refl (u .1)) y in
-      let c = surely (OneMore t st) (judge t st) (u .0) (u .1) (judge-counts t st) .lines in
-      let r = went w (u .0) (n .0) (omega arith) (u .2) in
-      record {
-        i = r .i;
-        i′ = r .i′;
-        j = r .j;
-        j′ = r .j′;
-        sound = r .sound;
-        sound′ = r .sound′;
-        extends = r .extends;
-        passed =
-            passed-line room′ (r .i) (r .i′) (r .j) (r .j′) f ls ls′ (line t ls) st (u .0) t (u .1) c (omega arith) (r .passed)
-            (rw (n .1) (r .passed .fixes)) (rw (n .2) (r .passed .extras));
-      }
+early-left : (st : State) (s : ℕ) {l : List ℕ} {r : Role} {after : State} → Early st → isFront r ≡ true → stageAfter r (st .stage) ≡ some s → Leaves l (moved s st) r after
+    → Early after × ((g : Family) → isOf g r ≡ false)
+unfolding stageAfter
+early-left st s y x o (opens e) = (record { stage = omega (arith, leading-inv atStart atStart afterA (st .stage) s o .2); points = y .points; layouts = y .layouts }, λ g. refl)
+early-left st s y x o (date d z e) = (record { stage = omega (arith, leading-inv afterA afterH afterH (st .stage) s o .2); points = y .points; layouts = y .layouts }, λ g. refl)
+early-left st s y x o (header z e) = (record { stage = omega (arith, leading-inv afterA afterH afterH (st .stage) s o .2); points = y .points; layouts = y .layouts }, λ g. refl)
+early-left st s y x o (layout f i e) = absurd (false-true x)
+early-left st s y x o (has-columns f t e w) = absurd (false-true x)
+early-left st s y x o (head h z e) = absurd (false-true x)
+early-left st s y x o (point p z e) = absurd (false-true x)
+early-left st s y x o (event t e w) = absurd (false-true x)
+early-left st s y x o (satellites t e w) = absurd (false-true x)
+early-left st s y x o (differential e) = absurd (false-true x)
+early-left st s y x o (seals e) = absurd (false-true x)
+early-left st s y x o (remark e) = absurd (false-true x)
+early-left st s y x o (other e) = absurd (false-true x)
+
+none-fine : Fine noLayouts noLayouts
+none-fine g = rw (none-yet g) (sound-empty (firstStart g), sound-empty (firstStart g), tt)
+
+module _ (seal : Seal) (f : Flight) where
+  went : {ls ls′ : Lines} → Wider ls ls′ → (st : State) → Early st → run seal none st ls ≡ says f → Went seal st ls ls′ f
+  went (from {ls = ls} {ls′ = ls′} r) st y h =
+      let a = front-behind seal afterH st (y .stage) ls f (begins afterH r in-order) h in
+      let w = layouts-went seal f afterH r in-order (λ g p. none-yet g) none-fine st (st .flight .lines) (y .layouts) (y .points) a (y .stage) h in
+      subst (λ x. Went seal (wide x (st .flight .lines) st) ls ls′ f) (sym (y .layouts)) w
+  went (front {t = t} {ls = ls} x w) st y h =
+      let u = ran seal none st t ls f h in
+      let j = judged t st (u .after) (u .judges) in
+      let n = early-left st (j .stage) y x (order-stage (roleIn t) st (j .stage) (j .order)) (j .left) in
+      went-line (line t ls) t (u .judges) (λ g. (rw (n .1 g), n .1 g)) (went w (u .after) (n .0) (u .runs))
 
   -- from the first line on
-  pub lines-went : {ls ls′ : Lines} → Wider ls ls′ → length (textsOf ls′) ≤ room′ → run room start ls ≡ says f → Went room′ start ls ls′ f
-  lines-went w m h = went w start (record { stage = omega arith; points = refl; fixes = refl; extras = refl }) (omega arith) h
+  pub lines-went : {ls ls′ : Lines} → Wider ls ls′ → run seal none start ls ≡ says f → Went seal start ls ls′ f
+  lines-went w h = went w start (record { stage = omega arith; points = refl; layouts = refl }) h

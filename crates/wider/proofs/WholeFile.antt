@@ -1,72 +1,89 @@
 -- From the lines to the file: a file with added columns is accepted and reads as before. Assumes nothing.
-use Prim.Native.Nat.{ℕ, _≤_}
+use Prim.Native.Nat.{ℕ, _+_, _≤_}
+use mathlib.Core.Bool.{true}
 use mathlib.Core.List.{List, [], _∷_}
-use mathlib.Core.Path.{_≡_, refl, sym, subst}
+use mathlib.Core.Option.{Option, none, some}
+use mathlib.Core.Path.{_≡_, refl, sym, ap, subst, _∙_}
 use native.Mathlib.Omega.{arith}
 use borrow.Author.Tests.{le-leb}
 use lib.Dec.{leb}
 use lib.ListN.{length}
+use Rattle.rules.specs.Families.{layoutOf}
 use Rattle.rules.specs.Refusals.{says}
-use Rattle.rules.specs.Split.{linesOf}
-use Rattle.rules.specs.Order.{isC, start}
-use Rattle.rules.specs.Files.{finish, run, verdict}
-use Rattle.rules.specs.Reads.{fixSaid, extraSaid}
+use Rattle.rules.specs.Roles.{roleOf, isDeclaring, isEvent, afterH}
+use Rattle.rules.specs.Split.{end, linesOf}
+use Rattle.rules.specs.Order.{start}
+use Rattle.rules.specs.Files.{hasRoom, run, verdict, goodLines}
+use Rattle.rules.specs.declared.Family.the-variants as family
 use Rattle.rules.specs.declared.Flight.{Flight}
-use Rattle.trips.proofs.Laws.{refuses-says, need-inv}
-use Rattle.laws.proofs.Splitting.{textsOf}
-use Rattle.laws.proofs.Counted.{lines-counted, bs-counted, ks-counted}
+use Rattle.rules.specs.declared.Seal.{Seal}
+use Rattle.rules.proofs.Inverse.{refuses-says, need-inv}
+use Rattle.laws.proofs.Counted.{lines-counted, family-counted, tabled, table-adds}
 use Rattle.wider.specs.Wider.{WiderFile}
-use Rattle.wider.specs.Before.{isB, isE, isK, linesWith, fixLine, extraLine, AsBefore, MoreBits, putIn, ReadsAsBefore}
+use Rattle.wider.specs.Before.{linesOfFamily, lineOf, AsBefore, MoreBits, putIn, ReadsAsBefore}
 use Rattle.wider.proofs.Lists.{pair-at}
 use Rattle.wider.proofs.Judged.{wideFlight}
-use Rattle.wider.proofs.Simulated.{Went, lines-went}
-use Rattle.wider.proofs.Kept.{others-same, lines-more, bs-tallied, ks-tallied, presence-more}
+use Rattle.wider.proofs.Simulated.{front-behind, Went, lines-went}
+use Rattle.wider.proofs.Kept.{others-same, lines-more, family-tallied, presence-more}
+
+-- ---- the table's room is asked for beside the check
+
+without-table : (seal : Seal) (file : List ℕ) (room : Option ℕ) (f : Flight) → verdict seal file room ≡ says f → verdict seal file none ≡ says f
+unfolding tabled
+without-table seal file none f e = e
+without-table seal file (some n) f e = need-inv (leb (goodLines (verdict seal file none)) n) _ (says f) _ refuses-says (sym (table-adds seal file n) ∙ e) .1
+
+with-table : (seal : Seal) (file : List ℕ) (room : Option ℕ) (f : Flight) → hasRoom room (f .lines) ≡ true → verdict seal file none ≡ says f → verdict seal file room ≡ says f
+unfolding tabled goodLines
+with-table seal file none f h e = e
+with-table seal file (some n) f h e = table-adds seal file n ∙ ap (tabled n) e ∙ rw h
+
+-- ---- the file
 
 -- a file whose lines say something has bytes
-some-bytes : (room : ℕ) (file : List ℕ) (f : Flight) → run room start (linesOf file) ≡ says f → 1 ≤ length file
-unfolding linesOf run finish
-some-bytes room [] f h = absurd (refuses-says h)
-some-bytes room (b ∷ rest) f h = omega arith
+some-bytes : (seal : Seal) (file : List ℕ) (f : Flight) → run seal none start (linesOf file) ≡ says f → 1 ≤ length file
+unfolding linesOf
+some-bytes seal [] f h = absurd (omega (arith, front-behind seal afterH start (omega arith) end f tt h))
+some-bytes seal (b ∷ rest) f h = omega arith
 
-module _ (file file′ : List ℕ) (room room′ : ℕ) (f : Flight) (accepted : verdict file room ≡ says f) (w : WiderFile file file′) (long : length file′ ≤ 16777216)
-    (fits : length (textsOf (linesOf file′)) ≤ room′) where
-  lines-run : run room start (linesOf file) ≡ says f
+module _ (seal : Seal) (file file′ : List ℕ) (room room′ : Option ℕ) (f : Flight) (accepted : verdict seal file room ≡ says f) (w : WiderFile file file′)
+    (long : length file′ ≤ 16777216) (fits : hasRoom room′ (f .lines + putIn w) ≡ true) where
+  lines-run : run seal none start (linesOf file) ≡ says f
   unfolding verdict
   lines-run =
-      let a = need-inv (leb 1 (length file)) _ (says f) _ refuses-says accepted in
+      let a = need-inv (leb 1 (length file)) _ (says f) _ refuses-says (without-table seal file room f accepted) in
       need-inv (leb (length file) 16777216) _ (says f) _ refuses-says (a .1) .1
 
-  all : Went room′ start (linesOf file) (linesOf file′) f
-  all = lines-went room room′ f w fits lines-run
+  went : Went seal start (linesOf file) (linesOf file′) f
+  went = lines-went seal f w lines-run
 
   -- what is said of the new file
   said : Flight
-  said = wideFlight (all .i′) (all .j′) (all .passed .lines) f
+  said = wideFlight (went .new) (went .passed .lines) f
 
-  new-accepted : verdict file′ room′ ≡ says said
+  tableless : verdict seal file′ none ≡ says said
   unfolding verdict said
-  new-accepted = rw (le-leb 1 (length file′) (some-bytes room′ file′ _ (all .passed .runs)), le-leb (length file′) 16777216 long) (all .passed .runs)
+  tableless = rw (le-leb 1 (length file′) (some-bytes seal file′ _ (went .passed .runs)), le-leb (length file′) 16777216 long) (went .passed .runs)
+
+  more-lines : said .lines ≡ f .lines + putIn w
+  more-lines = omega (arith, lines-counted seal file′ none said tableless, lines-more w, lines-counted seal file room f accepted)
 
   as-before : ReadsAsBefore file file′ f said (putIn w)
   unfolding said
   as-before = record {
     date = refl;
-    lines = omega (arith, all .passed .count, lines-more w, lines-counted file room f accepted);
-    bs = refl;
-    ks = refl;
-    declaration = others-same isC refl refl refl refl w;
-    events = others-same isE refl refl refl refl w;
-    others = λ test i j b k. others-same test i j b k w;
-    fixes = λ n h.
-        subst (λ layout. AsBefore fixSaid layout (all .i′) (fixLine file n) (fixLine file′ n)) (sym (all .passed .old-fixes))
-        (pair-at (AsBefore fixSaid (all .i) (all .i′)) [] (linesWith isB (linesOf file)) (linesWith isB (linesOf file′)) n (all .passed .fixes)
-        (omega (arith, bs-counted file room f accepted, bs-tallied (linesOf file))));
-    extras = λ n h.
-        subst (λ layout. AsBefore extraSaid layout (all .j′) (extraLine file n) (extraLine file′ n)) (sym (all .passed .old-extras))
-        (pair-at (AsBefore extraSaid (all .j) (all .j′)) [] (linesWith isK (linesOf file)) (linesWith isK (linesOf file′)) n (all .passed .extras)
-        (omega (arith, ks-counted file room f accepted, ks-tallied (linesOf file))));
-    presence = subst (λ layout. MoreBits layout (all .i′)) (sym (all .passed .old-fixes)) (presence-more (all .i) (all .i′) (all .extends) (all .sound) (all .sound′));
+    lines = more-lines;
+    counts = λ g. refl;
+    declaration = others-same (λ k. isDeclaring (roleOf k)) (λ k g e. ap isDeclaring e) (λ k g e. ap isDeclaring e) w;
+    events = others-same (λ k. isEvent (roleOf k)) (λ k g e. ap isEvent e) (λ k g e. ap isEvent e) w;
+    others = λ test i c. others-same test i c w;
+    columned = λ g n h.
+        subst (λ old. AsBefore g (layoutOf g old) (layoutOf g (went .new)) (lineOf g file n) (lineOf g file′ n)) (sym (went .passed .told))
+        (pair-at (AsBefore g (layoutOf g (went .old)) (layoutOf g (went .new))) [] (linesOfFamily g (linesOf file)) (linesOfFamily g (linesOf file′)) n (went .passed .pairs g)
+        (omega (arith, family-counted seal file room f accepted g, family-tallied g (linesOf file))));
+    presence = subst (λ old. MoreBits (layoutOf family.B old) (layoutOf family.B (went .new))) (sym (went .passed .told))
+        (let x = went .fine family.B in presence-more (layoutOf family.B (went .old)) (layoutOf family.B (went .new)) (x .2) (x .0) (x .1));
   }
 
-  pub reads-as-before : (f′ : Flight) × (verdict file′ room′ ≡ says f′) × ReadsAsBefore file file′ f f′ (putIn w)
-  reads-as-before = (said, new-accepted, as-before)
+  pub reads-as-before : (f′ : Flight) × (verdict seal file′ room′ ≡ says f′) × ReadsAsBefore file file′ f f′ (putIn w)
+  reads-as-before = (said, with-table seal file′ room′ said (rw more-lines fits) tableless, as-before)

@@ -5,33 +5,26 @@ use mathlib.Core.List.{List, [], _∷_}
 use mathlib.Core.Path.{_≡_}
 use lib.ListN.{getD}
 use Rattle.rules.specs.Refusals.{Said, says, andThen}
+use Rattle.rules.specs.Families.{layoutOf, countOf}
 use Rattle.rules.specs.Listed.{packedOf, listed}
 use Rattle.rules.specs.Layouts.{carries, columnText, presenceSaid}
 use Rattle.rules.specs.Lines.{kindOf}
-use Rattle.rules.specs.Order.{isC}
+use Rattle.rules.specs.Roles.{roleOf, isOf, isDeclaring, isEvent}
 use Rattle.rules.specs.Split.{Lines, end, broken, line, linesOf}
 use Rattle.rules.specs.Reads.{fixSaid, extraSaid, columnSaid, numberSaid}
 use Rattle.rules.specs.declared.Layout.{Layout}
 use Rattle.rules.specs.declared.Listed.{Listed}
 use Rattle.rules.specs.declared.Presence.{Presence}
+use Rattle.rules.specs.declared.Family.{Family}
+use Rattle.rules.specs.declared.Family.the-variants as family
+use Rattle.rules.specs.declared.Fix.{Fix}
 use Rattle.rules.specs.declared.Kind.{Kind}
-use Rattle.rules.specs.declared.Kind.the-variants as kind
+use Rattle.rules.specs.declared.Layouts.{Layouts}
+use Rattle.rules.specs.declared.Role.the-variants as role
 use Rattle.rules.specs.declared.Flight.{Flight}
-use Rattle.wider.specs.Wider.{FromI, FromJ, Wider, without, changed, put, head, from}
+use Rattle.wider.specs.Wider.{LayoutLines, all, without, changed, put, Wider, front, from}
 
 -- ---- the lines by their kinds
-
--- "B: time 2 to 7; .."
-abbrev pub isB : Kind → Bool
-isB = elim [ kind.A ↦ false | kind.B ↦ true | kind.C ↦ false | kind.D ↦ false | kind.E ↦ false | kind.F ↦ false | kind.G ↦ false | kind.H ↦ false | kind.I ↦ false | kind.J ↦ false | kind.K ↦ false | kind.L ↦ false | kind.Other ↦ false | kind.NoKind ↦ false ]
-
--- "E: time, 3 code characters, text."
-abbrev pub isE : Kind → Bool
-isE = elim [ kind.A ↦ false | kind.B ↦ false | kind.C ↦ false | kind.D ↦ false | kind.E ↦ true | kind.F ↦ false | kind.G ↦ false | kind.H ↦ false | kind.I ↦ false | kind.J ↦ false | kind.K ↦ false | kind.L ↦ false | kind.Other ↦ false | kind.NoKind ↦ false ]
-
--- "K: time 2 to 7, columns from 8."
-abbrev pub isK : Kind → Bool
-isK = elim [ kind.A ↦ false | kind.B ↦ false | kind.C ↦ false | kind.D ↦ false | kind.E ↦ false | kind.F ↦ false | kind.G ↦ false | kind.H ↦ false | kind.I ↦ false | kind.J ↦ false | kind.K ↦ true | kind.L ↦ false | kind.Other ↦ false | kind.NoKind ↦ false ]
 
 -- the lines whose kind passes a test, in their order
 abbrev pub linesWith : (Kind → Bool) → Lines → List (List ℕ)
@@ -39,24 +32,33 @@ linesWith test end = []
 linesWith test (broken n) = []
 linesWith test (line t ls) = cond (test (kindOf (getD t 0 0))) (t ∷ linesWith test ls) (linesWith test ls)
 
--- the B lines and the K lines of a file, each by its number from 0
-abbrev pub fixLine : List ℕ → ℕ → List ℕ
-fixLine file n = getD (linesWith isB (linesOf file)) n []
+-- the lines of a family, and the one with the number n, from 0
+abbrev pub linesOfFamily : Family → Lines → List (List ℕ)
+linesOfFamily f = linesWith λ k. isOf f (roleOf k)
 
-abbrev pub extraLine : List ℕ → ℕ → List ℕ
-extraLine file n = getD (linesWith isK (linesOf file)) n []
+abbrev pub lineOf : Family → List ℕ → ℕ → List ℕ
+lineOf f file n = getD (linesOfFamily f (linesOf file)) n []
 
 -- ---- one line
+
+-- what a line of a family says by its layout: a B line its fix, a K line its time
+abbrev pub ValueOf : Family → Type 0
+ValueOf family.B = Fix
+ValueOf family.K = ℕ
+
+abbrev pub saidOf : (f : Family) → List ℕ → Layout → Said (ValueOf f)
+saidOf family.B = fixSaid
+saidOf family.K = extraSaid
 
 -- "A column is read by its code as text"
 unfoldable pub textSaid : List ℕ → Layout → List ℕ → Said (List ℕ)
 textSaid l layout name = andThen (columnSaid l layout name) λ s. says (columnText l s)
 
 -- Line l by the old layout, and l′ by the new one: both say one value, and for every code of the old layout both say one text, and one number or no number.
-pub record AsBefore {A : Type 0} (said : List ℕ → Layout → Said A) (old new : Layout) (l l′ : List ℕ) : Type 0 where
-  pub value : A
-  pub before : said l old ≡ says value
-  pub after : said l′ new ≡ says value
+pub record AsBefore (f : Family) (old new : Layout) (l l′ : List ℕ) : Type 0 where
+  pub value : ValueOf f
+  pub before : saidOf f l old ≡ says value
+  pub after : saidOf f l′ new ≡ says value
   pub text : (name : List ℕ) → carries old (packedOf name) ≡ true → (t : List ℕ) × (textSaid l old name ≡ says t) × (textSaid l′ new name ≡ says t)
   pub number : (name : List ℕ) → carries old (packedOf name) ≡ true → numberSaid l′ new name ≡ numberSaid l old name
 
@@ -85,32 +87,27 @@ pub record MoreBits (old new : Layout) : Type 0 where
 -- ---- the file
 
 -- how many layout lines are put in
-abbrev pub putInJ : {i i′ : Layout} {ls ls′ : Lines} → FromJ i i′ ls ls′ → ℕ
-putInJ (without r) = 0
-putInJ (changed t t′ x r) = 0
-putInJ (put t′ r) = 1
-
-abbrev pub putInI : {ls ls′ : Lines} → FromI ls ls′ → ℕ
-putInI (without r) = putInJ r
-putInI (changed t t′ x r) = putInJ r
-putInI (put t′ r) = putInJ r + 1
+abbrev pub putInto : {fs : List Family} {old new : Layouts} {ls ls′ : Lines} → LayoutLines fs old new ls ls′ → ℕ
+putInto (all b) = 0
+putInto (without r) = putInto r
+putInto (changed e e′ x r) = putInto r
+putInto (put e′ r) = putInto r + 1
 
 abbrev pub putIn : {ls ls′ : Lines} → Wider ls ls′ → ℕ
-putIn (head h w) = putIn w
-putIn (from p) = putInI p
+putIn (front x w) = putIn w
+putIn (from r) = putInto r
 
--- What file′, of which f′ is said, has in common with file, of which f is said, where so many layout lines were put in: the date; the counts of B lines and K lines; the
--- declaration, the events and all other lines that are no I, J, B or K line; the first fix, the second and so on, and so the K lines, in every old value and every
--- old column.
+-- What file′, of which f′ is said, has in common with file, of which f is said, where so many layout lines were put in: the date; the count of B lines, and of K lines;
+-- the declaration, the events and all other lines of kinds that neither tell a layout nor have columns; the first fix, the second and so on, and so the K lines, in
+-- every old value and every old column.
 pub record ReadsAsBefore (file file′ : List ℕ) (f f′ : Flight) (more : ℕ) : Type 0 where
   pub date : f′ .date ≡ f .date
   pub lines : f′ .lines ≡ f .lines + more
-  pub bs : f′ .bs ≡ f .bs
-  pub ks : f′ .ks ≡ f .ks
-  pub declaration : linesWith isC (linesOf file′) ≡ linesWith isC (linesOf file)
-  pub events : linesWith isE (linesOf file′) ≡ linesWith isE (linesOf file)
-  pub others : (test : Kind → Bool) → test kind.I ≡ false → test kind.J ≡ false → test kind.B ≡ false → test kind.K ≡ false
-      → linesWith test (linesOf file′) ≡ linesWith test (linesOf file)
-  pub fixes : (n : ℕ) → n < f .bs → AsBefore fixSaid (f .fixes) (f′ .fixes) (fixLine file n) (fixLine file′ n)
-  pub extras : (n : ℕ) → n < f .ks → AsBefore extraSaid (f .extras) (f′ .extras) (extraLine file n) (extraLine file′ n)
-  pub presence : MoreBits (f .fixes) (f′ .fixes)
+  pub counts : (g : Family) → countOf g (f′ .counts) ≡ countOf g (f .counts)
+  pub declaration : linesWith (λ k. isDeclaring (roleOf k)) (linesOf file′) ≡ linesWith (λ k. isDeclaring (roleOf k)) (linesOf file)
+  pub events : linesWith (λ k. isEvent (roleOf k)) (linesOf file′) ≡ linesWith (λ k. isEvent (roleOf k)) (linesOf file)
+  pub others : (test : Kind → Bool) → ((k : Kind) (g : Family) → roleOf k ≡ role.Tells g → test k ≡ false)
+      → ((k : Kind) (g : Family) → roleOf k ≡ role.Columned g → test k ≡ false) → linesWith test (linesOf file′) ≡ linesWith test (linesOf file)
+  pub columned : (g : Family) (n : ℕ) → n < countOf g (f .counts)
+      → AsBefore g (layoutOf g (f .layouts)) (layoutOf g (f′ .layouts)) (lineOf g file n) (lineOf g file′ n)
+  pub presence : MoreBits (f .layouts .b) (f′ .layouts .b)

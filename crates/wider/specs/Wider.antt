@@ -1,30 +1,26 @@
 -- Demand 3, to add columns to the B lines or the K lines of a file: which lines may differ, and what each of them must still say.
 use Prim.Native.Nat.{ℕ, _+_, _-_}
-use Prim.Native.Char.{code}
-use mathlib.Core.Bool.{Bool, true, false}
+use mathlib.Core.Bool.{true, false}
 use mathlib.Core.List.{List, [], _∷_}
 use mathlib.Core.Option.{Option, none, some}
 use mathlib.Core.Path.{_≡_}
 use lib.ListN.{length, getD, take}
-use Rattle.rules.specs.Choice.{given, byte}
+use Rattle.rules.specs.Families.{firstStart, lineLetter, layoutOf, withLayout}
+use Rattle.rules.specs.Choice.{given, byte, Each}
 use Rattle.rules.specs.Refusals.{says}
 use Rattle.rules.specs.Chars.{characters}
 use Rattle.rules.specs.Listed.{keepsRule}
-use Rattle.rules.specs.Layouts.{emptyLayout, firstStart, entriesOf, spanOf, look, carries, columnText, lineLength}
+use Rattle.rules.specs.Layouts.{entriesOf, spanOf, look, carries, columnText, lineLength}
 use Rattle.rules.specs.Lines.{kindOf}
+use Rattle.rules.specs.Roles.{roleOf, isFront, isPlain}
+use Rattle.rules.specs.Order.{noFlight}
 use Rattle.rules.specs.Split.{Lines, end, line, linesOf}
 use Rattle.rules.specs.Reads.{layoutSaid}
 use Rattle.rules.specs.declared.Entry.{Entry}
 use Rattle.rules.specs.declared.Layout.{Layout}
 use Rattle.rules.specs.declared.Family.{Family}
 use Rattle.rules.specs.declared.Family.the-variants as family
-use Rattle.rules.specs.declared.Kind.{Kind}
-use Rattle.rules.specs.declared.Kind.the-variants as kind
-
--- every element is so
-abbrev pub Each : {A : Type 0} → (A → Type 0) → List A → Type 0
-Each P [] = Unit {0}
-Each P (x ∷ xs) = P x × Each P xs
+use Rattle.rules.specs.declared.Layouts.{Layouts}
 
 -- ---- a layout
 
@@ -58,40 +54,35 @@ pub record WiderLine (start : ℕ) (old new : Layout) (l l′ : List ℕ) : Type
 
 -- ---- the lines of a file, in the order of their kinds
 
--- "Line 1 is A, line 2 is H, then further H lines"
-abbrev pub isFront : Kind → Bool
-isFront = elim [ kind.A ↦ true | kind.B ↦ false | kind.C ↦ false | kind.D ↦ false | kind.E ↦ false | kind.F ↦ false | kind.G ↦ false | kind.H ↦ true | kind.I ↦ false | kind.J ↦ false | kind.K ↦ false | kind.L ↦ false | kind.Other ↦ false | kind.NoKind ↦ false ]
+-- After the layout lines: the lines of each family are widened from its old layout to its new one, the others stay.
+pub data AfterLayouts (old new : Layouts) : Lines → Lines → Type 0 where
+  done : AfterLayouts old new end end
+  same : {t : List ℕ} {ls ls′ : Lines} → isPlain (roleOf (kindOf (getD t 0 0))) ≡ true → AfterLayouts old new ls ls′ → AfterLayouts old new (line t ls) (line t ls′)
+  columned : {t t′ : List ℕ} {ls ls′ : Lines} (f : Family) → getD t 0 0 ≡ lineLetter f → WiderLine (firstStart f) (layoutOf f old) (layoutOf f new) t t′
+      → AfterLayouts old new ls ls′ → AfterLayouts old new (line t ls) (line t′ ls′)
 
--- the lines after the layout lines that have no columns
-abbrev pub isPlain : Kind → Bool
-isPlain = elim [ kind.A ↦ false | kind.B ↦ false | kind.C ↦ true | kind.D ↦ true | kind.E ↦ true | kind.F ↦ true | kind.G ↦ true | kind.H ↦ false | kind.I ↦ false | kind.J ↦ false | kind.K ↦ false | kind.L ↦ true | kind.Other ↦ true | kind.NoKind ↦ false ]
+-- At the places of the lines that tell the layouts of these families, in this order, behind the layouts told so far. At each place there is none before and after; or it
+-- is changed in place; or, where there was none, it is put in. Then come the other lines.
+pub data LayoutLines : List Family → Layouts → Layouts → Lines → Lines → Type 0 where
+  all : {old new : Layouts} {ls ls′ : Lines} → AfterLayouts old new ls ls′ → LayoutLines [] old new ls ls′
+  without : {f : Family} {fs : List Family} {old new : Layouts} {ls ls′ : Lines} → LayoutLines fs old new ls ls′ → LayoutLines (f ∷ fs) old new ls ls′
+  changed : {f : Family} {fs : List Family} {old new : Layouts} {t t′ : List ℕ} {i i′ : Layout} {ls ls′ : Lines} → layoutSaid f t ≡ says i → layoutSaid f t′ ≡ says i′
+      → Extends i i′ → LayoutLines fs (withLayout f i old) (withLayout f i′ new) ls ls′ → LayoutLines (f ∷ fs) old new (line t ls) (line t′ ls′)
+  put : {f : Family} {fs : List Family} {old new : Layouts} {t′ : List ℕ} {i′ : Layout} {ls ls′ : Lines} → layoutSaid f t′ ≡ says i′
+      → LayoutLines fs old (withLayout f i′ new) ls ls′ → LayoutLines (f ∷ fs) old new ls (line t′ ls′)
 
--- After the layout lines: B lines are widened from layout i to i′, K lines from j to j′, the others stay.
-pub data AfterLayouts (i i′ j j′ : Layout) : Lines → Lines → Type 0 where
-  done : AfterLayouts i i′ j j′ end end
-  same : {t : List ℕ} {ls ls′ : Lines} → isPlain (kindOf (getD t 0 0)) ≡ true → AfterLayouts i i′ j j′ ls ls′ → AfterLayouts i i′ j j′ (line t ls) (line t ls′)
-  fix : {t t′ : List ℕ} {ls ls′ : Lines} → getD t 0 0 ≡ code "B" → WiderLine (firstStart family.B) i i′ t t′ → AfterLayouts i i′ j j′ ls ls′
-      → AfterLayouts i i′ j j′ (line t ls) (line t′ ls′)
-  extra : {t t′ : List ℕ} {ls ls′ : Lines} → getD t 0 0 ≡ code "K" → WiderLine (firstStart family.K) j j′ t t′ → AfterLayouts i i′ j j′ ls ls′
-      → AfterLayouts i i′ j j′ (line t ls) (line t′ ls′)
+-- "then at most one I, then at most one J"
+abbrev pub families : List Family
+families = family.B ∷ family.K ∷ []
 
--- At the place of the I line, or of the J line: there is none before and after; or it is changed in place; or, where there was none, it is put in.
-pub data LayoutLine (f : Family) (Rest : Layout → Layout → Lines → Lines → Type 0) : Lines → Lines → Type 0 where
-  without : {ls ls′ : Lines} → Rest emptyLayout emptyLayout ls ls′ → LayoutLine f Rest ls ls′
-  changed : {t t′ : List ℕ} {old new : Layout} {ls ls′ : Lines} → layoutSaid f t ≡ says old → layoutSaid f t′ ≡ says new → Extends old new → Rest old new ls ls′
-      → LayoutLine f Rest (line t ls) (line t′ ls′)
-  put : {t′ : List ℕ} {new : Layout} {ls ls′ : Lines} → layoutSaid f t′ ≡ says new → Rest emptyLayout new ls ls′ → LayoutLine f Rest ls (line t′ ls′)
+-- where no such line came: "with NN 00, or no such line"
+abbrev pub noLayouts : Layouts
+noLayouts = noFlight .layouts
 
-abbrev pub FromJ : Layout → Layout → Lines → Lines → Type 0
-FromJ i i′ = LayoutLine family.K (AfterLayouts i i′)
-
-abbrev pub FromI : Lines → Lines → Type 0
-FromI = LayoutLine family.B FromJ
-
--- The lines of a file, and those of one with added columns: the A line and the H lines stay; then "at most one I, then at most one J"; then the other lines.
+-- The lines of a file, and those of one with added columns: the A line and the H lines stay; then come the layout lines, and then the other lines.
 pub data Wider : Lines → Lines → Type 0 where
-  head : {t : List ℕ} {ls ls′ : Lines} → isFront (kindOf (getD t 0 0)) ≡ true → Wider ls ls′ → Wider (line t ls) (line t ls′)
-  from : {ls ls′ : Lines} → FromI ls ls′ → Wider ls ls′
+  front : {t : List ℕ} {ls ls′ : Lines} → isFront (roleOf (kindOf (getD t 0 0))) ≡ true → Wider ls ls′ → Wider (line t ls) (line t ls′)
+  from : {ls ls′ : Lines} → LayoutLines families noLayouts noLayouts ls ls′ → Wider ls ls′
 
 -- file′ is file with columns added
 abbrev pub WiderFile : List ℕ → List ℕ → Type 0

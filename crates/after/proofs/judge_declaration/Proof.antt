@@ -1,12 +1,12 @@
 -- `after::judge_declaration` meets its contract. Assumes nothing.
 use borrow.Author.Needs.{needs}
 use borrow.Author.Tests.{eq-eqb, ne-eqb}
-use Rattle.rules.specs.Order.{ruled}
+use Rattle.rules.specs.Order.{declarationLine}
 use Rattle.after.proofs.judge_declaration.Statement.{statement}
 use Rattle.after.proofs.judge_declaration.Tie as tie
 
 pub judge-declaration-spec : {M : Type 1} → statement M
-unfolding ruled
+unfolding declarationLine
 judge-declaration-spec =
     tie.close
     (tie.spec

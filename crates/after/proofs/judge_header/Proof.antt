@@ -1,12 +1,12 @@
 -- `after::judge_header` meets its contract. Assumes nothing.
 use borrow.Author.Needs.{needs}
 use borrow.Author.Tests.{eq-eqb, ne-eqb}
-use Rattle.rules.specs.Order.{ruled}
+use Rattle.rules.specs.Order.{headerLine}
 use Rattle.after.proofs.judge_header.Statement.{statement}
 use Rattle.after.proofs.judge_header.Tie as tie
 
 pub judge-header-spec : {M : Type 1} → statement M
-unfolding ruled
+unfolding headerLine
 judge-header-spec =
     tie.close
     (tie.spec

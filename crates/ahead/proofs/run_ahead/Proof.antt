@@ -11,9 +11,9 @@ run-ahead-spec =
     tie.close
     (tie.spec
     (λ c κs. search needs)
-    (λ c. ran-none _ _ _ _ _ refl)
+    (λ c. ran-none _ _ _ _ _ _ refl)
     (λ c κs. search needs)
-    (λ c. ran-none _ _ _ _ _ refl)
+    (λ c. ran-none _ _ _ _ _ _ refl)
     (λ c κs. (c .before .before .before .before .may-run .ensures (not-false _ (c .before .before .before .if1 .left)), c .before .before .are-allowed .ensures (not-false _ (c .before .if2 .left))))
     (λ c. search needs)
     (λ c. search needs))

@@ -1,22 +1,12 @@
--- `file::check` meets its contract. Assumes nothing.
+-- `file::check` meets its contract: the table is lent. Assumes nothing.
 use borrow.Author.Needs.{needs}
-use borrow.Author.Tests.{le-leb, lt-leb}
-use Rattle.rules.specs.Files.{verdict}
-use Rattle.file.proofs.Turns.{unread}
 use Rattle.file.proofs.check.Statement.{statement}
 use Rattle.file.proofs.check.Tie as tie
 
 pub check-spec : {M : Type 1} → statement M
-unfolding verdict
 check-spec =
     tie.close
     (tie.spec
     (λ c κs. search needs)
-    (λ c κs. search needs)
-    (λ c. unread _ _ _ _ _ (rw (lt-leb _ _ (c .before .before .if1 .taken))) (c .before .unplaced .ensures) (c .refused .ensures))
-    (λ c κs. search needs)
-    (λ c κs. search needs)
-    (λ c. unread _ _ _ _ _ (rw (le-leb _ _ (c .before .before .before .if1 .left), lt-leb _ _ (c .before .before .if2 .taken))) (c .before .unplaced2 .ensures) (c .refused2 .ensures))
-    (λ c κs. search needs)
     (λ c. search needs)
-    (λ c. search needs))
+    (λ c. record { told = c .before .before .check-whole .ensures .told; entries = c .before .before .check-whole .ensures .entries }))

@@ -12,9 +12,8 @@ entry-spec =
     tie.close
     (tie.spec
     (λ c κs. search needs)
-    (λ c κs. search needs)
     (λ c. search needs)
-    (λ c. layout-refused _ _ _ _ _ (rw (c .before .before .before .before .before .family .ensures) at (c .before .before .before .before .layout-of .ensures)) (c .before .outcome .given .1) refl)
+    (λ c. layout-refused _ _ _ _ _ (c .before .before .before .before .told-layout .ensures) (c .before .outcome .given .1) refl)
     (λ c. search needs)
     (λ c κs. search needs)
-    (λ c. layout-then _ _ _ _ (rw (c .before .before .before .before .before .family .ensures) at (c .before .before .before .before .layout-of .ensures)) (c .before .enum-told .given .1) (c .entry-at .ensures)))
+    (λ c. layout-then _ _ _ _ (c .before .before .before .before .told-layout .ensures) (c .before .enum-told .given .1) (c .entry-at .ensures)))

@@ -1,7 +1,7 @@
--- `judge::ruled_line` meets its contract: each arm is the rule of its kind. Assumes nothing.
+-- `judge::ruled_line` meets its contract: each arm is the rule of its role. Assumes nothing.
 use borrow.Author.Needs.{needs}
-use borrow.Author.Tests.{le-leb}
 use Rattle.rules.specs.Order.{ruled}
+use Rattle.order.proofs.States.{few-more}
 use Rattle.judge.proofs.ruled_line.Statement.{statement}
 use Rattle.judge.proofs.ruled_line.Tie as tie
 
@@ -19,6 +19,10 @@ ruled-line-spec =
     (λ c κs. search needs)
     (λ c. search needs)
     (λ c κs. search needs)
+    (λ c. search needs)
+    (λ c κs. search needs)
+    (λ c. search needs)
+    (λ c κs. search needs)
     (λ c κs. search needs)
     (λ c. search needs)
     (λ c κs. search needs)
@@ -28,14 +32,6 @@ ruled-line-spec =
     (λ c κs. search needs)
     (λ c. search needs)
     (λ c κs. search needs)
-    (λ c κs. search needs)
-    (λ c. search needs)
-    (λ c κs. search needs)
-    (λ c. search needs)
-    (λ c κs. search needs)
-    (λ c. search needs)
-    (λ c κs. search needs)
-    (λ c. search needs)
     (λ c κs. search needs)
     (λ c. search needs)
     (λ c κs. search needs)
@@ -46,16 +42,14 @@ ruled-line-spec =
     (λ c. search needs)
     (λ c κs. search needs)
     (λ c. rw (c .before .before .enum-told .given .1) (rw (c .before .recorder .ensures) at (c .after-outcome .ensures)))
-    (λ c. rw (c .before .enum-told2 .given .1) (rw (le-leb _ _ (c .before .before .before .before .pre .0)) at (c .judge-fix .ensures)))
+    (λ c. rw (c .before .enum-told2 .given .1) (c .judge-header .ensures))
+    (λ c. rw (c .before .before .r .given .1) (c .judge-layout .ensures))
+    (λ c. rw (c .before .before .r2 .given .1) (rw (few-more _ _ (c .before .before .before .before .before .pre)) at (c .judge-columned .ensures)))
     (λ c. rw (c .before .enum-told3 .given .1) (c .judge-declaration .ensures))
-    (λ c. rw (c .before .before .enum-told4 .given .1) (rw (c .before .differential .ensures) at (c .after-outcome2 .ensures)))
-    (λ c. rw (c .before .before .enum-told5 .given .1) (rw (c .before .event .ensures) at (c .after-time .ensures)))
-    (λ c. rw (c .before .before .enum-told6 .given .1) (rw (c .before .satellites .ensures) at (c .after-time2 .ensures)))
+    (λ c. rw (c .before .before .enum-told4 .given .1) (rw (c .before .event .ensures) at (c .after-time .ensures)))
+    (λ c. rw (c .before .before .enum-told5 .given .1) (rw (c .before .satellites .ensures) at (c .after-time2 .ensures)))
+    (λ c. rw (c .before .before .enum-told6 .given .1) (rw (c .before .differential .ensures) at (c .after-outcome2 .ensures)))
     (λ c. rw (c .before .before .enum-told7 .given .1) (rw (c .before .shaped .ensures) at (c .after-outcome3 .ensures)))
-    (λ c. rw (c .before .enum-told8 .given .1) (c .judge-header .ensures))
-    (λ c. rw (c .before .enum-told9 .given .1) (c .judge-fixes .ensures))
-    (λ c. rw (c .before .enum-told10 .given .1) (c .judge-extras .ensures))
-    (λ c. rw (c .before .enum-told11 .given .1) (rw (le-leb _ _ (c .before .before .before .before .pre .1)) at (c .judge-extra .ensures)))
-    (λ c. rw (c .before .before .enum-told12 .given .1) (rw (c .before .shaped2 .ensures) at (c .after-outcome4 .ensures)))
-    (λ c. rw (c .before .before .enum-told13 .given .1) (rw (c .before .shaped3 .ensures) at (c .after-outcome5 .ensures)))
-    (λ c. rw (c .before .enum-told14 .given .1) (c .refused-at .ensures)))
+    (λ c. rw (c .before .before .enum-told8 .given .1) (rw (c .before .shaped2 .ensures) at (c .after-outcome4 .ensures)))
+    (λ c. rw (c .before .before .enum-told9 .given .1) (rw (c .before .shaped3 .ensures) at (c .after-outcome5 .ensures)))
+    (λ c. rw (c .before .enum-told10 .given .1) (c .refused-at .ensures)))

@@ -1,4 +1,6 @@
 -- `order::has_few` meets its contract. Assumes nothing.
+use mathlib.Core.Path.{sym}
+use borrow.Author.Needs.{needs}
 use borrow.Author.Tests.{le-leb, lt-leb}
 use Rattle.order.specs.States.{hasFew}
 use Rattle.order.proofs.has_few.Statement.{statement}
@@ -10,5 +12,5 @@ has-few-spec =
     tie.close
     (tie.spec
     (λ c. simp (lt-leb _ _ (c .if1 .taken)))
-    (λ c. simp (le-leb _ _ (c .before .before .if1 .left), lt-leb _ _ (c .if2 .taken)))
-    (λ c. rw (le-leb _ _ (c .before .before .before .if1 .left), le-leb _ _ (c .before .if2 .left))))
+    (λ c κs. search needs)
+    (λ c. rw (le-leb _ _ (c .before .if1 .left)) (c .are-few .ensures)))

@@ -14,6 +14,6 @@ order-of-spec =
     (tie.spec
     (λ c κs. search needs)
     (λ c κs. search needs)
-    (λ c. rw (← c .before .before .is-c .ensures) (search (tests, not-true, needs)))
+    (λ c. rw (← c .before .before .is-declaring .ensures) (search (tests, not-true, needs)))
     (λ c κs. search needs)
-    (λ c. rw (← c .before .before .before .is-c .ensures) (search (tests, not-false, needs))))
+    (λ c. rw (← c .before .before .before .is-declaring .ensures) (search (tests, not-false, needs))))

@@ -16,6 +16,4 @@ after-time-spec =
     (λ c κs. search needs)
     (λ c. rw (c .before .before .before .time .given .1, ← c .before .is-back .ensures, c .if1 .taken))
     (λ c. search needs)
-    (λ c. search needs)
-    (λ c. search needs)
-    (λ c. rw (c .before .before .before .before .before .before .time .given .1, ← c .before .before .before .before .is-back .ensures, c .before .before .before .if1 .left)))
+    (λ c. rw (c .before .before .before .before .time .given .1, ← c .before .before .is-back .ensures, c .before .if1 .left)))

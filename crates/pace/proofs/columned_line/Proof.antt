@@ -4,20 +4,11 @@ use Rattle.pace.proofs.Lines.{columned-told}
 use Rattle.pace.proofs.columned_line.Statement.{statement}
 use Rattle.pace.proofs.columned_line.Tie as tie
 
-fix : tie.Need-returns
-fix c = λ st g k e n. columned-told _ st _ _ g n _ _ _ _ _ _ _ k e (c .before .before .before .sure-line .ensures) (rw (c .before .enum-told .given .1)) (rw (c .before .enum-told .given .1)) (c .after-time .ensures)
-
-extra : tie.Need-returns-2
-extra c = λ st g k e n. columned-told _ st _ _ g n _ _ _ _ _ _ _ k e (c .before .before .before .sure-line .ensures) (rw (c .before .enum-told2 .given .1)) (rw (c .before .enum-told2 .given .1)) (c .after-time2 .ensures)
-
 pub columned-line-spec : {M : Type 1} → statement M
 columned-line-spec =
     tie.close
     (tie.spec
     (λ c κs. search needs)
-    (λ c. search needs)
     (λ c κs. search needs)
-    (λ c. search needs)
     (λ c κs. search needs)
-    fix
-    extra)
+    (λ c. λ st g k e n. columned-told _ st _ _ g n _ _ _ _ _ (c .before .before .before .before .before .pre .few) k e (c .before .before .sure-line .ensures) _ (c .before .one-more .ensures) (c .after-time .ensures)))

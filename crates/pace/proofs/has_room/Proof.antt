@@ -1,9 +1,8 @@
 -- `pace::has_room` meets its contract. Assumes nothing.
 use Prim.Native.Nat.{ℕ}
-use mathlib.Core.Path.{_≡_}
+use mathlib.Core.Path.{_≡_, sym, _∙_}
 use native.Mathlib.Omega.{arith}
 use borrow.Author.Needs.{needs}
-use borrow.Author.Tests.{leb-true}
 use Rattle.pace.proofs.has_room.Statement.{statement}
 use Rattle.pace.proofs.has_room.Tie as tie
 
@@ -12,5 +11,5 @@ has-room-spec =
     tie.close
     (tie.spec
     (λ c z. let y : _≡_ {A = ℕ} 0 1 = cc in absurd (omega arith))
-    (λ c z. let y : _≡_ {A = ℕ} 0 1 = cc in absurd (omega arith))
-    (λ c z. record { lines = search needs; bs = search needs; ks = leb-true _ _ z }))
+    (λ c κs. search needs)
+    (λ c z. record { lines = search needs; few = sym (c .are-few .ensures) ∙ z }))

@@ -3,7 +3,7 @@ use mathlib.Core.Path.{_≡_}
 use mir.Syntax.{w32}
 use mir.Val.{toZ, ofZ}
 use mir.ValLaws.{toZ-ofZ}
-use Rattle.trips.specs.Limits.{isAltitude}
+use Rattle.rules.specs.Limits.{isAltitude}
 use Rattle.range.proofs.Laws.{too-low, low-enough}
 use Rattle.range.proofs.is_altitude.Statement.{statement}
 use Rattle.range.proofs.is_altitude.Tie as tie

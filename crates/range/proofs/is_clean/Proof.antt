@@ -1,7 +1,7 @@
 -- `range::is_clean` meets its contract. Assumes nothing.
 use borrow.Author.Needs.{needs}
 use Rattle.rules.proofs.Links.{found-at, found-nothing}
-use Rattle.trips.specs.Limits.{isClean}
+use Rattle.rules.specs.Limits.{isClean}
 use Rattle.range.proofs.is_clean.Statement.{statement}
 use Rattle.range.proofs.is_clean.Tie as tie
 

@@ -1,7 +1,7 @@
 -- `range::is_date` meets its contract: each way out is a way through `isDate`. Assumes nothing.
 use borrow.Author.Needs.{needs}
 use Rattle.rules.proofs.Links.{tests}
-use Rattle.trips.specs.Limits.{isDate}
+use Rattle.rules.specs.Limits.{isDate}
 use Rattle.range.proofs.is_date.Statement.{statement}
 use Rattle.range.proofs.is_date.Tie as tie
 

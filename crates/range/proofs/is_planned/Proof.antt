@@ -1,7 +1,7 @@
 -- `range::is_planned` meets its contract. Assumes nothing.
 use mathlib.Core.Path.{sym, ap, _∙_}
 use borrow.Author.Needs.{needs}
-use Rattle.trips.specs.Limits.{isPlanned}
+use Rattle.rules.specs.Limits.{isPlanned}
 use Rattle.range.proofs.is_planned.Statement.{statement}
 use Rattle.range.proofs.is_planned.Tie as tie
 

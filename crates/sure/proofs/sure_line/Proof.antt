@@ -1,9 +1,10 @@
--- `sure::sure_line` meets its contract: its tests are those of the definition, in their order. Assumes nothing.
+-- `sure::sure_line` meets its contract: its tests are those of the definition in another order. Assumes nothing.
 use borrow.Author.Needs.{needs}
-use borrow.Author.Tests.{not-true, not-false}
+use mathlib.Core.Path.{sym, _∙_}
 use Rattle.rules.specs.Fields.{timeTold}
 use Rattle.rules.proofs.Links.{fields}
 use Rattle.sure.specs.Sure.{sureTime}
+use Rattle.sure.proofs.Easy.{by-digits, by-pattern}
 use Rattle.sure.proofs.sure_line.Statement.{statement}
 use Rattle.sure.proofs.sure_line.Tie as tie
 
@@ -14,11 +15,14 @@ sure-line-spec =
     (tie.spec
     (λ c. search fields depth 12)
     (λ c κs. search needs)
-    (λ c. search (fields, not-true) depth 12)
     (λ c κs. search needs)
-    (λ c. search needs)
-    (λ c. search needs)
-    (λ c. search (fields, not-true, not-false) depth 12)
+    (λ c κs. sym (rw (c .before .before .columns-from .ensures) at (c .before .is-digits-from .ensures)) ∙ c .if2 .taken)
+    (λ c.
+    by-digits _ _ _ _ (c .digits-time .result) (c .before .before .before .before .if1 .left)
+    (sym (rw (c .before .before .before .columns-from .ensures) at (c .before .before .is-digits-from .ensures)) ∙ c .before .if2 .taken)
+    (c .digits-time .ensures))
     (λ c κs. search needs)
-    (λ c. search (fields, not-true, not-false) depth 12)
-    (λ c. search (fields, not-true, not-false) depth 12))
+    (λ c.
+    by-pattern _ _ _ _ (c .pattern-time .result) (c .before .before .before .before .if1 .left)
+    (sym (rw (c .before .before .before .columns-from .ensures) at (c .before .before .is-digits-from .ensures)) ∙ c .before .if2 .left)
+    (c .pattern-time .ensures)))

@@ -17,5 +17,8 @@ finished-spec =
     (λ c. rw (ne-eqb _ _ (c .before .before .if1 .taken)) (rw (c .before .in-next .ensures) at (c .refused .ensures)))
     (λ c κs. search needs)
     (λ c κs. search needs)
-    (λ c. rw (eq-eqb _ _ (c .before .before .before .before .if1 .left), lt-leb _ _ (c .before .before .if2 .taken)) (rw (c .before .in-next2 .ensures) at (c .refused2 .ensures)))
-    (λ c. rw (eq-eqb _ _ (c .before .before .before .if1 .left), le-leb _ _ (c .before .if2 .left)) (record { answer = refl; flight = refl })))
+    (λ c κs. search needs)
+    (λ c.
+    rw (← c .before .before .before .before .ends-after .ensures, eq-eqb _ _ (c .before .before .before .before .before .if1 .left), lt-leb _ _ (c .before .before .if2 .taken)) (rw (c .before .in-next2 .ensures) at (c .refused2 .ensures)))
+    (λ c.
+    rw (← c .before .before .before .ends-after .ensures, eq-eqb _ _ (c .before .before .before .before .if1 .left), le-leb _ _ (c .before .if2 .left)) (record { answer = refl; flight = refl })))

@@ -1,7 +1,8 @@
 -- `layout::values::allowed` meets its contract: its tests are those of the definition, in their order. Assumes nothing.
 use mathlib.Core.Path.{_≡_}
 use borrow.Author.Tests.{not-true, not-false}
-use Rattle.rules.specs.Layouts.{firstStart, emptyLayout, entriesOf, allPlaced, allowed}
+use Rattle.rules.specs.Families.{firstStart}
+use Rattle.rules.specs.Layouts.{emptyLayout, entriesOf, allPlaced, allowed}
 use Rattle.chars.proofs.Laws.{le-true, gt-false, told-true, told-false, and-true, and-false}
 use borrow.Author.Needs.{needs}
 use Rattle.layout.proofs.values.allowed.Statement.{statement}

@@ -1,7 +1,7 @@
 -- `limits::lines::good_extra` meets its contract: each way out is a way through `goodExtra`. Assumes nothing.
 use borrow.Author.Needs.{needs}
 use Rattle.rules.proofs.Links.{tests}
-use Rattle.trips.specs.Limits.{goodExtra}
+use Rattle.rules.specs.Limits.{goodExtra}
 use Rattle.limits.proofs.lines.good_extra.Statement.{statement}
 use Rattle.limits.proofs.lines.good_extra.Tie as tie
 

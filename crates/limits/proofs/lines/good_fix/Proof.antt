@@ -2,7 +2,7 @@
 use borrow.Author.Needs.{needs}
 use borrow.Author.Tests.{not-true, not-false}
 use Rattle.rules.proofs.Links.{tests}
-use Rattle.trips.specs.Limits.{goodFix}
+use Rattle.rules.specs.Limits.{goodFix}
 use Rattle.limits.proofs.lines.good_fix.Statement.{statement}
 use Rattle.limits.proofs.lines.good_fix.Tie as tie
 

@@ -2,7 +2,7 @@
 use borrow.Author.Needs.{needs}
 use borrow.Author.Tests.{not-true, not-false}
 use Rattle.rules.proofs.Links.{tests}
-use Rattle.trips.specs.Limits.{goodHeadFields}
+use Rattle.rules.specs.Limits.{goodHeadFields}
 use Rattle.limits.proofs.lines.good_head_fields.Statement.{statement}
 use Rattle.limits.proofs.lines.good_head_fields.Tie as tie
 

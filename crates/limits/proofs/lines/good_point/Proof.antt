@@ -2,7 +2,7 @@
 use borrow.Author.Needs.{needs}
 use borrow.Author.Tests.{not-true, not-false}
 use Rattle.rules.proofs.Links.{tests}
-use Rattle.trips.specs.Limits.{goodPoint}
+use Rattle.rules.specs.Limits.{goodPoint}
 use Rattle.limits.proofs.lines.good_point.Statement.{statement}
 use Rattle.limits.proofs.lines.good_point.Tie as tie
 

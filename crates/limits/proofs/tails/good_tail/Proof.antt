@@ -2,7 +2,7 @@
 use borrow.Author.Needs.{needs}
 use borrow.Author.Tests.{not-true, not-false}
 use Rattle.rules.proofs.Links.{tests}
-use Rattle.trips.specs.Limits.{goodTail}
+use Rattle.rules.specs.Limits.{goodTail}
 use Rattle.limits.proofs.Laws.{allowed-is, length-is, length-differs}
 use Rattle.limits.proofs.tails.good_tail.Statement.{statement}
 use Rattle.limits.proofs.tails.good_tail.Tie as tie

@@ -1,21 +1,18 @@
 -- `show::lines::put_flight` meets its contract. Assumes nothing.
 use borrow.Author.Needs.{needs}
 use Rattle.rules.specs.Choice.{bytes}
-use Rattle.rules.specs.Listing.{okText}
-use Rattle.show.specs.Lines.{lengthsShown}
+use Rattle.show.specs.Lines.{okNumbers}
 use Rattle.pieces.proofs.Laws.{then}
 use Rattle.show.proofs.lines.put_flight.Statement.{statement}
 use Rattle.show.proofs.lines.put_flight.Tie as tie
 
 returns : tie.Need-returns
-unfolding okText bytes lengthsShown
+unfolding okNumbers bytes
 returns c =
-    let s3 = c .before .before .before .before .before .before in
-    let s2 = s3 .before .before .before .before .before in
-    let s1 = s2 .before .before .before .before .before in
-    let t = s1 .before .before .before .before .before in
-    then (t .put-text .ensures)
-    (then (s1 .put-shown .ensures) (then (s2 .put-shown2 .ensures) (then (s3 .put-shown3 .ensures) (c .before .before .put-lengths .ensures))))
+    let s2 = c .before .before .before .before .before .before in
+    let s1 = s2 .before .before .before .before in
+    let t = s1 .before .before .before .before in
+    then (t .put-counted .ensures) (then (s1 .put-shown .ensures) (then (s2 .put-shown2 .ensures) (c .before .before .put-byte .ensures)))
 
 pub put-flight-spec : {M : Type 1} → statement M
 put-flight-spec =
@@ -23,11 +20,7 @@ put-flight-spec =
     (tie.spec
     (λ c. search needs)
     (λ c κs. search needs)
-    (λ c. search needs)
     (λ c κs. search needs)
-    (λ c. search needs)
-    (λ c κs. search needs)
-    (λ c. search needs)
     (λ c κs. search needs)
     (λ c κs. search needs)
     (λ c. search needs)

@@ -1,29 +1,20 @@
 -- `show::lines::put_refusal` meets its contract. Assumes nothing.
 use borrow.Author.Needs.{needs}
 use Rattle.rules.specs.Choice.{bytes}
-use Rattle.rules.specs.Listing.{refusedText}
 use Rattle.pieces.proofs.Laws.{then}
+use Rattle.show.proofs.Laws.{refused-parts}
 use Rattle.show.proofs.lines.put_refusal.Statement.{statement}
 use Rattle.show.proofs.lines.put_refusal.Tie as tie
 
 returns : tie.Need-returns
-unfolding refusedText bytes
-returns c =
-    let s3 = c .before .before .before .before .before .before in
-    let s2 = s3 .before .before .before .before in
-    let s1 = s2 .before .before .before .before in
-    let t = s1 .before .before .before .before in
-    then (t .put-text .ensures)
-    (then (s1 .put-shown .ensures) (then (s2 .put-shown2 .ensures) (then (s3 .put-shown3 .ensures) (c .before .before .put-byte .ensures))))
+unfolding bytes
+returns c = rw refused-parts (then (c .before .before .before .before .before .before .put-counted .ensures) (c .before .before .put-byte .ensures))
 
 pub put-refusal-spec : {M : Type 1} → statement M
 put-refusal-spec =
     tie.close
     (tie.spec
     (λ c. search needs)
-    (λ c κs. search needs)
-    (λ c κs. search needs)
-    (λ c κs. search needs)
     (λ c κs. search needs)
     (λ c κs. search needs)
     (λ c. search needs)

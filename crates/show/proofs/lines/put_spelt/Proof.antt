@@ -10,19 +10,17 @@ returns : tie.Need-returns
 unfolding columnShown bytes
 returns c =
     let s = c .before .before .before .before .before .before in
-    let b = s .before .before .before .before .before in
-    let k = b .before .before .before .before in
-    let t = k .before .before .before .before in
-    then (t .put-text .ensures)
-    (then (k .put-code .ensures) (then (b .put-byte .ensures) (then (rw (s .before .column-text .ensures) at (s .put-text2 .ensures)) (c .before .before .put-byte2 .ensures))))
+    let t = s .before .before .before .before .before in
+    then (t .put-text .ensures) (then (rw (s .before .column-text .ensures) at (s .put-text2 .ensures)) (c .before .before .put-byte .ensures))
 
 pub put-spelt-spec : {M : Type 1} → statement M
 put-spelt-spec =
     tie.close
     (tie.spec
     (λ c. search needs)
-    (λ c κs. search needs)
-    (λ c κs. search needs)
+    (λ c. search needs)
+    (λ c. search needs)
+    (λ c. search needs)
     (λ c κs. search needs)
     (λ c κs. search needs)
     (λ c κs. search needs)

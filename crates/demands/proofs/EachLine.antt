@@ -1,0 +1,383 @@
+-- A line of each kind both ways: it passes its checks exactly when it is what the grammar calls a line of that kind, with the values that it says; B, K and C lines from the
+-- laws of each line both ways. Assumes nothing.
+use Prim.Native.Nat.{ℕ, _+_, _-_, _%_, _≤_, _<_}
+use Prim.Native.Char.{code}
+use mathlib.Core.Bool.{Bool, true, false, not, _&&_, cond}
+use mathlib.Core.List.{List, [], _∷_, _++_, append-nil}
+use mathlib.Core.Option.{none, some}
+use mathlib.Core.Path.{_≡_, refl, sym, _∙_, ap, subst}
+use mathlib.Core.Logic.{_↔_}
+use native.Mathlib.Omega.{arith}
+use borrow.Author.Tests.{eqb-true, eq-eqb, le-leb, leb-true}
+use lib.Dec.{eqb, leb}
+use lib.ListN.{length, getD, drop, length-drop, take, take-append-drop}
+use lib.Seq.{drop-length}
+use Rattle.rules.specs.Choice.{on, Each, need}
+use Rattle.rules.specs.Refusals.{says}
+use Rattle.rules.specs.Chars.{isValid, isCode, codesAt}
+use Rattle.rules.specs.Fields.{timeAt, timeText, dateAt, dateText, isEither}
+use Rattle.rules.specs.Lines.{shaped, aLine, isDateMark, dateLine, hLine, dLine, eLine, badPair, fLine, lLine, gLine, otherLine, headLine, pointLine, fixFields, shapedBy, bLine, kLine, columnedLine}
+use Rattle.rules.specs.declared.Date.{Date}
+use Rattle.rules.specs.Limits.{isTime, isDate, isClean, goodTail, goodFixFields, goodFix, goodExtra, goodHeadFields, goodHead}
+use Rattle.rules.specs.Families.{firstStart, lineLetter}
+use Rattle.rules.specs.Layouts.{entriesOf, allowed, columns}
+use Rattle.rules.specs.Reads.{fixSaid, extraSaid, headSaid, pointSaid}
+use Rattle.rules.specs.Writes.{fixText, extraText}
+use Rattle.rules.specs.declared.Layout.{Layout}
+use Rattle.rules.specs.declared.Family.{Family}
+use Rattle.rules.specs.declared.Family.the-variants as family
+use Rattle.rules.specs.declared.Fix.{Fix}
+use Rattle.rules.specs.declared.Head.{Head}
+use Rattle.rules.specs.declared.Point.{Point}
+use Rattle.rules.proofs.Inverse.{none-some, refuses-says, given-inv, need-inv, then-inv, and-inv, false-true}
+use Rattle.trips.proofs.Laws.{past, byte-there}
+use Rattle.trips.proofs.Times.{time-trip}
+use Rattle.trips.proofs.Dates.{date-trip}
+use Rattle.trips.proofs.Texts.{clean-valid}
+use Rattle.trips.proofs.LineTrip.{line-limits}
+use Rattle.trips.proofs.Fixes.{fix-trip, fields-there}
+use Rattle.trips.proofs.Extras.{extra-trip}
+use Rattle.trips.proofs.Heads.{head-trip, head-within}
+use Rattle.trips.proofs.Heads as heads
+use Rattle.trips.proofs.Points.{point-trip}
+use Rattle.demands.specs.Grammar.{Shaped, IsALine, IsDateLine, IsHLine, IsDLine, IsELine, IsFLine, IsLLine, IsGLine, IsOtherLine, Columns, IsBLine, IsKLine, IsColumned, IsHeadLine, IsPointLine}
+use Rattle.demands.proofs.Laws.{day-exactly, planned-exactly, given-none, each-map, are-valid, shape-there, shape-said, each-cut, valid-are}
+use Rattle.demands.proofs.LayoutLines.{IsTold}
+use Rattle.demands.proofs.Columns.{tail-exactly}
+
+-- ---- A
+
+pub a-there : (l : List ℕ) (u : Unit {0}) → getD l 0 0 ≡ code "A" → aLine l ≡ says u → IsALine l
+unfolding aLine
+a-there l u k e =
+    let s = then-inv (shaped 7 255 false l) u _ e in
+    let m = need-inv (codesAt l 1 3) _ (says u) _ refuses-says (s .2) in
+    let n = need-inv (codesAt l 4 3) _ (says u) _ refuses-says (m .1) in
+    record { letter = k; shape = shape-there 7 255 false l tt (s .1); maker = m .0; serial = n .0 }
+
+pub a-said : (l : List ℕ) → IsALine l → aLine l ≡ says tt
+unfolding aLine
+a-said l w = simp (shape-said 7 255 false l (w .shape), w .maker, w .serial)
+
+-- ---- line 2
+
+-- what is valid outside H lines is valid in them
+in-h : (b : ℕ) → isValid false b ≡ true → isValid true b ≡ true
+unfolding isValid
+in-h b e =
+    let common = leb 0x20 b && leb b 0x7D && not (eqb b 0x21) && not (eqb b 0x24) && not (eqb b 0x2A) && not (eqb b 0x5C) && not (eqb b 0x5E) in
+    ap (λ t. t && true) (and-inv common (not (eqb b 0x2C)) e .0)
+
+pub mark-there : (l : List ℕ) → isDateMark l ≡ true → drop 1 l ≡ code "F" ∷ code "D" ∷ code "T" ∷ code "E" ∷ drop 5 l
+unfolding isDateMark
+mark-there l e =
+    let p₃ = and-inv (eqb (getD l 1 0) 70 && eqb (getD l 2 0) 68 && eqb (getD l 3 0) 84) _ e in
+    let p₂ = and-inv (eqb (getD l 1 0) 70 && eqb (getD l 2 0) 68) _ (p₃ .0) in
+    let p₁ = and-inv (eqb (getD l 1 0) 70) _ (p₂ .0) in
+    byte-there l 1 2 70 refl (omega arith) (eqb-true _ _ (p₁ .0))
+    ∙ ap (λ x. 70 ∷ x) (byte-there l 2 3 68 refl (omega arith) (eqb-true _ _ (p₁ .1))
+    ∙ ap (λ x. 68 ∷ x) (byte-there l 3 4 84 refl (omega arith) (eqb-true _ _ (p₂ .1))
+    ∙ ap (λ x. 84 ∷ x) (byte-there l 4 5 69 refl (omega arith) (eqb-true _ _ (p₃ .1)))))
+
+pub date-there : (l : List ℕ) (d : Date) → getD l 0 0 ≡ code "H" → dateLine l ≡ says d → IsDateLine d l
+unfolding dateLine
+date-there l d k e =
+    let s = then-inv (shaped 11 11 true l) d _ e in
+    let m = need-inv (isDateMark l) _ (says d) _ refuses-says (s .2) in
+    let a = given-inv (dateAt l 5) _ (says d) _ refuses-says (m .1) in
+    let h = shape-there 11 11 true l tt (s .1) in
+    let n : length l ≡ 11 = omega arith in
+    let i : a .0 ≡ d = cc in
+    let r : drop 5 l ≡ dateText d = date-trip .there l 5 11 d refl (a .1 ∙ ap some i) ∙ ap (λ x. dateText d ++ drop x l) (sym n) ∙ ap (λ x. dateText d ++ x) (drop-length l) ∙ append-nil (dateText d) in
+    record {
+      text = byte-there l 0 1 72 refl (omega arith) k ∙ ap (λ x. 72 ∷ x) (mark-there l (m .0) ∙ ap (λ x. 70 ∷ 68 ∷ 84 ∷ 69 ∷ x) r);
+      day = day-exactly d .0 (date-trip .limits l 5 d (a .1 ∙ ap some i));
+    }
+
+date-text : Date → List ℕ
+date-text d = code "H" ∷ code "F" ∷ code "D" ∷ code "T" ∷ code "E" ∷ dateText d
+
+date-shape : (d : Date) → isDate d ≡ true → Shaped 11 11 true (date-text d)
+unfolding date-text isValid
+date-shape d g =
+    let n = date-trip .long d in
+    record {
+      long = omega arith;
+      short = omega arith;
+      valid = (refl, (refl, (refl, (refl, (refl, each-map (dateText d) in-h (are-valid (dateText d) (date-trip .clean d g)))))));
+    }
+
+pub date-said : (l : List ℕ) (d : Date) → IsDateLine d l → dateLine l ≡ says d
+unfolding dateLine isDateMark date-text
+date-said l d w =
+    let g = day-exactly d .1 (w .day) in
+    let s = shape-said 11 11 true (date-text d) (date-shape d g) in
+    let a = date-trip .here (date-text d) 5 d [] g (sym (append-nil (dateText d))) in
+    rw (w .text) (simp (s, a))
+
+-- ---- H
+
+pub h-there : (l : List ℕ) (u : Unit {0}) → getD l 0 0 ≡ code "H" → hLine l ≡ says u → IsHLine l
+unfolding hLine on
+h-there l u k e =
+    let s = then-inv (shaped 5 255 true l) u _ e in
+    let m = need-inv (isEither (getD l 1 0) (code "F") (code "O")) _ (says u) _ refuses-says (s .2) in
+    let n = need-inv (codesAt l 2 3) _ (says u) _ refuses-says (m .1) in
+    record { letter = k; shape = shape-there 5 255 true l tt (s .1); source = m .0; subject = n .0 }
+
+pub h-said : (l : List ℕ) → IsHLine l → hLine l ≡ says tt
+unfolding hLine on
+h-said l w = simp (shape-said 5 255 true l (w .shape), w .source, w .subject)
+
+-- ---- D
+
+pub d-there : (l : List ℕ) (u : Unit {0}) → getD l 0 0 ≡ code "D" → dLine l ≡ says u → IsDLine l
+unfolding dLine on
+d-there l u k e =
+    let s = then-inv (shaped 6 6 false l) u _ e in
+    let m = need-inv (isEither (getD l 1 0) (code "1") (code "2")) _ (says u) _ refuses-says (s .2) in
+    let n = need-inv (codesAt l 2 4) _ (says u) _ refuses-says (m .1) in
+    record { letter = k; shape = shape-there 6 6 false l tt (s .1); qualifier = m .0; station = n .0 }
+
+pub d-said : (l : List ℕ) → IsDLine l → dLine l ≡ says tt
+unfolding dLine on
+d-said l w = simp (shape-said 6 6 false l (w .shape), w .qualifier, w .station)
+
+-- ---- E
+
+-- a line that begins with a letter and a time
+time-text : (l : List ℕ) (x t : ℕ) → 0 < x → getD l 0 0 ≡ x → timeAt l 1 ≡ some t → l ≡ x ∷ (timeText t ++ drop 7 l)
+time-text l x t p k e = byte-there l 0 1 x refl p k ∙ ap (λ y. x ∷ y) (time-trip .there l 1 7 t refl e)
+
+text-time : (l : List ℕ) (x t : ℕ) (rest : List ℕ) → isTime t ≡ true → l ≡ x ∷ (timeText t ++ rest) → timeAt l 1 ≡ some t
+text-time l x t rest g e = time-trip .here l 1 t rest g (ap (drop 1) e)
+
+pub e-inv : (l : List ℕ) (t : ℕ) → eLine l ≡ says t → Shaped 10 255 false l × (timeAt l 1 ≡ some t) × (codesAt l 7 3 ≡ true)
+unfolding eLine
+e-inv l t e =
+    let s = then-inv (shaped 10 255 false l) t _ e in
+    let a = given-inv (timeAt l 1) _ (says t) _ refuses-says (s .2) in
+    let n = need-inv (codesAt l 7 3) _ (says t) _ refuses-says (a .2) in
+    let i : a .0 ≡ t = cc in
+    (shape-there 10 255 false l tt (s .1), a .1 ∙ ap some i, n .0)
+
+pub e-there : (l : List ℕ) (t : ℕ) → getD l 0 0 ≡ code "E" → eLine l ≡ says t → IsELine t l
+e-there l t k e =
+    let h = e-inv l t e in
+    record { rest = drop 7 l; text = time-text l 69 t (omega arith) k (h .1); good = time-trip .limits l 1 t (h .1); shape = h .0; event = h .2 }
+
+pub e-said : (l : List ℕ) (t : ℕ) → IsELine t l → (getD l 0 0 ≡ code "E") × (eLine l ≡ says t)
+unfolding eLine
+e-said l t w =
+    let h = text-time l 69 t (w .rest) (w .good) (w .text) in
+    (ap (λ x. getD x 0 0) (w .text), simp (shape-said 10 255 false l (w .shape), h, w .event))
+
+-- ---- F
+
+-- pairs of code characters, none odd, are code characters
+pairs-there : (l : List ℕ) (at : ℕ) → length l % 2 ≡ 0 → badPair at l ≡ none → Each (λ b. isCode b ≡ true) l
+unfolding badPair
+pairs-there [] at n e = tt
+pairs-there (a ∷ []) at n e = absurd (omega arith)
+pairs-there (a ∷ b ∷ l) at n e = go (isCode a) (isCode b) refl refl e (pairs-there l (at + 2) (omega arith))
+  where
+    go : (x y : Bool) → isCode a ≡ x → isCode b ≡ y → cond (x && y) (badPair (at + 2) l) (some at) ≡ none
+        → (badPair (at + 2) l ≡ none → Each (λ b. isCode b ≡ true) l) → Each (λ b. isCode b ≡ true) (a ∷ b ∷ l)
+    go true true p q e f = (p, (q, f e))
+    go true false p q e f = absurd (none-some (sym e))
+    go false y p q e f = absurd (none-some (sym e))
+
+pairs-here : (l : List ℕ) (at : ℕ) → Each (λ b. isCode b ≡ true) l → badPair at l ≡ none
+unfolding badPair
+pairs-here [] at h = refl
+pairs-here (a ∷ []) at h = refl
+pairs-here (a ∷ b ∷ l) at h = rw (h .0, h .1 .0) (pairs-here l (at + 2) (h .1 .1))
+
+pub f-inv : (l : List ℕ) (t : ℕ) → fLine l ≡ says t → Shaped 7 255 false l × (timeAt l 1 ≡ some t) × ((length l - 7) % 2 ≡ 0) × (badPair 7 (drop 7 l) ≡ none)
+unfolding fLine
+f-inv l t e =
+    let s = then-inv (shaped 7 255 false l) t _ e in
+    let a = given-inv (timeAt l 1) _ (says t) _ refuses-says (s .2) in
+    let n = need-inv (eqb ((length l - 7) % 2) 0) _ (says t) _ refuses-says (a .2) in
+    let p = given-none (badPair 7 (drop 7 l)) (says (a .0)) (says t) _ (λ v. refuses-says) (n .1) in
+    let i : a .0 ≡ t = cc in
+    (shape-there 7 255 false l tt (s .1), a .1 ∙ ap some i, eqb-true _ _ (n .0), p .0)
+
+pub f-there : (l : List ℕ) (t : ℕ) → getD l 0 0 ≡ code "F" → fLine l ≡ says t → IsFLine t l
+f-there l t k e =
+    let h = f-inv l t e in
+    let even : length (drop 7 l) % 2 ≡ 0 = ap (λ x. x % 2) (length-drop 7 l) ∙ h .2 in
+    record {
+      pairs = drop 7 l;
+      text = time-text l 70 t (omega arith) k (h .1);
+      good = time-trip .limits l 1 t (h .1);
+      shape = h .0;
+      even = even;
+      codes = pairs-there (drop 7 l) 7 even (h .3);
+    }
+
+pub f-said : (l : List ℕ) (t : ℕ) → IsFLine t l → (getD l 0 0 ≡ code "F") × (fLine l ≡ says t)
+unfolding fLine
+f-said l t w =
+    let h = text-time l 70 t (w .pairs) (w .good) (w .text) in
+    let d : drop 7 l ≡ w .pairs = past l 1 6 7 (timeText t) (w .pairs) (time-trip .long t) refl (ap (drop 1) (w .text)) in
+    let n : (length l - 7) % 2 ≡ 0 = ap (λ x. x % 2) (sym (length-drop 7 l) ∙ ap length d) ∙ w .even in
+    let p : badPair 7 (drop 7 l) ≡ none = ap (badPair 7) d ∙ pairs-here (w .pairs) 7 (w .codes) in
+    (ap (λ x. getD x 0 0) (w .text), simp (shape-said 7 255 false l (w .shape), h, eq-eqb _ _ n, p))
+
+-- ---- L, G and other
+
+pub l-there : (l : List ℕ) (u : Unit {0}) → getD l 0 0 ≡ code "L" → lLine l ≡ says u → IsLLine l
+l-there l u k e = record { letter = k; shape = shape-there 1 99 false l u e }
+
+pub l-said : (l : List ℕ) → IsLLine l → lLine l ≡ says tt
+l-said l w = shape-said 1 99 false l (w .shape)
+
+pub g-there : (l : List ℕ) (u : Unit {0}) → getD l 0 0 ≡ code "G" → gLine l ≡ says u → IsGLine l
+g-there l u k e = record { letter = k; shape = shape-there 2 255 false l u e }
+
+pub g-said : (l : List ℕ) → IsGLine l → gLine l ≡ says tt
+g-said l w = shape-said 2 255 false l (w .shape)
+
+pub other-there : (l : List ℕ) (u : Unit {0}) → code "M" ≤ getD l 0 0 → getD l 0 0 ≤ code "Z" → otherLine l ≡ says u → IsOtherLine l
+other-there l u p q e = record { from = p; to = q; shape = shape-there 1 255 false l u e }
+
+pub other-said : (l : List ℕ) → IsOtherLine l → otherLine l ≡ says tt
+other-said l w = shape-said 1 255 false l (w .shape)
+
+-- ---- B, K and C lines: the limits, by a layout that a line can tell
+
+pub start-low : (f : Family) → 1 ≤ firstStart f
+start-low family.B = omega arith
+start-low family.K = omega arith
+
+-- fields that are good, and columns
+limits : (f : Family) (layout : Layout) → IsTold f layout → (fields : Bool) (tail : List ℕ)
+    → ((need fields false λ u. goodTail (firstStart f) tail layout) ≡ true) ↔ ((fields ≡ true) × Columns (entriesOf layout) tail)
+limits f layout t fields tail =
+    let x = tail-exactly (firstStart f) tail layout (start-low f) (t .0) (t .1) in (
+      λ e. let w = need-inv fields false true _ false-true e in (w .0, x .0 (w .1)),
+      λ h. rw (h .0) (x .1 (h .1)),
+    )
+
+-- ---- a line as its reader reads it
+
+pub fix-reads : (layout : Layout) → IsTold family.B layout → (f : Fix) (l : List ℕ) → IsBLine layout f l → fixSaid l layout ≡ says f
+unfolding goodFix
+fix-reads layout t f l w =
+    ap (λ x. fixSaid x layout) (w .text) ∙ fix-trip layout .here f (w .tail) (limits family.B layout t (goodFixFields f) (w .tail) .1 (w .fields, w .columns))
+
+pub extra-reads : (layout : Layout) → IsTold family.K layout → (t : ℕ) (l : List ℕ) → IsKLine layout t l → extraSaid l layout ≡ says t
+unfolding goodExtra
+extra-reads layout i t l w =
+    ap (λ x. extraSaid x layout) (w .text) ∙ extra-trip layout .here t (w .tail) (limits family.K layout i (isTime t) (w .tail) .1 (w .time, w .columns))
+
+pub fix-read : (layout : Layout) → IsTold family.B layout → (f : Fix) (l : List ℕ) → fixSaid l layout ≡ says f → IsBLine layout f l
+unfolding goodFix
+fix-read layout t f l e =
+    let g = limits family.B layout t (goodFixFields f) (drop 35 l) .0 (line-limits (fix-trip layout) l f e) in
+    record { tail = drop 35 l; text = fix-trip layout .there l f e; fields = g .0; columns = g .1 }
+
+pub extra-read : (layout : Layout) → IsTold family.K layout → (t : ℕ) (l : List ℕ) → extraSaid l layout ≡ says t → IsKLine layout t l
+unfolding goodExtra
+extra-read layout i t l e =
+    let g = limits family.K layout i (isTime t) (drop 7 l) .0 (line-limits (extra-trip layout) l t e) in
+    record { tail = drop 7 l; text = extra-trip layout .there l t e; time = g .0; columns = g .1 }
+
+pub head-reads : (h : Head) (l : List ℕ) → IsHeadLine h l → headSaid l ≡ says h
+unfolding goodHead
+head-reads h l w =
+    let d : drop 25 l ≡ w .rest = ap (drop 25) (w .text) ∙ head-trip .behind h (w .rest) in
+    let k : length (w .rest) ≡ length l - 25 = ap length (sym d) ∙ length-drop 25 l in
+    let n : 25 + length (w .rest) ≤ 255 = omega (arith, w .shape .long, w .shape .short) in
+    let v = each-cut (λ b. isValid false b ≡ true) (take 25 l) (drop 25 l) (subst (Each (λ b. isValid false b ≡ true)) (sym (take-append-drop 25 l)) (w .shape .valid)) .1 in
+    let c : isClean (w .rest) ≡ true = ap isClean (sym d) ∙ clean-valid (drop 25 l) ∙ valid-are (drop 25 l) v in
+    let g : goodHeadFields h ≡ true = head-within h .1 (record {
+      declared = day-exactly (h .declared) .1 (w .declared);
+      time = w .time;
+      flight = planned-exactly (h .flight) .1 (w .flight);
+      task = le-leb _ _ (w .task);
+      turns = le-leb _ _ (w .turns);
+    }) in
+    ap headSaid (w .text) ∙ head-trip .here h (w .rest) (rw (g, le-leb _ _ n) c)
+
+pub head-read : (h : Head) (l : List ℕ) → headSaid l ≡ says h → IsHeadLine h l
+unfolding goodHead
+head-read h l e =
+    let g = need-inv (goodHeadFields h) false true _ false-true (line-limits head-trip l h e) in
+    let w = head-within h .0 (g .0) in
+    record {
+      rest = drop 25 l;
+      text = head-trip .there l h e;
+      declared = day-exactly (h .declared) .0 (w .declared);
+      time = w .time;
+      flight = planned-exactly (h .flight) .0 (w .flight);
+      task = leb-true _ _ (w .task);
+      turns = leb-true _ _ (w .turns);
+      shape = shape-there 25 255 false l tt (heads.head-there l h e .shape);
+    }
+
+pub point-reads : (l : List ℕ) (w : IsPointLine l) → pointSaid l ≡ says (w .point)
+point-reads l w = ap pointSaid (w .text) ∙ point-trip .here (w .point) (w .rest) (w .good)
+
+pub point-read : (p : Point) (l : List ℕ) → pointSaid l ≡ says p → (w : IsPointLine l) × (w .point ≡ p)
+point-read p l e = (record { point = p; rest = drop 18 l; text = point-trip .there l p e; good = line-limits point-trip l p e }, refl)
+
+-- ---- a line as the check reads it
+
+pub columned-letter : (f : Family) (layout : Layout) (t : ℕ) (l : List ℕ) → IsColumned f layout t l → getD l 0 0 ≡ lineLetter f
+unfolding fixText extraText
+columned-letter family.B layout t l w = ap (λ x. getD x 0 0) (w .2 .text)
+columned-letter family.K layout t l w = ap (λ x. getD x 0 0) (w .text)
+
+pub columned-there : (f : Family) (layout : Layout) (t : ℕ) (l : List ℕ) → IsTold f layout → getD l 0 0 ≡ lineLetter f → columnedLine f layout l ≡ says t → IsColumned f layout t l
+unfolding columnedLine fixSaid extraSaid
+columned-there family.B layout t l i k e = let r = then-inv (bLine layout l) t _ e in (r .0, cc, fix-read layout i (r .0) l (rw (eq-eqb _ _ k, i .0) (r .1)))
+columned-there family.K layout t l i k e = extra-read layout i t l (rw (eq-eqb _ _ k, i .0) e)
+
+pub columned-said : (f : Family) (layout : Layout) (t : ℕ) (l : List ℕ) → IsTold f layout → IsColumned f layout t l → columnedLine f layout l ≡ says t
+unfolding columnedLine fixSaid extraSaid
+columned-said family.B layout t l i w =
+    let a = need-inv (eqb (getD l 0 0) (code "B")) _ (says (w .0)) _ refuses-says (fix-reads layout i (w .0) l (w .2)) in
+    rw (need-inv (allowed 36 layout) _ (says (w .0)) _ refuses-says (a .1) .1) (ap says (w .1))
+columned-said family.K layout t l i w =
+    let a = need-inv (eqb (getD l 0 0) (code "K")) _ (says t) _ refuses-says (extra-reads layout i t l w) in
+    need-inv (allowed 8 layout) _ (says t) _ refuses-says (a .1) .1
+
+-- its time stands at 2 to 7
+pub columned-time : (f : Family) (layout : Layout) (t : ℕ) (l : List ℕ) → columnedLine f layout l ≡ says t → timeAt l 1 ≡ some t
+unfolding columnedLine bLine kLine
+columned-time family.B layout t l e =
+    let r = then-inv (bLine layout l) t _ e in
+    let s = then-inv (shapedBy 36 layout l) (r .0) _ (r .1) in
+    let x = then-inv (fixFields l) (r .0) _ (s .2) in
+    let c = then-inv (columns l layout) (r .0) _ (x .2) in
+    let i : x .0 ≡ r .0 = cc in
+    let j : r .0 .time ≡ t = cc in
+    fields-there l (r .0) (x .1 ∙ ap says i) .at-time ∙ ap some j
+columned-time family.K layout t l e =
+    let s = then-inv (shapedBy 8 layout l) t _ e in
+    let x = given-inv (timeAt l 1) _ (says t) _ refuses-says (s .2) in
+    let c = then-inv (columns l layout) t _ (x .2) in
+    let i : x .0 ≡ t = cc in
+    x .1 ∙ ap some i
+
+pub head-there : (h : Head) (l : List ℕ) → getD l 0 0 ≡ code "C" → headLine l ≡ says h → IsHeadLine h l
+unfolding headSaid
+head-there h l k e = head-read h l (rw (eq-eqb _ _ k) e)
+
+pub head-said : (h : Head) (l : List ℕ) → IsHeadLine h l → (getD l 0 0 ≡ code "C") × (headLine l ≡ says h)
+unfolding headSaid
+head-said h l w =
+    let a = need-inv (eqb (getD l 0 0) (code "C")) _ (says h) _ refuses-says (head-reads h l w) in
+    (eqb-true _ _ (a .0), a .1)
+
+pub point-there : (p : Point) (l : List ℕ) → getD l 0 0 ≡ code "C" → pointLine l ≡ says p → IsPointLine l
+unfolding pointSaid
+point-there p l k e = point-read p l (rw (eq-eqb _ _ k) e) .0
+
+pub point-said : (l : List ℕ) (w : IsPointLine l) → (getD l 0 0 ≡ code "C") × (pointLine l ≡ says (w .point))
+unfolding pointSaid
+point-said l w =
+    let a = need-inv (eqb (getD l 0 0) (code "C")) _ (says (w .point)) _ refuses-says (point-reads l w) in
+    (eqb-true _ _ (a .0), a .1)

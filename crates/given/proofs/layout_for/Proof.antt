@@ -1,0 +1,21 @@
+-- `layout_for` meets its contract: each way out is a way through `layoutFor`. Assumes nothing.
+use mathlib.Core.Path.{refl}
+use borrow.Author.Needs.{needs}
+use Rattle.known.proofs.Laws.{family-of, no-family}
+use Rattle.layout.proofs.Turns.{told-same}
+use Rattle.given.specs.Given.{layoutFor}
+use Rattle.given.proofs.layout_for.Statement.{statement}
+use Rattle.given.proofs.layout_for.Tie as tie
+
+pub layout-for-spec : {M : Type 1} → statement M
+unfolding layoutFor
+layout-for-spec =
+    tie.close
+    (tie.spec
+    (λ c κs. search needs)
+    (λ c. search needs)
+    (λ c. search needs)
+    (λ c κs. search needs)
+    (λ c. told-same _ _ _ (no-family _ _ _ _ _ (c .before .before .before .family .ensures) (c .before .enum-told .given .1) refl) (c .refused .ensures))
+    (λ c κs. search needs)
+    (λ c. told-same _ _ _ (family-of _ _ _ _ _ _ (c .before .before .before .before .family .ensures) (c .before .before .f .given .1) refl) (c .layout .ensures)))

@@ -1,0 +1,110 @@
+-- Document 01, 'Which kind may follow which': what each kind of line does in a file, and the part of the file that it leads to.
+use Prim.Native.Nat.{ℕ, _-_}
+use mathlib.Core.Bool.{Bool, true, false, _&&_, cond}
+use mathlib.Core.Option.{Option, none, some}
+use lib.Dec.{leb}
+use Rattle.rules.specs.Choice.{need}
+use Rattle.rules.specs.declared.Family.{Family}
+use Rattle.rules.specs.declared.Family.the-variants as family
+use Rattle.rules.specs.declared.Kind.{Kind}
+use Rattle.rules.specs.declared.Kind.the-variants as kind
+use Rattle.rules.specs.declared.Role.{Role}
+use Rattle.rules.specs.declared.Role.the-variants as role
+
+-- the kinds are listed here, and nowhere else
+abbrev pub roleOf : Kind → Role
+roleOf kind.A = role.Opens
+roleOf kind.B = role.Columned family.B
+roleOf kind.C = role.Declares
+roleOf kind.D = role.Differential
+roleOf kind.E = role.Event
+roleOf kind.F = role.Satellites
+roleOf kind.G = role.Seals
+roleOf kind.H = role.Heads
+roleOf kind.I = role.Tells family.B
+roleOf kind.J = role.Tells family.K
+roleOf kind.K = role.Columned family.K
+roleOf kind.L = role.Remark
+roleOf kind.Other = role.Other
+roleOf kind.NoKind = role.NoRole
+
+-- ---- tests of a role
+
+-- the first byte is A to Z
+abbrev pub isRole : Role → Bool
+isRole = elim [ role.Opens ↦ true | role.Heads ↦ true | role.Tells f ↦ true | role.Columned f ↦ true | role.Declares ↦ true | role.Event ↦ true | role.Satellites ↦ true | role.Differential ↦ true | role.Seals ↦ true | role.Remark ↦ true | role.Other ↦ true | role.NoRole ↦ false ]
+
+-- a line of a declaration
+abbrev pub isDeclaring : Role → Bool
+isDeclaring = elim [ role.Opens ↦ false | role.Heads ↦ false | role.Tells f ↦ false | role.Columned f ↦ false | role.Declares ↦ true | role.Event ↦ false | role.Satellites ↦ false | role.Differential ↦ false | role.Seals ↦ false | role.Remark ↦ false | role.Other ↦ false | role.NoRole ↦ false ]
+
+-- "Line 1 is A, line 2 is H, then further H lines"
+abbrev pub isFront : Role → Bool
+isFront = elim [ role.Opens ↦ true | role.Heads ↦ true | role.Tells f ↦ false | role.Columned f ↦ false | role.Declares ↦ false | role.Event ↦ false | role.Satellites ↦ false | role.Differential ↦ false | role.Seals ↦ false | role.Remark ↦ false | role.Other ↦ false | role.NoRole ↦ false ]
+
+-- a line after the layout lines that has no columns
+abbrev pub isPlain : Role → Bool
+isPlain = elim [ role.Opens ↦ false | role.Heads ↦ false | role.Tells f ↦ false | role.Columned f ↦ false | role.Declares ↦ true | role.Event ↦ true | role.Satellites ↦ true | role.Differential ↦ true | role.Seals ↦ true | role.Remark ↦ true | role.Other ↦ true | role.NoRole ↦ false ]
+
+-- "E: time, 3 code characters, text."
+abbrev pub isEvent : Role → Bool
+isEvent = elim [ role.Opens ↦ false | role.Heads ↦ false | role.Tells f ↦ false | role.Columned f ↦ false | role.Declares ↦ false | role.Event ↦ true | role.Satellites ↦ false | role.Differential ↦ false | role.Seals ↦ false | role.Remark ↦ false | role.Other ↦ false | role.NoRole ↦ false ]
+
+abbrev pub sameFamily : Family → Family → Bool
+sameFamily family.B family.B = true
+sameFamily family.B family.K = false
+sameFamily family.K family.B = false
+sameFamily family.K family.K = true
+
+-- a line of a family
+abbrev pub isOf : Family → Role → Bool
+isOf g = elim [ role.Opens ↦ false | role.Heads ↦ false | role.Tells f ↦ false | role.Columned f ↦ sameFamily g f | role.Declares ↦ false | role.Event ↦ false | role.Satellites ↦ false | role.Differential ↦ false | role.Seals ↦ false | role.Remark ↦ false | role.Other ↦ false | role.NoRole ↦ false ]
+
+-- ---- the parts of a file, as far as its lines have come, each later than the one before
+
+abbrev pub atStart : ℕ
+atStart = 0
+
+abbrev pub afterA : ℕ
+afterA = 1
+
+abbrev pub afterH : ℕ
+afterH = 2
+
+-- behind the line that tells a family's layout
+abbrev pub afterLayout : Family → ℕ
+afterLayout family.B = 3
+afterLayout family.K = 4
+
+abbrev pub inBody : ℕ
+inBody = 5
+
+abbrev pub afterG : ℕ
+afterG = 6
+
+abbrev pub afterLastG : ℕ
+afterLastG = 7
+
+-- from the parts `low` to `high` the line leads to the part `next`; from any other it may not come
+abbrev pub leading : ℕ → ℕ → ℕ → ℕ → Option ℕ
+leading low high next stage = need (leb low stage && leb stage high) none λ _. some next
+
+-- "After these come C, D, E, F, B, K, L and other, with no further A, H, I, J."
+abbrev pub bodyAfter : ℕ → Option ℕ
+bodyAfter stage = leading afterH inBody inBody stage
+
+-- "Line 1 is A, line 2 is H, then further H lines, then at most one I, then at most one J."
+-- "Then one or more G lines. After the first G only G or L; after an L that follows a G, only L. So a B after G is refused, as 000 A2.3.1 demands."
+unfoldable pub stageAfter : Role → ℕ → Option ℕ
+stageAfter role.Opens stage = leading atStart atStart afterA stage
+stageAfter role.Heads stage = leading afterA afterH afterH stage
+stageAfter (role.Tells f) stage = leading afterH (afterLayout f - 1) (afterLayout f) stage
+stageAfter (role.Columned f) stage = bodyAfter stage
+stageAfter role.Declares stage = bodyAfter stage
+stageAfter role.Event stage = bodyAfter stage
+stageAfter role.Satellites stage = bodyAfter stage
+stageAfter role.Differential stage = bodyAfter stage
+stageAfter role.Seals stage = leading afterH afterG afterG stage
+stageAfter role.Remark stage = cond (leb stage inBody) (bodyAfter stage) (leading afterG afterLastG afterLastG stage)
+stageAfter role.Other stage = bodyAfter stage
+stageAfter role.NoRole stage = none

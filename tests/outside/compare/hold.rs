@@ -1,0 +1,429 @@
+//! One file held: each operation of the library asked, and its answer, with all that was lent, held against the reading's.
+
+use std::collections::BTreeMap;
+use std::fmt::Debug;
+
+use crate::library::{self, ANSWER, FixValues, HeadValues, Told};
+use outside::files::random::Random;
+use outside::reading::layouts::FAMILIES;
+use outside::reading::refusals::BAD_VALUE;
+use outside::reading::{self, Answer, Date, Family, Fix, Head, Layout, Point, Position, Refusal};
+
+pub type Held<T> = Result<T, String>;
+
+/// How many answers of each operation were held, and with which numbers.
+#[derive(Default)]
+pub struct Tally {
+    pub answers: BTreeMap<&'static str, u64>,
+    pub refusals: BTreeMap<(&'static str, u32), u64>,
+}
+
+impl Tally {
+    fn same<T: PartialEq + Debug>(&mut self, operation: &'static str, asked: &dyn Debug, number: u32, ours: T, theirs: T) -> Held<()> {
+        *self.answers.entry(operation).or_default() += 1;
+        *self.refusals.entry((operation, number)).or_default() += 1;
+        if ours == theirs {
+            return Ok(());
+        }
+        Err(format!("{operation} of {asked:?}:\n  the library: {ours:?}\n  the reading: {theirs:?}"))
+    }
+}
+
+/// An answer of the reading as the library tells it.
+fn told<T, const N: usize>(answer: &Answer<T>, values: impl Fn(&T) -> [u64; N]) -> Told {
+    let mut told = Told { number: 0, answer: [0; ANSWER] };
+    match answer {
+        Ok(value) => told.answer[2..2 + N].copy_from_slice(&values(value)),
+        Err(r) => {
+            told.number = r.number;
+            told.answer[0] = r.line;
+            told.answer[1] = r.byte;
+        }
+    }
+    told
+}
+
+fn date_values(d: &Date) -> [u64; 3] {
+    [d.day.into(), d.month.into(), d.year.into()]
+}
+
+fn fix_values(f: &Fix) -> [u64; 6] {
+    let (a, o) = (f.latitude, f.longitude);
+    [f.time.into(), a.count, a.letter.into(), o.count, o.letter.into(), f.validity.into()]
+}
+
+fn head_values(h: &Head) -> [u64; 9] {
+    let [d, m, y] = date_values(&h.declared);
+    let [fd, fm, fy] = date_values(&h.flight.unwrap_or_default());
+    [d, m, y, h.time.into(), fd, fm, fy, h.task.into(), h.turns.into()]
+}
+
+/// The check with a table of so many entries, and every entry afterwards. The checks in C that the library is measured against are held too.
+pub fn check(tally: &mut Tally, file: &[u8], entries: usize) -> Held<(Answer<reading::Accepted>, Vec<u32>)> {
+    let lent: Vec<u32> = (0..entries as u32).map(|n| 0xDEAD_0000 ^ n).collect();
+    let mut theirs = lent.clone();
+    let answer = reading::check(file, &mut theirs);
+    let values = |a: &reading::Accepted| {
+        let [d, m, y] = date_values(&a.date);
+        let [b, k] = FAMILIES.map(|family| a.layouts.of(family).length(family) as u64);
+        [d, m, y, a.lines, a.b_lines, a.k_lines, b, k]
+    };
+    let checks: [(&str, fn(&[u8], &mut [u32]) -> Told); 4] = [
+        ("hive_check", library::check_file),
+        ("bench/check.c", library::check_by_hand),
+        ("bench/ahead.c", library::check_ahead),
+        ("bench/rival.c", library::check_of_rival),
+    ];
+    for (name, check) in checks {
+        let mut ours = lent.clone();
+        let raw = check(file, &mut ours);
+        let asked = format!("a table of {entries} entries");
+        tally.same(name, &asked, raw.number, raw, told(&answer, values))?;
+        let first = ours.iter().zip(&theirs).position(|(a, b)| a != b);
+        tally.same(name, &"its table", raw.number, first.map(|n| (n, ours[n])), first.map(|n| (n, theirs[n])))?;
+    }
+    Ok((answer, theirs))
+}
+
+fn bounds(found: &(usize, usize)) -> [u64; 2] {
+    [found.0 as u64, (found.1 - found.0) as u64]
+}
+
+/// A line by its number, for each entry of the table, for 0 and past the table, and by a table of places that no check gave.
+pub fn by_number(tally: &mut Tally, random: &mut Random, file: &[u8], table: &[u32]) -> Held<()> {
+    let mut hold = |table: &[u32], n: usize| {
+        let raw = library::line(file, table, n);
+        let answer = reading::line(file, table, n as u64);
+        tally.same("hive_line", &(n, table.get(n.wrapping_sub(1))), raw.number, raw, told(&answer, bounds))
+    };
+    for n in 0..=table.len() + 1 {
+        hold(table, n)?;
+    }
+    hold(table, usize::MAX)?;
+    // Places that no check gives: any place, the end, the first byte, and just past an LF with no CR before it.
+    let lone = (1..file.len()).find(|&n| file[n] == b'\n' && file[n - 1] != b'\r').unwrap_or(0);
+    let places = [random.below(file.len() + 3) as u32, file.len() as u32, 0, lone as u32 + 1];
+    for n in 1..=places.len() {
+        hold(&places, n)?;
+    }
+    Ok(())
+}
+
+/// Every line by stepping from 0, as the bounds of its text, until none is left or none can be found; and steps from places within and past the file.
+pub fn by_stepping(tally: &mut Tally, random: &mut Random, file: &[u8]) -> Held<Vec<(usize, usize)>> {
+    let mut hold = |place: usize| {
+        let raw = library::step(file, place);
+        let answer = reading::step(file, place);
+        let values = |found: &Option<(usize, usize)>| match found {
+            Some(found) => [found.0 as u64, (found.1 - found.0) as u64, found.1 as u64 + 2, 1],
+            None => [0; 4],
+        };
+        tally.same("hive_step", &place, raw.number, raw, told(&answer, values))?;
+        Ok::<_, String>(answer)
+    };
+    let mut lines = Vec::new();
+    let mut place = 0;
+    while let Ok(Some((start, end))) = hold(place)? {
+        lines.push((start, end));
+        place = end + 2;
+    }
+    for place in [random.below(file.len() + 1), file.len(), file.len() + 1, usize::MAX] {
+        let _ = hold(place)?;
+    }
+    Ok(lines)
+}
+
+/// A file's layout lines, as texts; no text where there is none.
+#[derive(Clone, Copy)]
+pub struct Given<'a> {
+    pub fixes: &'a [u8],
+    pub extras: &'a [u8],
+}
+
+/// The first I and J lines among the lines found, whatever they say.
+pub fn layouts<'a>(file: &'a [u8], lines: &[(usize, usize)]) -> Given<'a> {
+    let first = |kind: u8| lines.iter().map(|&(a, b)| &file[a..b]).find(|l| l.first() == Some(&kind)).unwrap_or(&[]);
+    Given { fixes: first(b'I'), extras: first(b'J') }
+}
+
+/// What the reading says by a layout given as text; 17 where that is none.
+fn by_layout<T>(layout: &Option<Layout>, read: impl Fn(&Layout) -> Answer<T>) -> Answer<T> {
+    layout.as_ref().map_or(Err(Refusal::of(BAD_VALUE)), read)
+}
+
+/// The readers of a line for the line's kind; now and then all readers, so that each meets lines of every kind.
+pub fn line(tally: &mut Tally, random: &mut Random, line: &[u8], number: usize, given: Given) -> Held<()> {
+    let all = random.once_in(40);
+    let kind = line.first().copied().unwrap_or(b'?');
+    if all || kind == b'B' {
+        fix(tally, random, line, given.fixes)?;
+    }
+    if all || kind == b'K' {
+        extra(tally, random, line, given.extras)?;
+    }
+    if all || number == 2 {
+        let raw = library::date(line);
+        tally.same("hive_date", &line, raw.number, raw, told(&reading::read_date(line), date_values))?;
+    }
+    if all || kind == b'E' {
+        let raw = library::event(line);
+        tally.same("hive_event", &line, raw.number, raw, told(&reading::read_event(line), |&t| [t.into()]))?;
+    }
+    if all || kind == b'F' {
+        let raw = library::satellites(line);
+        tally.same("hive_satellites", &line, raw.number, raw, told(&reading::read_satellites(line), |&t| [t.into()]))?;
+    }
+    if all || kind == b'C' {
+        declaration(tally, random, line)?;
+    }
+    if all || kind == b'I' || kind == b'J' {
+        layout(tally, random, line)?;
+    }
+    if all {
+        // The layouts of the other family.
+        fix(tally, random, line, given.extras)?;
+        extra(tally, random, line, given.fixes)?;
+    }
+    Ok(())
+}
+
+/// A B line: its fix, its columns, its degrees, and the line written again.
+fn fix(tally: &mut Tally, random: &mut Random, line: &[u8], given: &[u8]) -> Held<()> {
+    let layout = reading::layout_given(given, Family::Fixes);
+    let answer = by_layout(&layout, |y| reading::read_fix(line, y));
+    let (raw, heights) = library::fix(line, given);
+    let expected = answer.map_or([0, 0], |f| [f.pressure, f.gnss]);
+    tally.same("hive_fix", &(line, given), raw.number, (raw, heights), (told(&answer, fix_values), expected))?;
+    columns(tally, random, line, given, layout.as_ref())?;
+    if let (Ok(fix), Some(layout)) = (answer, &layout) {
+        degrees(tally, random, &fix)?;
+        write_fix(tally, random, fix, &line[35..], given, layout)?;
+    }
+    Ok(())
+}
+
+/// A K line: its time, its columns, and the line written again.
+fn extra(tally: &mut Tally, random: &mut Random, line: &[u8], given: &[u8]) -> Held<()> {
+    let layout = reading::layout_given(given, Family::Extras);
+    let answer = by_layout(&layout, |y| reading::read_extra(line, y));
+    let raw = library::extra(line, given);
+    tally.same("hive_extra", &(line, given), raw.number, raw, told(&answer, |&t| [t.into()]))?;
+    columns(tally, random, line, given, layout.as_ref())?;
+    if let (Ok(time), Some(layout)) = (answer, &layout) {
+        write_extra(tally, random, time, &line[7..], given, layout)?;
+    }
+    Ok(())
+}
+
+/// Each column of a layout by its code, as text and as a number; and one code that is any three bytes.
+fn columns(tally: &mut Tally, random: &mut Random, line: &[u8], given: &[u8], layout: Option<&Layout>) -> Held<()> {
+    let some = *random.pick(&[*b"ENL", *b"FXA", *b"ZZZ", *b"\0\xFF ", *b"enl", *b"TDS"]);
+    let codes = layout.iter().flat_map(|y| y.entries.iter().map(|e| e.code)).chain([some]);
+    for code in codes {
+        // The layout is judged for the line's kind; one for the other kind is none.
+        let family = if line.first() == Some(&b'B') { Family::Fixes } else { Family::Extras };
+        let layout = reading::layout_given(given, family);
+        let answer = by_layout(&layout, |y| reading::read_column(line, y, &code));
+        let raw = library::column(line, given, code);
+        let place = told(&answer, |e| [e.first as u64 - 1, (e.last - e.first + 1) as u64]);
+        tally.same("hive_column", &(line, given, code), raw.number, raw, place)?;
+        let answer = by_layout(&layout, |y| reading::read_number(line, y, &code));
+        let raw = library::column_number(line, given, code);
+        let expected = (told(&answer, |_| []), answer.unwrap_or(0));
+        tally.same("hive_column_number", &(line, given, code), raw.0.number, raw, expected)?;
+    }
+    Ok(())
+}
+
+/// An I or J line: each of its columns by its place, places that it has not, and the word of an I line.
+fn layout(tally: &mut Tally, random: &mut Random, line: &[u8]) -> Held<()> {
+    let family = if line.first() == Some(&b'J') { Family::Extras } else { Family::Fixes };
+    let answer = reading::read_layout(line, family);
+    let count = answer.as_ref().map_or(0, |y| y.entries.len());
+    for n in (0..=count + 1).chain([usize::MAX]) {
+        let entry = answer.as_ref().map_err(|r| *r).and_then(|y| y.entries.get(n.wrapping_sub(1)).ok_or(Refusal::of(BAD_VALUE)));
+        let raw = library::column_at(line, n);
+        let values = told(&entry, |e| [e.code[0].into(), e.code[1].into(), e.code[2].into(), e.first as u64, e.last as u64]);
+        tally.same("hive_column_at", &(line, n), raw.number, raw, values)?;
+    }
+    let answer = reading::layout_given(line, Family::Fixes).ok_or(Refusal::of(BAD_VALUE));
+    let raw = library::presence(line);
+    let word = told(&answer, |y| [y.presence().0.into(), y.presence().1.into()]);
+    tally.same("hive_presence", &line, raw.number, raw, word)?;
+    let (out, place) = output(random, line.len());
+    let (mut ours, mut theirs) = (out.clone(), out);
+    let raw = library::write_layout(line, place, &mut ours);
+    let answer = reading::write_layout_given(line, place, &mut theirs);
+    let expected = (told(&answer, |&after| [after as u64]), theirs);
+    tally.same("hive_write_layout", &(line, place), raw.number, (raw, ours), expected)
+}
+
+/// A fix's position for the map, and one that is spoiled.
+fn degrees(tally: &mut Tally, random: &mut Random, fix: &Fix) -> Held<()> {
+    let mut hold = |a: Position, o: Position| {
+        let raw = library::degrees((a.count, a.letter), (o.count, o.letter));
+        let expected = match reading::degrees(a, o) {
+            Ok((x, y)) => (0, [x.to_bits(), y.to_bits()]),
+            Err(r) => (r.number, [0, 0]),
+        };
+        tally.same("hive_degrees", &(a, o), raw.0, raw, expected)
+    };
+    hold(fix.latitude, fix.longitude)?;
+    if random.once_in(4) {
+        let (mut a, mut o) = (fix.latitude, fix.longitude);
+        let spoiled = if random.once_in(2) { &mut a } else { &mut o };
+        spoil_position(random, spoiled);
+        hold(a, o)?;
+    }
+    Ok(())
+}
+
+fn spoil_position(random: &mut Random, p: &mut Position) {
+    match random.below(3) {
+        0 => p.letter = *random.pick(b"NSEWn\0\xFF"),
+        1 => p.count = *random.pick(&[0, 5_400_000, 5_400_001, 10_800_000, 10_800_001, 1 << 32, u64::MAX]),
+        _ => p.count = random.below(12_000_000) as u64,
+    }
+}
+
+/// An output of a random length and a place in it, now and then past its end; filled, so that a byte written elsewhere shows.
+fn output(random: &mut Random, length: usize) -> (Vec<u8>, usize) {
+    let before = random.below(5);
+    let room = match random.below(6) {
+        0 => random.below(before + length + 3),
+        1 => before + length + 1,
+        2 => before + length + 2,
+        _ => before + length + 2 + random.below(5),
+    };
+    let place = if random.once_in(50) { *random.pick(&[room, room + 1, usize::MAX]) } else { before };
+    (vec![0xEE; room], place)
+}
+
+fn write_fix(tally: &mut Tally, random: &mut Random, fix: Fix, columns: &[u8], given: &[u8], layout: &Layout) -> Held<()> {
+    let (mut fix, mut columns) = (fix, columns.to_vec());
+    match random.below(14) {
+        0 => fix.time = *random.pick(&[86_399, 86_400, 360_000, u32::MAX]),
+        1 => spoil_position(random, &mut fix.latitude),
+        2 => spoil_position(random, &mut fix.longitude),
+        3 => fix.validity = *random.pick(b"AVB\0"),
+        4 => fix.pressure = *random.pick(&[-9_999, -10_000, 99_999, 100_000, 0, -1, i32::MIN, i32::MAX]),
+        5 => fix.gnss = *random.pick(&[-9_999, -10_000, 99_999, 100_000, 0, -1, i32::MIN, i32::MAX]),
+        6 | 7 => spoil_text(random, &mut columns),
+        _ => {}
+    }
+    let values = FixValues {
+        seconds: fix.time,
+        latitude: (fix.latitude.count, fix.latitude.letter),
+        longitude: (fix.longitude.count, fix.longitude.letter),
+        validity: fix.validity,
+        pressure: fix.pressure,
+        gnss: fix.gnss,
+    };
+    let (out, place) = output(random, 35 + columns.len());
+    let (mut ours, mut theirs) = (out.clone(), out);
+    let raw = library::write_fix(&values, &columns, given, place, &mut ours);
+    let answer = reading::write_fix(&fix, &columns, layout, place, &mut theirs);
+    let expected = (told(&answer, |&after| [after as u64]), theirs);
+    tally.same("hive_write_fix", &(values, columns, given, place), raw.number, (raw, ours), expected)
+}
+
+/// A byte changed, put in or taken out.
+fn spoil_text(random: &mut Random, text: &mut Vec<u8>) {
+    match random.below(4) {
+        0 => text.push(b'0'),
+        1 => drop(text.pop()),
+        _ if text.is_empty() => {}
+        2 => {
+            let at = random.below(text.len());
+            text[at] = *random.pick(b"-,A0 \r\n\xFF!");
+        }
+        _ => text.extend(vec![b'x'; random.below(300)]),
+    }
+}
+
+fn write_extra(tally: &mut Tally, random: &mut Random, time: u32, columns: &[u8], given: &[u8], layout: &Layout) -> Held<()> {
+    let (mut time, mut columns) = (time, columns.to_vec());
+    match random.below(8) {
+        0 => time = *random.pick(&[86_399, 86_400, 360_000, u32::MAX]),
+        1 | 2 => spoil_text(random, &mut columns),
+        _ => {}
+    }
+    let (out, place) = output(random, 7 + columns.len());
+    let (mut ours, mut theirs) = (out.clone(), out);
+    let raw = library::write_extra(time, &columns, given, place, &mut ours);
+    let answer = reading::write_extra(time, &columns, layout, place, &mut theirs);
+    let expected = (told(&answer, |&after| [after as u64]), theirs);
+    tally.same("hive_write_extra", &(time, columns, given, place), raw.number, (raw, ours), expected)
+}
+
+/// A C line, by both of its readers and both of its writers.
+fn declaration(tally: &mut Tally, random: &mut Random, line: &[u8]) -> Held<()> {
+    let head = reading::read_head(line);
+    let raw = library::head(line);
+    tally.same("hive_head", &line, raw.number, raw, told(&head, head_values))?;
+    let point = reading::read_point(line);
+    let raw = library::point(line);
+    let values = told(&point, |p| [0, p.latitude.count, p.latitude.letter.into(), p.longitude.count, p.longitude.letter.into()]);
+    tally.same("hive_point", &line, raw.number, raw, values)?;
+    if let Ok(head) = head {
+        write_head(tally, random, head, &line[25..])?;
+    }
+    if let Ok(point) = point {
+        write_point(tally, random, point, &line[18..])?;
+    }
+    Ok(())
+}
+
+fn spoil_date(random: &mut Random, date: &mut Date) {
+    match random.below(4) {
+        0 => date.day = *random.pick(&[0, 28, 29, 30, 31, 32, 255]),
+        1 => date.month = *random.pick(&[0, 2, 12, 13, 255]),
+        _ => date.year = *random.pick(&[0, 24, 1979, 1980, 2000, 2023, 2079, 2080, 2100, 65_535]),
+    }
+}
+
+fn write_head(tally: &mut Tally, random: &mut Random, head: Head, text: &[u8]) -> Held<()> {
+    let (mut head, mut text) = (head, text.to_vec());
+    match random.below(12) {
+        0 => spoil_date(random, &mut head.declared),
+        1 => head.flight.iter_mut().for_each(|d| spoil_date(random, d)),
+        2 => head.time = *random.pick(&[86_399, 86_400, u32::MAX]),
+        3 => head.task = *random.pick(&[9_999, 10_000, 65_535]),
+        4 => head.turns = *random.pick(&[99, 100, 255]),
+        5 | 6 => spoil_text(random, &mut text),
+        _ => {}
+    }
+    // In C a flight date of zeros is one that is not given.
+    head.flight = head.flight.filter(|d| *d != Date::default());
+    let day = |d: Date| (d.day as u8, d.month as u8, d.year as u16);
+    let values = HeadValues {
+        declared: day(head.declared),
+        seconds: head.time,
+        flight: day(head.flight.unwrap_or_default()),
+        task: head.task as u16,
+        turns: head.turns as u8,
+    };
+    let (out, place) = output(random, 25 + text.len());
+    let (mut ours, mut theirs) = (out.clone(), out);
+    let raw = library::write_head(&values, &text, place, &mut ours);
+    let answer = reading::write_head(&head, &text, place, &mut theirs);
+    let expected = (told(&answer, |&after| [after as u64]), theirs);
+    tally.same("hive_write_head", &(values, text, place), raw.number, (raw, ours), expected)
+}
+
+fn write_point(tally: &mut Tally, random: &mut Random, point: Point, text: &[u8]) -> Held<()> {
+    let (mut point, mut text) = (point, text.to_vec());
+    match random.below(8) {
+        0 => spoil_position(random, &mut point.latitude),
+        1 => spoil_position(random, &mut point.longitude),
+        2 => spoil_text(random, &mut text),
+        _ => {}
+    }
+    let (latitude, longitude) = ((point.latitude.count, point.latitude.letter), (point.longitude.count, point.longitude.letter));
+    let (out, place) = output(random, 18 + text.len());
+    let (mut ours, mut theirs) = (out.clone(), out);
+    let raw = library::write_point(latitude, longitude, &text, place, &mut ours);
+    let answer = reading::write_point(&point, &text, place, &mut theirs);
+    let expected = (told(&answer, |&after| [after as u64]), theirs);
+    tally.same("hive_write_point", &(latitude, longitude, text, place), raw.number, (raw, ours), expected)
+}

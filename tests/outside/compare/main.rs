@@ -1,0 +1,150 @@
+//! Holds the library against the independent reading of document 01 on generated files, valid and damaged:
+//!     compare [--seed N] [--files N] [--out FILE]
+//! Stops at the first difference, with that file's bytes in FILE. Fails too where some refusal number from 1 to 16 was never met, or some operation never asked.
+
+mod hold;
+#[path = "../library.rs"]
+mod library;
+
+use hold::{Held, Tally};
+use outside::files::generate::{self, Line, Sample};
+use outside::files::random::Random;
+use outside::files::{Known, Run, examples};
+use outside::options::Options;
+use outside::reading::{LIMIT, Refusal, Role};
+
+/// What was met in a run.
+#[derive(Default)]
+struct Met {
+    tally: Tally,
+    accepted: u64,
+    refused: [u64; 17],
+    lines: u64,
+    aimed: u64,
+}
+
+/// Every operation over one file. `thinned`: the readers of a line are asked for one line in so many.
+fn hold_file(met: &mut Met, random: &mut Random, file: &[u8], entries: usize, known: Known, thinned: usize) -> Held<()> {
+    let (answer, table) = hold::check(&mut met.tally, file, entries)?;
+    known.agrees(&answer)?;
+    met.aimed += u64::from(matches!(known, Known::Refused(_)));
+    match &answer {
+        Ok(_) => met.accepted += 1,
+        Err(Refusal { number, .. }) => met.refused[*number as usize] += 1,
+    }
+    hold::by_number(&mut met.tally, random, file, &table)?;
+    let lines = hold::by_stepping(&mut met.tally, random, file)?;
+    met.lines += lines.len() as u64;
+    let given = hold::layouts(file, &lines);
+    for (n, &(start, end)) in lines.iter().enumerate() {
+        if n < 200 || random.once_in(thinned) {
+            hold::line(&mut met.tally, random, &file[start..end], n + 1, given)?;
+        }
+    }
+    Ok(())
+}
+
+/// A check that lends an answer of the wrong length changes nothing.
+fn wrong_answers(met: &mut Met, file: &[u8]) -> Held<()> {
+    for length in [0, 1, library::ANSWER - 1, library::ANSWER + 1] {
+        let (mut table, mut answer) = ([7; 9], vec![library::BEFORE; length]);
+        let number = library::check_answering(file, &mut table, &mut answer);
+        if number != 17 || table != [7; 9] || answer.iter().any(|&a| a != library::BEFORE) {
+            return Err(format!("hive_check with an answer of {length}: {number}, {table:?}, {answer:?}"));
+        }
+        met.tally.answers.entry("hive_check").and_modify(|n| *n += 1);
+    }
+    Ok(())
+}
+
+/// A valid file of exactly `size` bytes: L lines before its first G fill it up.
+fn filled(random: &mut Random, size: usize) -> Sample {
+    let mut sample = generate::sample(random, size / 90);
+    let mut missing = size - sample.bytes().len();
+    let seal = sample.first(Role::Seal).unwrap();
+    let mut filling = Vec::new();
+    while missing > 0 {
+        let whole = match missing {
+            ..=101 => missing,
+            102..=104 => 50,
+            _ => 101,
+        };
+        filling.push(Line { role: Role::Remark, text: vec![b'L'; whole - 2] });
+        missing -= whole;
+    }
+    sample.lines.splice(seal..seal, filling);
+    sample
+}
+
+/// The listing's file, the marked lines, the empty file, a few long ones, one at the limit and one a byte over it.
+fn ends(met: &mut Met, seed: u64, out: &str) {
+    let mut random = Random::new(seed ^ 0xE4D5);
+    let five = hold_file(met, &mut random, examples::FIVE, 16_384, Known::Counts { lines: 5, b_lines: 1, k_lines: 0 }, 1);
+    stop_at(five, examples::FIVE, out);
+    for line in examples::MARKED {
+        let held = hold::line(&mut met.tally, &mut random, line, 2, hold::Given { fixes: b"", extras: b"" });
+        stop_at(held, line, out);
+    }
+    let nothing = hold_file(met, &mut random, b"", 3, Known::Refused(Refusal::of(1)), 1);
+    stop_at(nothing, b"", out);
+    for size in [300_000, 1_500_000, LIMIT] {
+        let sample = filled(&mut random, size);
+        let file = sample.bytes();
+        assert_eq!(file.len(), size);
+        let held = hold_file(met, &mut random, &file, sample.lines.len() + 3, Known::of(&sample), 50);
+        stop_at(held, &file, out);
+    }
+    let sample = filled(&mut random, LIMIT + 1);
+    let over = sample.bytes();
+    let held = hold_file(met, &mut random, &over, sample.lines.len(), Known::Refused(Refusal::of(2)), 1000);
+    stop_at(held, &over, out);
+}
+
+/// Ends the run at a difference, with the file kept.
+fn stop_at(held: Held<()>, file: &[u8], out: &str) {
+    if let Err(difference) = held {
+        std::fs::write(out, file).expect("the file of the difference can be kept");
+        println!("A DIFFERENCE, in the file of {} bytes kept in {out}:\n{difference}", file.len());
+        std::process::exit(1);
+    }
+}
+
+fn main() {
+    let options = Options::given(24_000, "difference.igc");
+    let mut met = Met::default();
+    ends(&mut met, options.seed, &options.out);
+    let run = Run::new(options.seed, 40);
+    for n in 0..options.files {
+        let mut random = run.random(n);
+        let made = run.make(&mut random, n);
+        let held = hold_file(&mut met, &mut random, &made.file, made.entries, made.known, 4);
+        let held = held.and_then(|()| wrong_answers(&mut met, &made.file));
+        stop_at(held.map_err(|d| format!("file {n} of seed {}: {d}", options.seed)), &made.file, &options.out);
+    }
+    summary(&met, &options);
+}
+
+fn summary(met: &Met, options: &Options) {
+    let refused: u64 = met.refused.iter().sum();
+    println!(
+        "outside: {} files of seed {} ({} lines) answered alike: {} accepted, {refused} refused",
+        met.accepted + refused,
+        options.seed,
+        met.lines,
+        met.accepted
+    );
+    println!("outside: {} of the refusals were also known from how the file was made, number, line and byte", met.aimed);
+    let each: Vec<String> = (1..=16).map(|n| format!("{n}: {}", met.refused[n])).collect();
+    println!("outside: refusals by number: {}", each.join(", "));
+    for (operation, count) in &met.tally.answers {
+        let numbers: Vec<String> =
+            met.tally.refusals.iter().filter(|((o, _), _)| o == operation).map(|((_, n), c)| format!("{n}: {c}")).collect();
+        println!("outside: {operation}: {count} answers held ({})", numbers.join(", "));
+    }
+    let unasked: Vec<&str> = library::OPERATIONS.into_iter().filter(|o| !met.tally.answers.contains_key(o)).collect();
+    let never: Vec<usize> = (1..=16).filter(|&n| met.refused[n] == 0).collect();
+    if !never.is_empty() || !unasked.is_empty() || met.accepted == 0 {
+        println!("outside: FAILED: accepted {} files, never met {never:?}, never asked {unasked:?}", met.accepted);
+        std::process::exit(1);
+    }
+}

@@ -1,0 +1,135 @@
+//! Files to try the reading and the library on, each made from a seed and its number in a run; and what is known of a file's answer from how it was made.
+
+pub mod damage;
+pub mod examples;
+pub mod generate;
+pub mod limits;
+pub mod random;
+mod rules;
+
+use crate::reading::refusals::TABLE_FULL;
+use crate::reading::{Accepted, Answer, Refusal, Role};
+use generate::Sample;
+use limits::Limit;
+use random::Random;
+
+/// What the maker of a file knows of its answer.
+pub enum Known {
+    Nothing,
+    Counts { lines: u64, b_lines: u64, k_lines: u64 },
+    Refused(Refusal),
+}
+
+impl Known {
+    pub fn of(sample: &Sample) -> Known {
+        Known::Counts { lines: sample.lines.len() as u64, b_lines: sample.count(Role::Fix), k_lines: sample.count(Role::Extra) }
+    }
+
+    /// What is known where the table has this many entries.
+    pub fn with_table(self, entries: usize) -> Known {
+        let entries = entries as u64;
+        let full = Known::Refused(Refusal { number: TABLE_FULL, line: entries + 1, byte: 0 });
+        match self {
+            Known::Counts { lines, .. } if entries < lines => full,
+            Known::Refused(r) if r.line > 0 && entries < r.line - 1 => full,
+            other => other,
+        }
+    }
+
+    pub fn agrees(&self, answer: &Answer<Accepted>) -> Result<(), String> {
+        let (agrees, known) = match (self, answer) {
+            (Known::Nothing, _) => return Ok(()),
+            (Known::Counts { lines, b_lines, k_lines }, _) => {
+                let counts = answer.as_ref().map(|a| (a.lines, a.b_lines, a.k_lines));
+                (counts == Ok((*lines, *b_lines, *k_lines)), format!("a valid file of {lines} lines"))
+            }
+            (Known::Refused(r), _) => (answer.as_ref().err() == Some(r), format!("refused with {r:?}")),
+        };
+        if agrees { Ok(()) } else { Err(format!("the reading itself: {answer:?}, yet the file was made as {known}")) }
+    }
+}
+
+/// A file of a run, the entries of the table lent with it, and what is known of its answer with that table.
+pub struct Made {
+    pub file: Vec<u8>,
+    pub entries: usize,
+    pub known: Known,
+}
+
+/// The files of a run: valid ones, ones damaged anywhere or at an aim, and each limit in turn.
+pub struct Run {
+    seed: u64,
+    limits: Vec<Limit>,
+    most_lines: usize,
+}
+
+impl Run {
+    /// Files of up to about so many body lines, now and then more.
+    pub fn new(seed: u64, most_lines: usize) -> Run {
+        Run { seed, limits: limits::all(), most_lines }
+    }
+
+    /// The source of numbers for a file of the run, and for whatever is then asked of it.
+    pub fn random(&self, number: u64) -> Random {
+        Random::new(self.seed.wrapping_mul(1_000_003).wrapping_add(number))
+    }
+
+    pub fn make(&self, random: &mut Random, number: u64) -> Made {
+        let turn = number / 4;
+        let (file, known) = match number % 4 {
+            0 => self.valid(random),
+            1 => self.spoiled(random),
+            2 => self.aimed(random, turn),
+            _ => self.at_limit(random, turn),
+        };
+        let entries = entries(random, &file);
+        Made { known: known.with_table(entries), file, entries }
+    }
+
+    fn sample(&self, random: &mut Random) -> Sample {
+        let body = match random.below(100) {
+            0 => random.within(0, self.most_lines * 20),
+            1..10 => random.within(0, self.most_lines * 5),
+            _ => random.within(0, self.most_lines),
+        };
+        generate::sample(random, body)
+    }
+
+    fn valid(&self, random: &mut Random) -> (Vec<u8>, Known) {
+        let sample = self.sample(random);
+        (sample.bytes(), Known::of(&sample))
+    }
+
+    fn spoiled(&self, random: &mut Random) -> (Vec<u8>, Known) {
+        let sample = self.sample(random);
+        (damage::anywhere(random, &sample), Known::Nothing)
+    }
+
+    /// A file damaged at one aim after the other; another file is taken where one has nothing to aim at.
+    fn aimed(&self, random: &mut Random, turn: u64) -> (Vec<u8>, Known) {
+        let aims = [3, 4, 5, 6, 7, 8, 9, 9, 9, 10, 11, 12, 13, 14, 16];
+        let aim = aims[(turn % aims.len() as u64) as usize];
+        loop {
+            let sample = self.sample(random);
+            if let Some((file, refusal)) = damage::aimed(random, &sample, aim) {
+                return (file, Known::Refused(refusal));
+            }
+        }
+    }
+
+    /// A file at one limit after the other, in an order that the seed shifts; neighbours in the list come far apart.
+    fn at_limit(&self, random: &mut Random, turn: u64) -> (Vec<u8>, Known) {
+        let at = turn.wrapping_mul(7_919).wrapping_add(self.seed) % self.limits.len() as u64;
+        (limits::file(random, &self.limits[at as usize]), Known::Nothing)
+    }
+}
+
+/// How many entries the lent table has: mostly enough and a few more, now and then too few.
+fn entries(random: &mut Random, file: &[u8]) -> usize {
+    let ends = file.iter().filter(|&&c| c == b'\n').count();
+    match random.below(8) {
+        0 => random.below(ends + 1),
+        1 => ends,
+        _ => ends + random.below(6),
+    }
+}

@@ -1,0 +1,181 @@
+//! A whole file: which line may follow which, the time order, and the check of all its lines.
+
+use super::fields::Date;
+use super::layouts::{Family, Layouts, layout_line};
+use super::lines::{
+    Role, date_line, differential, event_line, extra_line, fix_line, head_line, header, point_line, recorder, satellites_line, text_line,
+};
+use super::refusals::{Answer, BACK, EMPTY, EMPTY_LINE, ENDS_EARLY, KIND, LINE_END, ORDER, Read, Refusal, TABLE_FULL, TOO_LONG, refuse};
+
+/// "A file has 1 to 16,777,216 bytes (h)."
+pub const LIMIT: usize = 16_777_216;
+
+/// "A fall of more than 43,200 seconds from the one before counts as the next day".
+pub const HALF_DAY: u32 = 43_200;
+
+/// What an accepted file says.
+#[derive(Clone, PartialEq, Eq, Debug, Default)]
+pub struct Accepted {
+    pub date: Date,
+    pub layouts: Layouts,
+    pub lines: u64,
+    pub b_lines: u64,
+    pub k_lines: u64,
+}
+
+/// How far a file has come: what may follow is told from this.
+#[derive(Clone, Copy, PartialEq, PartialOrd)]
+enum Stage {
+    Start,
+    Recorder,
+    Headers,
+    FixLayout,
+    ExtraLayout,
+    Body,
+    Seal,
+    Remarks,
+}
+
+/// What the lines before have left behind for the next one.
+struct Course {
+    stage: Stage,
+    declared: bool,
+    points_due: u32,
+    time: Option<u32>,
+    said: Accepted,
+}
+
+impl Course {
+    /// What a line of this kind is here, or none where the kind is not allowed here.
+    fn role(&self, kind: u8) -> Option<Role> {
+        let stage = self.stage;
+        let in_body = stage <= Stage::Body;
+        let (role, allowed) = match kind {
+            // "a C head, then at once its point lines"
+            _ if self.points_due > 0 => (Role::Point, kind == b'C'),
+            // "Line 1 is A, line 2 is H, then further H lines"
+            b'A' => (Role::Recorder, stage == Stage::Start),
+            b'H' if stage == Stage::Recorder => (Role::Day, true),
+            b'H' => (Role::Header, stage == Stage::Headers),
+            _ if stage < Stage::Headers => return None,
+            // "then at most one I, then at most one J"
+            b'I' => (Role::Layout(Family::Fixes), stage == Stage::Headers),
+            b'J' => (Role::Layout(Family::Extras), stage <= Stage::FixLayout),
+            // "At most one declaration (h), begun before the first B"
+            b'C' => (Role::Head, in_body && !self.declared && self.said.b_lines == 0),
+            b'D' => (Role::Differential, in_body),
+            b'E' => (Role::Event, in_body),
+            b'F' => (Role::Satellites, in_body),
+            b'B' => (Role::Fix, in_body),
+            b'K' => (Role::Extra, in_body),
+            // "After the first G only G or L; after an L that follows a G, only L."
+            b'L' => (Role::Remark, true),
+            b'G' => (Role::Seal, stage <= Stage::Seal),
+            // "M to Z are "other" and carried (h)."
+            _ => (Role::Other, in_body),
+        };
+        allowed.then_some(role)
+    }
+
+    fn stage_after(&self, role: Role) -> Stage {
+        match role {
+            Role::Recorder => Stage::Recorder,
+            Role::Day | Role::Header => Stage::Headers,
+            Role::Layout(Family::Fixes) => Stage::FixLayout,
+            Role::Layout(Family::Extras) => Stage::ExtraLayout,
+            Role::Seal => Stage::Seal,
+            Role::Remark if self.stage >= Stage::Seal => Stage::Remarks,
+            _ => Stage::Body,
+        }
+    }
+
+    /// Checks 7 to 13 of a line, and what it says kept; the time of a timed line.
+    fn read(&mut self, line: &[u8], role: Role) -> Read<Option<u32>> {
+        let said = &mut self.said;
+        match role {
+            Role::Fix => return fix_line(line, &said.layouts.fixes).map(|f| Some(f.time)),
+            Role::Extra => return extra_line(line, &said.layouts.extras).map(Some),
+            Role::Event => return event_line(line).map(Some),
+            Role::Satellites => return satellites_line(line).map(Some),
+            Role::Recorder => recorder(line)?,
+            Role::Day => said.date = date_line(line)?,
+            Role::Header => header(line)?,
+            Role::Layout(family) => *said.layouts.of_mut(family) = layout_line(line, family)?,
+            Role::Head => {
+                // "as many as its turn points plus 4 (take-off, start, finish, landing)"
+                self.points_due = head_line(line)?.turns + 4;
+                self.declared = true;
+            }
+            Role::Point => {
+                point_line(line)?;
+                self.points_due -= 1;
+            }
+            Role::Differential => differential(line)?,
+            Role::Remark | Role::Seal | Role::Other => text_line(line, role)?,
+        }
+        Ok(None)
+    }
+
+    /// "A smaller fall, or one of exactly 43,200, is refused (h). Equal times are fine."
+    fn keep_time(&mut self, now: u32) -> Read<()> {
+        let before = self.time.unwrap_or(0);
+        if now < before && before - now <= HALF_DAY {
+            return refuse(BACK, 2);
+        }
+        self.time = Some(now);
+        Ok(())
+    }
+
+    /// Checks 4 to 14 of one line.
+    fn pass(&mut self, line: &[u8]) -> Read<()> {
+        let Some(&kind) = line.first() else { return refuse(EMPTY_LINE, 1) };
+        if !kind.is_ascii_uppercase() {
+            return refuse(KIND, 1);
+        }
+        let Some(role) = self.role(kind) else { return refuse(ORDER, 1) };
+        if let Some(now) = self.read(line, role)? {
+            self.keep_time(now)?;
+        }
+        self.stage = self.stage_after(role);
+        self.said.lines += 1;
+        self.said.b_lines += u64::from(role == Role::Fix);
+        self.said.k_lines += u64::from(role == Role::Extra);
+        Ok(())
+    }
+}
+
+/// A line at the front of the bytes, checked (3 to 14); its length.
+fn pass_first(course: &mut Course, rest: &[u8]) -> Read<usize> {
+    let length = rest.iter().position(|&c| c == b'\r' || c == b'\n').unwrap_or(rest.len());
+    if !rest[length..].starts_with(b"\r\n") {
+        return refuse(LINE_END, length + 1);
+    }
+    course.pass(&rest[..length])?;
+    Ok(length)
+}
+
+/// The whole check of a file. The table gets the offset of each good line.
+pub fn check(file: &[u8], table: &mut [u32]) -> Answer<Accepted> {
+    if file.is_empty() {
+        return Err(Refusal::of(EMPTY));
+    }
+    if file.len() > LIMIT {
+        return Err(Refusal::of(TOO_LONG));
+    }
+    let mut course = Course { stage: Stage::Start, declared: false, points_due: 0, time: None, said: Accepted::default() };
+    let mut at = 0;
+    while at < file.len() {
+        let number = course.said.lines + 1;
+        let length = pass_first(&mut course, &file[at..]).map_err(|fault| fault.at(number))?;
+        match table.get_mut(number as usize - 1) {
+            Some(entry) => *entry = at as u32,
+            None => return Err(Refusal { number: TABLE_FULL, line: number, byte: 0 }),
+        }
+        at += length + 2;
+    }
+    // "At least one G is needed (h)."
+    if course.points_due > 0 || course.stage < Stage::Seal {
+        return Err(Refusal { number: ENDS_EARLY, line: course.said.lines + 1, byte: 0 });
+    }
+    Ok(course.said)
+}

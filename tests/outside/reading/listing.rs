@@ -1,0 +1,56 @@
+//! The listing: what the program of that name prints of a file.
+
+use super::file::{Accepted, check};
+use super::layouts::{Family, Layout};
+use super::lines::{Fix, fix_line};
+use super::places::line;
+use super::refusals::{INPUT_OVER, Refusal};
+
+/// "Program's input over 65,536 bytes" is 21.
+const INPUT_LIMIT: usize = 65_536;
+
+/// "Lends a table of 16,384 entries".
+const ENTRIES: usize = 16_384;
+
+/// The whole output; each printed line ends with LF.
+pub fn listing(file: &[u8]) -> String {
+    if file.len() > INPUT_LIMIT {
+        return refusal(&Refusal::of(INPUT_OVER));
+    }
+    let mut table = vec![0; ENTRIES];
+    match check(file, &mut table) {
+        Ok(said) => flight(file, &table, &said),
+        Err(refused) => refusal(&refused),
+    }
+}
+
+/// "A refusal prints only REFUSED, number, line, byte."
+pub fn refusal(r: &Refusal) -> String {
+    format!("REFUSED {} {} {}\n", r.number, r.line, r.byte)
+}
+
+/// An accepted file with its table. "OK: lines, B lines, K lines, B length, K length."
+pub fn flight(file: &[u8], table: &[u32], said: &Accepted) -> String {
+    let layout = &said.layouts.fixes;
+    let lengths = (layout.length(Family::Fixes), said.layouts.extras.length(Family::Extras));
+    let mut out = format!("OK {} {} {} {} {}\n", said.lines, said.b_lines, said.k_lines, lengths.0, lengths.1);
+    for number in 1..=said.lines {
+        let (start, end) = line(file, table, number).unwrap();
+        let text = &file[start..end];
+        if text[0] == b'B' {
+            out += &fix(number, &fix_line(text, layout).unwrap(), text, layout);
+        }
+    }
+    out
+}
+
+/// "FIX: line, seconds, latitude and letter, longitude and letter, validity, pressure and GNSS altitude. COL: code and text, in layout order, under each fix."
+pub fn fix(number: u64, f: &Fix, text: &[u8], layout: &Layout) -> String {
+    let letters = [f.latitude.letter, f.longitude.letter, f.validity].map(char::from);
+    let places = format!("{} {} {} {}", f.latitude.count, letters[0], f.longitude.count, letters[1]);
+    let mut out = format!("FIX {number} {} {places} {} {} {}\n", f.time, letters[2], f.pressure, f.gnss);
+    for e in &layout.entries {
+        out += &format!("COL {} {}\n", String::from_utf8_lossy(&e.code), String::from_utf8_lossy(e.text(text)));
+    }
+    out
+}

@@ -1,0 +1,29 @@
+//! The rules of document 01 read independently, in plain Rust: what a file, a line, a column says, or which refusal it meets.
+//! Written from the document and from the list of open points alone, so that a mistake in the library's own definitions is not made here again. A sentence in
+//! quotation marks is the document's.
+
+pub mod characters;
+pub mod degrees;
+pub mod fields;
+pub mod file;
+pub mod given;
+pub mod layouts;
+pub mod lines;
+pub mod listing;
+pub mod places;
+pub mod readers;
+pub mod refusals;
+pub mod writers;
+
+pub use degrees::degrees;
+pub use fields::{Date, Position};
+pub use file::{Accepted, LIMIT, check};
+pub use given::{layout_given, write_layout_given};
+pub use layouts::{Entry, Family, LISTED, Layout, Layouts, Listed};
+pub use lines::{Fix, Head, Point, Role};
+pub use places::{line, step};
+pub use readers::{
+    read_column, read_date, read_event, read_extra, read_fix, read_head, read_layout, read_number, read_point, read_satellites,
+};
+pub use refusals::{Answer, Fault, Read, Refusal};
+pub use writers::{write_extra, write_fix, write_head, write_layout, write_point};

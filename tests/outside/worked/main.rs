@@ -1,0 +1,106 @@
+//! The reading held against document 01's own examples, and against others worked out by hand from it. Each file of this folder has the tests of one concern.
+#![cfg(test)]
+
+mod files;
+mod layouts;
+mod lines;
+mod made;
+mod marked;
+mod places;
+mod programs;
+mod readers;
+mod writers;
+
+use outside::reading::{Answer, Entry, Layout, Refusal, check};
+
+const A: &str = "AXYZ001";
+const DATE: &str = "HFDTE150724";
+const I2: &str = "I023638FXA3940SIU";
+const B40: &str = "B1200005130000N00015000WA001000012001208";
+const B35: &str = "B1200005130000N00015000WA0010000120";
+const G: &str = "GABC";
+/// No turn points: 4 points follow.
+const HEAD: &str = "C150724110000000000000100";
+const POINT: &str = "C5130000N00015000W";
+
+/// The parts of B35, to be changed one by one.
+struct Parts<'a> {
+    time: &'a str,
+    lat: &'a str,
+    lon: &'a str,
+    validity: &'a str,
+    pressure: &'a str,
+    gnss: &'a str,
+}
+
+const PARTS: Parts = Parts { time: "120000", lat: "5130000N", lon: "00015000W", validity: "A", pressure: "00100", gnss: "00120" };
+
+fn b(p: Parts) -> String {
+    ["B", p.time, p.lat, p.lon, p.validity, p.pressure, p.gnss].concat()
+}
+
+fn x(count: usize) -> String {
+    "x".repeat(count)
+}
+
+/// Lines, each with its CR LF.
+fn file<L: AsRef<[u8]>>(lines: &[L]) -> Vec<u8> {
+    lines.iter().flat_map(|l| l.as_ref().iter().copied().chain(*b"\r\n")).collect()
+}
+
+/// A verdict on a file: number, line and byte.
+type Verdict = (u32, u64, u64);
+
+const OK: Verdict = (0, 0, 0);
+
+/// The verdict with a table of so many entries, which is looked at on the way: it has the offset of each good line, and else what was lent.
+fn verdict_with(room: usize, file: &[u8]) -> Verdict {
+    let mut table = vec![7; room];
+    let answer = check(file, &mut table);
+    let (verdict, good) = match &answer {
+        Ok(said) => (OK, said.lines),
+        Err(r) => ((r.number, r.line, r.byte), r.line.saturating_sub(1)),
+    };
+    let past_ends = (2..file.len()).filter(|&at| file[at - 2..at] == *b"\r\n");
+    let mut offsets: Vec<u32> = [0].into_iter().chain(past_ends).take(good as usize).map(|at| at as u32).collect();
+    offsets.resize(room, 7);
+    assert_eq!(table, offsets, "the table");
+    verdict
+}
+
+fn verdict(file: &[u8]) -> Verdict {
+    verdict_with(100, file)
+}
+
+/// The verdict on A, the date line, these lines, G.
+fn body<L: AsRef<[u8]>>(lines: &[L]) -> Verdict {
+    let inner: Vec<&[u8]> = lines.iter().map(|l| l.as_ref()).collect();
+    verdict(&file(&[&[A.as_bytes(), DATE.as_bytes()], inner.as_slice(), &[G.as_bytes()]].concat()))
+}
+
+/// The same line as often as is said.
+fn times(count: usize, line: &str) -> Vec<&str> {
+    vec![line; count]
+}
+
+/// The refusal of a reading.
+fn no<T>(number: u32, byte: u64) -> Answer<T> {
+    Err(Refusal { number, line: 0, byte })
+}
+
+/// A layout from its entries.
+fn layout(entries: &[(usize, usize, &str)]) -> Layout {
+    let entry = |&(first, last, code): &(usize, usize, &str)| Entry { first, last, code: code.as_bytes().try_into().unwrap() };
+    Layout { entries: entries.iter().map(entry).collect() }
+}
+
+/// FXA at 36 to 38, SIU at 39 and 40: what I2 tells.
+fn two_columns() -> Layout {
+    layout(&[(36, 38, "FXA"), (39, 40, "SIU")])
+}
+
+/// Columns Z00, Z01 .. of one byte each, from 36 on.
+fn narrow_columns(count: usize) -> Layout {
+    let codes: Vec<String> = (0..count).map(|n| format!("Z{n:02}")).collect();
+    layout(&codes.iter().enumerate().map(|(n, code)| (36 + n, 36 + n, code.as_str())).collect::<Vec<_>>())
+}

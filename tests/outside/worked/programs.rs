@@ -1,0 +1,20 @@
+//! What the listing prints.
+
+use super::*;
+use outside::reading::listing::listing;
+
+#[test]
+fn listings() {
+    assert_eq!(listing(b""), "REFUSED 1 0 0\n");
+    assert_eq!(listing(&[b'x'; 65_536]), "REFUSED 3 1 65537\n");
+    assert_eq!(listing(&[b'x'; 65_537]), "REFUSED 21 0 0\n");
+    assert_eq!(listing(&file(&[A, DATE, "I013636FXA"])), "REFUSED 12 3 4\n");
+    let remarks = |count: usize| listing(&file(&[&[A, DATE], &*times(count, "L"), &["GX"]].concat()));
+    assert_eq!(remarks(16_381), "OK 16384 0 0 35 7\n");
+    assert_eq!(remarks(16_382), "REFUSED 15 16385 0\n");
+    let south = "B0000000000000S00000000WV-0012-9999";
+    let data = file(&[A, DATE, "J010809ZZZ", "K000000 -", south, "B0000010000001S00000001EV0000099999", "GX"]);
+    assert_eq!(listing(&data), "OK 7 2 1 35 9\nFIX 5 0 0 S 0 W V -12 -9999\nFIX 6 1 1 S 1 E V 0 99999\n");
+    let data = file(&[A, DATE, "I013638ZZZ", &format!("{B35} x "), "GX"]);
+    assert!(listing(&data).ends_with("COL ZZZ  x \n"));
+}

@@ -1,0 +1,118 @@
+//! The readers of one line.
+
+use super::*;
+use outside::reading::{
+    Date, Fix, Head, Point, Position, read_column, read_event, read_extra, read_fix, read_head, read_number, read_point, read_satellites,
+};
+
+fn at(count: u64, letter: u8) -> Position {
+    Position { count, letter }
+}
+
+#[test]
+fn fixes() {
+    let read = |line: &str, y: &Layout| read_fix(line.as_bytes(), y);
+    let none = Layout::default();
+    let expected =
+        Fix { time: 43_200, latitude: at(3_090_000, b'N'), longitude: at(15_000, b'W'), validity: b'A', pressure: 100, gnss: 120 };
+    assert_eq!(read(B40, &two_columns()), Ok(expected));
+    let south = Fix { latitude: at(0, b'S'), longitude: at(0, b'W'), validity: b'V', ..expected };
+    assert_eq!(read(&b(Parts { lat: "0000000S", lon: "00000000W", validity: "V", ..PARTS }), &none), Ok(south));
+    assert_eq!(read(B40, &none), no(7, 0));
+    assert_eq!(read(B35, &two_columns()), no(7, 0));
+    assert_eq!(read(&format!("K{}", &B35[1..]), &none), no(17, 0));
+    assert_eq!(read("", &none), no(17, 0));
+    assert_eq!(read("B", &none), no(7, 0));
+    assert_eq!(read(&format!("{}\r", &B35[..34]), &none), no(8, 35));
+    // 17 comes before 7: the layout is not allowed
+    assert_eq!(read("B", &layout(&[(37, 38, "ZZZ")])), no(17, 0));
+    for (text, entries) in [
+        ("00", vec![(36, 37, "FXA")]),
+        ("0", vec![(36, 36, "zzz")]),
+        ("0", vec![(36, 35, "ZZZ")]),
+        ("", vec![(8, 10, "HDT")]),
+        ("00", vec![(36, 36, "ZZZ"), (37, 37, "ZZZ")]),
+        (&"0".repeat(65), vec![(36, 100, "ZZZ")]),
+    ] {
+        assert_eq!(read(&format!("{B35}{text}"), &layout(&entries)), no(17, 0), "{entries:?}");
+    }
+    assert_eq!(read(&format!("{B35}{}", "0".repeat(14)), &narrow_columns(14)), no(17, 0));
+    assert!(read(&format!("{B35}{}", "0".repeat(13)), &narrow_columns(13)).is_ok());
+}
+
+#[test]
+fn columns() {
+    let four = layout(&[(36, 38, "FXA"), (39, 42, "ZZZ"), (43, 45, "FLP"), (46, 65, "WWW")]);
+    let line = |z: &str, f: &str| format!("{B35}012{z}{f}{}", "1".repeat(20));
+    let good = line("-000", "-07");
+    let text = |line: &str, y: &Layout, code: &[u8]| read_column(line.as_bytes(), y, code).map(|e| e.text(line.as_bytes()).to_vec());
+    let number = |line: &str, y: &Layout, code: &[u8]| read_number(line.as_bytes(), y, code);
+    assert_eq!(text(&good, &four, b"FXA"), Ok(b"012".to_vec()));
+    assert_eq!(text(&good, &four, b"ZZZ"), Ok(b"-000".to_vec()));
+    assert_eq!(text(&good, &four, b"ENL"), no(19, 0));
+    assert_eq!(text(&good, &four, b"\xff\r\n"), no(19, 0));
+    assert_eq!(number(&good, &four, b"FXA"), Ok(12));
+    assert_eq!(number(&good, &four, b"ZZZ"), Ok(0));
+    assert_eq!(number(&good, &four, b"FLP"), Ok(-7));
+    assert_eq!(number(&good, &four, b"WWW"), no(20, 0));
+    assert_eq!(number(&good, &four, b"ENL"), no(19, 0));
+    for z in ["- 12", "12- ", "--12", "+012"] {
+        assert_eq!(number(&line(z, "007"), &four, b"ZZZ"), no(20, 0), "{z}");
+    }
+    // 7 to 13 before 19 before 20
+    assert_eq!(number(&line("-   ", "0x7"), &four, b"ENL"), no(13, 43));
+    assert_eq!(text(&format!("B{}", &good[2..]), &four, b"ENL"), no(7, 0));
+    // how many digits, in B and K lines
+    let nines = "9".repeat(18);
+    for (text, value) in [
+        (nines.clone(), Some(999_999_999_999_999_999)),
+        (format!("9{nines}"), None),
+        (format!("-{nines}"), Some(-999_999_999_999_999_999)),
+        (format!("-9{nines}"), None),
+        ("-".to_string(), None),
+        ("-0".to_string(), Some(0)),
+        ("7".to_string(), Some(7)),
+        ("0".repeat(19), None),
+    ] {
+        let expected = value.map_or(no(20, 0), Ok);
+        assert_eq!(number(&format!("{B35}{text}"), &layout(&[(36, 35 + text.len(), "ZZZ")]), b"ZZZ"), expected, "{text} in B");
+        assert_eq!(number(&format!("K120000{text}"), &layout(&[(8, 7 + text.len(), "ZZZ")]), b"ZZZ"), expected, "{text} in K");
+    }
+    // K lines take the J layout
+    assert_eq!(text("K12000012a", &layout(&[(8, 9, "LAD"), (10, 10, "ZZZ")]), b"ZZZ"), Ok(b"a".to_vec()));
+    assert_eq!(text("K12000012a", &two_columns(), b"FXA"), no(17, 0));
+    assert_eq!(text(B40, &layout(&[(8, 9, "LAD")]), b"LAD"), no(17, 0));
+    assert_eq!(text("E120000PEV", &Layout::default(), b"LAD"), no(17, 0));
+    assert_eq!(text(B35, &Layout::default(), b"LAD"), no(19, 0));
+    assert_eq!(text("", &Layout::default(), b"LAD"), no(17, 0));
+}
+
+#[test]
+fn extras_heads_and_points() {
+    assert_eq!(read_extra(b"K000000", &Layout::default()), Ok(0));
+    assert_eq!(read_extra(b"K000000", &layout(&[(8, 8, "ZZZ")])), no(7, 0));
+    assert_eq!(read_extra(b"K000000", &layout(&[(36, 38, "FXA")])), no(17, 0));
+    assert_eq!(read_extra(b"J000000", &Layout::default()), no(17, 0));
+    assert_eq!(read_extra(b"", &Layout::default()), no(17, 0));
+    let declared = Date { day: 15, month: 7, year: 2024 };
+    let flight = Some(Date { day: 16, month: 7, year: 2024 });
+    assert_eq!(read_head(b"C150724110001160724123402Task one"), Ok(Head { declared, time: 39_601, flight, task: 1234, turns: 2 }));
+    assert_eq!(read_head(HEAD.as_bytes()), Ok(Head { declared, time: 39_600, flight: None, task: 1, turns: 0 }));
+    assert_eq!(read_head(POINT.as_bytes()), no(7, 0));
+    assert_eq!(read_head(format!("B{}", &HEAD[1..]).as_bytes()), no(17, 0));
+    let point = Point { latitude: at(3_090_000, b'N'), longitude: at(15_000, b'W') };
+    assert_eq!(read_point(format!("{POINT}x y").as_bytes()), Ok(point));
+    assert_eq!(read_point(HEAD.as_bytes()), no(9, 2));
+    assert_eq!(read_point(b"C"), no(7, 0));
+    assert_eq!(read_point(b""), no(17, 0));
+}
+
+#[test]
+fn events_and_satellites() {
+    assert_eq!(read_event(b"E120001PEVx"), Ok(43_201));
+    assert_eq!(read_event(b"E120001PE"), no(7, 0));
+    assert_eq!(read_event(b"F120001"), no(17, 0));
+    assert_eq!(read_satellites(b"F120001"), Ok(43_201));
+    assert_eq!(read_satellites(b"F120001040"), no(9, 8));
+    assert_eq!(read_satellites(b"E120001PEV"), no(17, 0));
+}
