@@ -147,7 +147,7 @@ kept needs {ls} {s} p zero h =
 -- ---- lines that are as the grammar says pass
 
 -- from a state on the lines pass, and the file may end, with this date and these layouts
-record Passed (needs : Seal) (st : State) (ls : List (List ℕ)) (date : Date) (layouts : Layouts) : Type 0 where
+record Finished (needs : Seal) (st : State) (ls : List (List ℕ)) (date : Date) (layouts : Layouts) : Type 0 where
   state : State
   passes : Passes st ls state
   whole : state .points ≡ 0
@@ -157,7 +157,7 @@ record Passed (needs : Seal) (st : State) (ls : List (List ℕ)) (date : Date) (
 
 -- behind lines of a part
 behind : {needs : Seal} {p : Part} {st m : State} {ls ks : List (List ℕ)} {date : Date} {layouts : Layouts} → Sound st → Section p st ls m
-    → (Sound m → Passed needs m ks date layouts) → Passed needs st (ls ++ ks) date layouts
+    → (Sound m → Finished needs m ks date layouts) → Finished needs st (ls ++ ks) date layouts
 behind g w k =
     let s = section-passes g w in
     let r = k (s .1) in
@@ -172,7 +172,7 @@ may-end seal.Strict gs stage s h f = f s
 
 module _ {needs : Seal} {p : Parts} {date : Date} {layouts : Layouts} {times : List ℕ} (w : Keeps needs p date layouts times) where
   abbrev On : State → List (List ℕ) → Type 0
-  On st ls = Passed needs st ls date layouts
+  On st ls = Finished needs st ls date layouts
 
   seal-on : (st : State) → Sound st → st .flight .date ≡ date → st .flight .layouts ≡ layouts → st .points ≡ 0 → afterH ≤ st .stage → st .stage ≤ inBody → On st (p .seal ++ p .remarks)
   seal-on st g d f z a b =

@@ -23,7 +23,7 @@ use Rattle.rules.specs.Limits.{isClean, badTail, goodTail}
 use Rattle.rules.specs.Families.{firstStart}
 use Rattle.rules.specs.Refusals.{says, refuses, number}
 use Rattle.rules.specs.Numbers.{numberAt, digitsOf, wholeOf}
-use Rattle.rules.specs.Reads.{entriesSaid, columnSaid, columnRest, numberSaid}
+use Rattle.rules.specs.Reads.{entriesSaid, columnSaid, columnTextSaid, numberSaid}
 use Rattle.rules.specs.declared.Signed.{Signed}
 use Rattle.rules.specs.declared.Family.{Family}
 use Rattle.rules.proofs.Inverse.{false-true, need-inv, none-some, given-inv}
@@ -266,7 +266,7 @@ module _ (layout : Layout) (l : List ℕ) (said : entriesSaid l layout ≡ says 
   column-absent name e = rw (said, e)
 
   column-read : (e : Entry) → look layout (e .code) ≡ some (spanOf e) → length (columnText l (spanOf e)) ≡ widthOf e → ReadsColumn layout l e
-  unfolding numberSaid columnRest number
+  unfolding numberSaid columnTextSaid number
   column-read e h n =
       let s = column-said (codeText (e .code)) (spanOf e) (ap (look layout) (packed-back (e .code)) ∙ h) in
       record { span = s; text = rw s; wide = n; number = rw s (number-of (columnText l (spanOf e)) (wholeOf (columnText l (spanOf e))) refl) }

@@ -14,7 +14,7 @@ use Rattle.rules.specs.Listed.{codeText}
 use Rattle.rules.specs.Layouts.{spanOf, entriesOf, columnText}
 use Rattle.rules.specs.Split.{boundsOf, lineText, stepAt}
 use Rattle.rules.specs.Files.{tableAfter}
-use Rattle.rules.specs.Reads.{fixSaid, extraSaid, headSaid, pointSaid, columnSaid, columnRest, numberSaid}
+use Rattle.rules.specs.Reads.{fixSaid, extraSaid, headSaid, pointSaid, columnSaid, columnTextSaid, numberSaid}
 use Rattle.rules.specs.declared.Reason.the-variants.{Absent, NotNumber}
 use Rattle.rules.specs.declared.Signed.{Signed}
 use Rattle.rules.specs.declared.Entry.{Entry}
@@ -43,7 +43,7 @@ NumberOf t (refuses n l b) = (refuses n l b ≡ no {A = Signed} NotNumber 0) × 
 -- "A column is read by its code as text, and as a whole number ..": an entry's code leads to the bytes from its first to its last, so many, and to their number
 pub record ReadsColumn (layout : Layout) (l : List ℕ) (e : Entry) : Type 0 where
   pub span : columnSaid l layout (codeText (e .code)) ≡ says (spanOf e)
-  pub text : columnRest l (columnSaid l layout (codeText (e .code))) ≡ columnText l (spanOf e)
+  pub text : columnTextSaid l (columnSaid l layout (codeText (e .code))) ≡ columnText l (spanOf e)
   pub wide : length (columnText l (spanOf e)) ≡ widthOf e
   pub number : NumberOf (columnText l (spanOf e)) (numberSaid l layout (codeText (e .code)))
 
