@@ -81,17 +81,20 @@ five-meet = record {
     };
     day = record { text = refl; day = record { from = lit≤ tt; to = lit≤ tt; days = 31; month = july; low = lit≤ tt; high = lit≤ tt } };
     headers = tt;
-    told = every (λ f. AtMostOne f (layoutOf f (record { b = fiveLayout; k = emptyLayout })) (every (λ f. List (List ℕ)) (bytes "I023638FXA3940SIU" ∷ []) [] f)) (given (record {
-      entries = fxa ∷ siu ∷ [];
-      tiles = (
-        record { starts = refl; ends = lit≤ tt; spelt = lit≤ tt; word = refl; wide = width-exactly 0x465841 3 .0 refl },
-        ((λ e. omega arith), tt),
-        (record { starts = refl; ends = lit≤ tt; spelt = lit≤ tt; word = refl; wide = width-exactly 0x534955 2 .0 refl }, tt, tt),
-      );
-      text = refl;
-      short = lit≤ tt;
-      slots = refl;
-    })) absent;
+    told = (
+      given (record {
+        entries = fxa ∷ siu ∷ [];
+        tiles = (
+          record { starts = refl; ends = lit≤ tt; spelt = lit≤ tt; word = refl; wide = width-exactly 0x465841 3 .0 refl },
+          ((λ e. omega arith), tt),
+          (record { starts = refl; ends = lit≤ tt; spelt = lit≤ tt; word = refl; wide = width-exactly 0x534955 2 .0 refl }, tt, tt),
+        );
+        text = refl;
+        short = lit≤ tt;
+        slots = refl;
+      }),
+      absent,
+    );
     body = undeclared (timed (columned family.B (
       theFix,
       refl,

@@ -81,14 +81,10 @@ pub record ReadsExtra (layout : Layout) (l : List ℕ) : Type 0 where
   pub reads : extraSaid l layout ≡ says time
   pub columns : ReadsColumns family.K layout l
 
--- a line of a family, by its layout
-abbrev pub ReadsColumned : Family → Layout → List ℕ → Type 0
-ReadsColumned family.B layout l = ReadsFix layout l
-ReadsColumned family.K layout l = ReadsExtra layout l
-
--- of whichever family the line is
-abbrev pub ReadsLine : Layouts → List ℕ → Type 0
-ReadsLine layouts l = (f : Family) → getD l 0 0 ≡ lineLetter f → ReadsColumned f (layoutOf f layouts) l
+-- a B line by the I layout, a K line by the J layout
+pub record ReadsLine (layouts : Layouts) (l : List ℕ) : Type 0 where
+  pub b : getD l 0 0 ≡ code "B" → ReadsFix (layouts .b) l
+  pub k : getD l 0 0 ≡ code "K" → ReadsExtra (layouts .k) l
 
 -- a C point line reads as the point whose line it is
 pub record ReadsPoint (l : List ℕ) : Type 0 where

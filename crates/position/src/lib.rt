@@ -4,8 +4,8 @@ ghost use mathlib.Core.Path.{_≡_};
 ghost use Rattle.rules.specs.Fields.{positionAt, positionTold};
 ghost use Rattle.rules.specs.Promises.{DigitsGiven, LatitudeAt, LongitudeAt};
 use rules::Number;
-use rules::PositionField;
 use rules::Position;
+use rules::PositionField;
 
 // Degrees of `width` digits, two or three of them, at a place of s.
 fn degrees_at(s: &[u8], at: usize, width: usize) -> Number
