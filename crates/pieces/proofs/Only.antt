@@ -8,5 +8,5 @@ module _ (out : List ℕ) (r r′ : ℕ) (after after′ : List ℕ) where
   pub only-shown : {text : List ℕ} → Shown text out r after → Shown text out r′ after′ → (r ≡ r′) × (after ≡ after′)
   only-shown s s′ = (s .count ∙ sym (s′ .count), s .bytes ∙ sym (s′ .bytes))
 
-  pub only-fills : (at : ℕ) (text : List ℕ) → Filled out at text r after → Filled out at text r′ after′ → (r ≡ r′) × (after ≡ after′)
-  only-fills at text s s′ = (s .next ∙ sym (s′ .next), s .bytes ∙ sym (s′ .bytes))
+  pub only-filled : (at : ℕ) (text : List ℕ) → Filled out at text r after → Filled out at text r′ after′ → (r ≡ r′) × (after ≡ after′)
+  only-filled at text s s′ = (s .next ∙ sym (s′ .next), s .bytes ∙ sym (s′ .bytes))

@@ -1,6 +1,6 @@
--- The promise of every public function whose types stand here, by name (a crate with an answer of its own names its promise in its specs/). Each is an equation between the answer, in the paper's terms, and what the rules say of the inputs; for what
--- is lent `&mut`, also between the bytes or entries afterwards and those lent. A function's `ensures` cites its promise, and so does the law that no second
--- answer meets it.
+-- The promise of every public function whose answer type stands in `rules`, by name (a crate with an answer of its own names its promise in its specs/). Each is an
+-- equation between the answer, in the paper's terms, and what the rules say of the inputs; for what is lent `&mut`, also between the bytes or entries afterwards and those
+-- lent. A function's `ensures` cites its promise, and so does the law that no second answer meets it.
 use Prim.Native.Nat.{ℕ}
 use mathlib.Core.Bool.{Bool}
 use mathlib.Core.List.{List}
