@@ -30,7 +30,7 @@ use Rattle.rules.proofs.Inverse.{refuses-says, need-inv}
 use Rattle.laws.proofs.Passing.{front-over}
 use Rattle.laws.proofs.Splitting.{none-left}
 use Rattle.demands.specs.Grammar.{IsText, OrderFrom, InOrder, IsALine, IsDateLine, AtMostOne, Parts, linesIn, SealedBy, Keeps, joinLines, Meets, beginning, flightOf}
-use Rattle.demands.proofs.Laws.{said-some}
+use Rattle.sound.proofs.Entries.{said-some}
 use Rattle.demands.proofs.Leading.{every, told-of, all-layouts, counts-more, Part, Leads, a-line, date-line, h-line, layout-line, body-line, g-line, l-line, Sound, sound-start, judge-leads, leads-judge}
 use Rattle.demands.proofs.Leading as part
 use Rattle.demands.proofs.Sections.{Passes, done, next, passes-join, all-passed, before, begins, lines-joined, none-fit, ended, comes, passes-run, stops-run, at-end, Fresh, passes-above, Section, split, above-end, section-passes, headers-there, headers-here, layout-there, layout-here, body-same, body-stage, body-there, body-here, seal-there, seal-here, seal-needed, remarks-there, remarks-here}

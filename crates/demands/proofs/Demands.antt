@@ -127,10 +127,10 @@ readable = reading.readable
 -- B lines and K lines, by a layout that is allowed
 module _ (i : Slotted) (l : List ℕ) where
   pub fixes-exactly : allowed 36 (i .layout) ≡ true → (f : Fix) → (fixSaid l (i .layout) ≡ says f) ↔ IsBLine (i .layout) f l
-  fixes-exactly g f = (fix-read (i .layout) (g, i .slots) f l, fix-reads (i .layout) (g, i .slots) f l)
+  fixes-exactly g f = (fix-read (i .layout) (record { right = g; full = i .slots }) f l, fix-reads (i .layout) (record { right = g; full = i .slots }) f l)
 
   pub extras-exactly : allowed 8 (i .layout) ≡ true → (t : ℕ) → (extraSaid l (i .layout) ≡ says t) ↔ IsKLine (i .layout) t l
-  extras-exactly g t = (extra-read (i .layout) (g, i .slots) t l, extra-reads (i .layout) (g, i .slots) t l)
+  extras-exactly g t = (extra-read (i .layout) (record { right = g; full = i .slots }) t l, extra-reads (i .layout) (record { right = g; full = i .slots }) t l)
 
 -- I lines and J lines
 pub layouts-exactly : (family : Family) (layout : Layout) (l : List ℕ) → (layoutSaid family l ≡ says layout) ↔ IsLayoutLine family layout l

@@ -11,7 +11,7 @@ use native.Mathlib.Omega.{arith}
 use borrow.Author.Tests.{le-leb, lt-leb, leb-true, leb-false, eqb-true, eqb-false, ne-eqb, ltb-true, ltb-false, le-ltb, lt-ltb}
 use lib.Dec.{leb, eqb, ltb}
 use lib.ListN.{length, getD}
-use Rattle.rules.specs.Choice.{bytes, leads}
+use Rattle.rules.specs.Choice.{bytes}
 use Rattle.rules.specs.Families.{lineLetter, layoutLetter, layoutOf, withLayout, countOf, oneMore}
 use Rattle.rules.specs.Files.{hasRoom}
 use Rattle.rules.specs.Refusals.{says}
@@ -27,7 +27,6 @@ use Rattle.rules.specs.declared.Kind.the-variants as kind
 use Rattle.rules.specs.declared.Role.{Role}
 use Rattle.rules.specs.declared.Role.the-variants as role
 use Rattle.rules.specs.declared.State.{State}
-use Rattle.rules.specs.Layouts.{isUnused, allPlaced, allowed}
 use Rattle.rules.specs.declared.Date.{Date}
 use Rattle.rules.specs.declared.Counts.{Counts}
 use Rattle.rules.specs.declared.Head.{Head}
@@ -38,9 +37,10 @@ use Rattle.laws.proofs.Passing as passes
 use Rattle.demands.specs.Coming.{isAmong, lettersBefore}
 use Rattle.demands.specs.FieldTexts.{Letter}
 use Rattle.demands.specs.Grammar.{Follows, IsALine, IsDateLine, IsHLine, IsLayoutLine, IsHeadLine, IsPointLine, IsLLine, IsGLine, Timed, columned, event, satellites, Untimed, differential, remark, other, AtMostOne, Parts, Fits}
+use Rattle.sound.proofs.Placed.{sound-empty}
 use Rattle.demands.proofs.Laws.{cond-false}
 use Rattle.demands.proofs.EachLine.{a-there, a-said, date-there, date-said, h-there, h-said, d-there, d-said, e-there, e-said, f-there, f-said, l-there, l-said, g-there, g-said, other-there, other-said, columned-letter, columned-there, columned-said, head-there, head-said, point-there, point-said}
-use Rattle.demands.proofs.LayoutLines.{IsTold, layout-there, layout-said, layout-allowed}
+use Rattle.demands.proofs.LayoutLines.{IsTold, layout-there, layout-said, layout-told}
 
 -- ---- the families, one by one
 
@@ -263,8 +263,7 @@ abbrev pub Sound : State → Type 0
 Sound st = (f : Family) → IsTold f (layoutOf f (st .flight .layouts))
 
 pub sound-start : Sound start
-unfolding allowed allPlaced leads isUnused
-sound-start = every (λ f. IsTold f (layoutOf f (start .flight .layouts))) (refl, refl) (refl, refl)
+sound-start = every (λ f. IsTold f (layoutOf f (start .flight .layouts))) (sound-empty _) (sound-empty _)
 
 -- ---- the order of roles
 
@@ -434,7 +433,7 @@ module _ (l : List ℕ) (st : State) where
   stays-sound (a-line z p w) g = g
   stays-sound (date-line d a b p n w) g = g
   stays-sound (h-line a b p n w) g = g
-  stays-sound (layout-line f i a b p w) g = put-by IsTold f i (st .flight .layouts) (layout-allowed f i l w) (λ x n. g x)
+  stays-sound (layout-line f i a b p w) g = put-by IsTold f i (st .flight .layouts) (layout-told f i l w) (λ x n. g x)
   stays-sound (body-line a b w) g = body-sound w g
   stays-sound (g-line a b p w) g = g
   stays-sound (l-line a b p w) g = g

@@ -35,7 +35,7 @@ use Rattle.demands.specs.Grammar.{Columns, IsColumned, IsGLine, IsLLine,
 use Rattle.demands.specs.Grammar as grammar
 use Rattle.demands.specs.Coming.{isAmong}
 use Rattle.demands.specs.Readings.{ReadsFix, ReadsExtra, ReadsColumns, ReadsLine, NoC, ReadsDeclaration, nowhere, declared, total, Steps, Readable}
-use Rattle.demands.proofs.Laws.{each-map, each-join}
+use Rattle.sound.proofs.Each.{each-map, each-join}
 use Rattle.demands.proofs.EachLine.{e-said, f-said, start-low, fix-reads, extra-reads, columned-letter, columned-said, head-reads, point-reads, head-said, point-said}
 use Rattle.demands.proofs.LayoutLines.{IsTold, layout-said, told}
 use Rattle.demands.proofs.Leading.{every, told-of, same-letter, all-pass, none-pass}
@@ -78,7 +78,7 @@ line-columns : (f : Family) (layout : Layout) (t : ℕ) (l tail : List ℕ) → 
 unfolding entriesSaid familyOf
 line-columns f layout t l tail i w d c =
     let k = columned-letter f layout t l w in
-    columns-read f layout l tail (start-low f) (i .0) (i .1) d c (rw (k, every (λ f. familyOf (lineLetter f) ≡ some f) refl refl f, i .0, columned-said f layout t l i w))
+    columns-read f layout l tail (start-low f) i d c (rw (k, every (λ f. familyOf (lineLetter f) ≡ some f) refl refl f, i .right, columned-said f layout t l i w))
 
 -- a line of a family, by its layout
 abbrev ReadsColumned : Family → Layout → List ℕ → Type 0

@@ -27,7 +27,8 @@ use Rattle.demands.specs.Coming.{isAmong}
 use Rattle.demands.specs.Grammar.{IsText, july, AtMostOne, absent, given, Timed, columned, event, satellites, Items, done, timed, untimed, Body, undeclared, declared, none, column, linesIn, Meets, joinLines}
 use Rattle.laws.proofs.Splitting.{lines-are-text}
 use Rattle.demands.proofs.Sections.{text-is}
-use Rattle.demands.proofs.Laws.{each-map, each-join, each-cut, are-valid, width-exactly, rule-exactly}
+use Rattle.sound.proofs.Each.{each-map, each-join, each-cut}
+use Rattle.demands.proofs.Laws.{are-valid, width-exactly, rule-exactly}
 use Rattle.demands.proofs.Leading.{every, none-pass}
 use Rattle.demands.proofs.EachLine.{columned-letter, head-said, point-said}
 use Rattle.demands.proofs.Reading.{Aside, other-than, untimed-aside, front, back, in-three, front-aside, back-by}
