@@ -22,7 +22,7 @@ use Rattle.rules.specs.declared.Layout.{Layout}
 use Rattle.rules.specs.declared.Fix.{Fix}
 use Rattle.rules.specs.declared.FixRead.{FixRead}
 use Rattle.rules.specs.declared.FixRead.the-variants as fixRead
-use Rattle.pieces.specs.Buffer.{Shown, Fills}
+use Rattle.pieces.specs.Buffer.{Shown, PiecePut}
 use Rattle.pieces.proofs.Laws.{then, nothing}
 use Rattle.show.specs.Lines.{columnLine}
 use Rattle.block.specs.Blocks.{endOf, textAt, printed, columnLines, Leaf, leaf, before, printedAt, leafFrom, leafAt, LeafPut, LinesFilled, Filled}
@@ -68,35 +68,35 @@ line-more l [] e = append-nil _
 line-more l (x ∷ es) e = ap (λ (r : List ℕ). columnLine l x ++ r) (line-more l es e) ∙ sym (append-assoc (columnLine l x) (columnLines l es) (columnLine l e))
 
 module _ (l : List ℕ) (layout : Layout) (out : List ℕ) (at : ℕ) where
-  pub no-columns : Fills out at (columnLines l (take 0 (entriesOf layout))) at out
+  pub no-columns : PiecePut out at (columnLines l (take 0 (entriesOf layout))) at out
   unfolding columnLines
   no-columns = nothing out at
 
-  pub column-more : (mid after : List ℕ) (n i m r : ℕ) → n ≡ length (entriesOf layout) → i < n → Fills out at (columnLines l (take i (entriesOf layout))) m mid
-      → Fills mid m (columnLine l (getD (layout .entries) i unused)) r after → Fills out at (columnLines l (take (i + 1) (entriesOf layout))) r after
+  pub column-more : (mid after : List ℕ) (n i m r : ℕ) → n ≡ length (entriesOf layout) → i < n → PiecePut out at (columnLines l (take i (entriesOf layout))) m mid
+      → PiecePut mid m (columnLine l (getD (layout .entries) i unused)) r after → PiecePut out at (columnLines l (take (i + 1) (entriesOf layout))) r after
   column-more mid after n i m r e h p q =
       let low : i < length (entriesOf layout) = omega arith in
       let within : i < layout .count = omega (arith, take-most (layout .count) (layout .entries)) in
       rw (add-one, take-suc (entriesOf layout) i unused low, line-more l (take i (entriesOf layout)) (getD (entriesOf layout) i unused), getD-take (layout .count) (layout .entries) i unused within) (then p q)
 
-  pub all-columns : (after : List ℕ) (n i r : ℕ) → n ≡ length (entriesOf layout) → n ≤ i → Fills out at (columnLines l (take i (entriesOf layout))) r after
-      → Fills out at (columnLines l (entriesOf layout)) r after
+  pub all-columns : (after : List ℕ) (n i r : ℕ) → n ≡ length (entriesOf layout) → n ≤ i → PiecePut out at (columnLines l (take i (entriesOf layout))) r after
+      → PiecePut out at (columnLines l (entriesOf layout)) r after
   all-columns after n i r e h p = rw (← take-all i (entriesOf layout) (omega arith)) p
 
 -- ---- a line
 
 module _ (passed : ℕ) (l : List ℕ) (layout : Layout) (out : List ℕ) (at : ℕ) where
-  pub no-b : (b : ℕ) → b ≡ getD l 0 0 → (b ≡ code "B" → ⊥) → Fills out at (printed passed layout l) at out
+  pub no-b : (b : ℕ) → b ≡ getD l 0 0 → (b ≡ code "B" → ⊥) → PiecePut out at (printed passed layout l) at out
   unfolding printed
   no-b b e h = rw (← e, ne-eqb b 66 h) (nothing out at)
 
   module _ (b : ℕ) (e : b ≡ getD l 0 0) (h : b ≡ code "B") (r : FixRead) (g : fixTold r ≡ fixFields l) where
-    pub no-fix : (w : Refusal) → r ≡ fixRead.Refused w → Fills out at (printed passed layout l) at out
+    pub no-fix : (w : Refusal) → r ≡ fixRead.Refused w → PiecePut out at (printed passed layout l) at out
     unfolding printed lineShown fixTold
     no-fix w is = rw (← e, eq-eqb b 66 h, ← g, is) (nothing out at)
 
-    pub a-fix : (f : Fix) (mid after : List ℕ) (m n : ℕ) → allowed 36 layout ≡ true → r ≡ fixRead.Is f → Fills out at (fixShown (passed + 1) f) m mid
-        → Fills mid m (columnLines l (entriesOf layout)) n after → Fills out at (printed passed layout l) n after
+    pub a-fix : (f : Fix) (mid after : List ℕ) (m n : ℕ) → allowed 36 layout ≡ true → r ≡ fixRead.Is f → PiecePut out at (fixShown (passed + 1) f) m mid
+        → PiecePut mid m (columnLines l (entriesOf layout)) n after → PiecePut out at (printed passed layout l) n after
     unfolding printed lineShown fixTold
     a-fix f mid after m n ok is p q = rw (← e, eq-eqb b 66 h, ← g, is, ← lines-shown l layout ok) (then p q)
 
@@ -113,7 +113,7 @@ module _ (used size : ℕ) where
   not-full g h = sym (le-ltb size (used + 4096) (omega arith))
 
 -- a text for which there is room is put whole
-put-whole : {now after t : List ℕ} {used r : ℕ} → used + length t ≤ length now → Fills now used t r after → r ≡ used + length t
+put-whole : {now after t : List ℕ} {used r : ℕ} → used + length t ≤ length now → PiecePut now used t r after → r ≡ used + length t
 put-whole {now} {after} {t} {used} {r} h f = rw (take-all (length now - used) t (omega arith)) at (f .next)
 
 -- what stands in it is the front of the page, and what comes is the rest of it
@@ -126,7 +126,7 @@ pub record Part (block : List ℕ) (page rest : Leaf) (used : ℕ) (now : List �
 pub part-first : (block : List ℕ) (page : Leaf) → Part block page page 0 block
 part-first block page = record { long = refl; within = omega arith; told = refl; kept = refl }
 
-pub part-next : (block now after : List ℕ) (page rest : Leaf) (t : List ℕ) (used r : ℕ) → Part block page (before t rest) used now → Fills now used t r after → used + length t ≤ length now
+pub part-next : (block now after : List ℕ) (page rest : Leaf) (t : List ℕ) (used r : ℕ) → Part block page (before t rest) used now → PiecePut now used t r after → used + length t ≤ length now
     → Part block page rest r after
 part-next block now after page rest t used r p f h =
     let all = take-all (length now - used) t (omega arith) in
@@ -178,12 +178,12 @@ module _ (file table : List ℕ) (lines : ℕ) (layout : Layout) (block : List �
     pub filled-full : t ≡ true → LeafPut page block (record { used = used; passed = next }) now
     filled-full g = part-last block now page used next (rw (one-left file table lines layout (length block) next used h, ← asked, g) at p)
 
-    pub filled-more : (l after : List ℕ) (r : ℕ) → allowed 36 layout ≡ true → t ≡ false → l ≡ textAt file table lines next → Fills now used (printed next layout l) r after
+    pub filled-more : (l after : List ℕ) (r : ℕ) → allowed 36 layout ≡ true → t ≡ false → l ≡ textAt file table lines next → PiecePut now used (printed next layout l) r after
         → Part block page (leafFrom file table lines layout (length block) (lines - (next + 1)) (next + 1) r) r after
     unfolding printedAt
     filled-more l after r ok g is f =
         let same : printed next layout l ≡ printedAt file table lines layout next = printed-there l is in
-        let f′ : Fills now used (printedAt file table lines layout next) r after = rw same at f in
+        let f′ : PiecePut now used (printedAt file table lines layout next) r after = rw same at f in
         let most : length (printedAt file table lines layout next) ≤ 4096 = rw (← same) (printed-room next layout l ok) in
         let room : used + 4096 ≤ length now = ltb-false (length now) (used + 4096) (sym e ∙ g) in
         let q = rw (one-left file table lines layout (length block) next used h, ← asked, g) at p in

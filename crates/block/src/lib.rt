@@ -56,7 +56,7 @@ fn fill_lines(
     Page { used, passed: next }
 }
 
-// Fills a block with what is printed for the lines behind those passed: FIX and its columns for each fix, nothing for another line. As many lines as it surely has
+// PiecePut a block with what is printed for the lines behind those passed: FIX and its columns for each fix, nothing for another line. As many lines as it surely has
 // room for; the rest of the block stays as it is. A layout that is not allowed reads no fix, so nothing is left to print.
 pub fn fill(
     passed: u32,

@@ -4,7 +4,7 @@ ghost use mathlib.Core.Bool.{true};
 ghost use mathlib.Core.Path.{_≡_};
 ghost use lib.ListN.{length, getD};
 ghost use Rattle.rules.specs.Layouts.{entriesOf, allowed};
-ghost use Rattle.pieces.specs.Buffer.{Fills};
+ghost use Rattle.pieces.specs.Buffer.{PiecePut};
 ghost use Rattle.block.specs.Blocks.{endOf, textAt, columnLines, printed};
 use rules::FixRead;
 use rules::Layout;
@@ -69,7 +69,7 @@ fn entries_in(layout: Layout) -> usize
 
 // COL, a code and its text, for each entry of the layout.
 fn put_columns(out: &mut [u8], at: usize, line: &[u8], layout: Layout) -> usize
-    ensures { λ r. ⌜ Fills (now (out .entry)) at (columnLines (now (line .entry)) (entriesOf layout)) r (now (out .exit)) ⌝ }
+    ensures { λ r. ⌜ PiecePut (now (out .entry)) at (columnLines (now (line .entry)) (entriesOf layout)) r (now (out .exit)) ⌝ }
 {
     let n = entries_in(layout);
     let mut next = at;
@@ -85,7 +85,7 @@ fn put_columns(out: &mut [u8], at: usize, line: &[u8], layout: Layout) -> usize
 // FIX and its values with its columns where the line is a B line and its fields are good, and nothing where it is another line: the place behind.
 pub(crate) fn put_line(passed: u32, line: &[u8], layout: Layout, out: &mut [u8], at: usize) -> usize
     requires { ⌜ (passed < 4294967295) × (allowed 36 layout ≡ true) ⌝ }
-    ensures { λ r. ⌜ Fills (now (out .entry)) at (printed passed layout (now (line .entry))) r (now (out .exit)) ⌝ }
+    ensures { λ r. ⌜ PiecePut (now (out .entry)) at (printed passed layout (now (line .entry))) r (now (out .exit)) ⌝ }
 {
     if chars::byte(line, 0) != b'B' {
         return at;

@@ -1,5 +1,5 @@
 // A file cut into its lines: where a line ends, a line by its number, and a place that steps over the lines.
-ghost use Rattle.rules.specs.Promises.{LineGiven, LineRest};
+ghost use Rattle.rules.specs.Promises.{LineGiven, LineTextGiven};
 ghost use Rattle.cut.specs.Steps.{LineStepped, AtFirst, UnplacedGiven};
 use rules::Found;
 use rules::LineRead;
@@ -34,7 +34,7 @@ pub fn bounds(file: &[u8], table: &[u32], n: usize) -> LineRead
 
 // Line n without its CR LF, as a part of the file; no bytes where `bounds` refuses it.
 pub fn line<'a>(file: &'a [u8], table: &[u32], n: usize) -> &'a [u8]
-    ensures { λ r. ⌜ LineRest (now (file .entry)) (now (table .entry)) n (now r) ⌝ }
+    ensures { λ r. ⌜ LineTextGiven (now (file .entry)) (now (table .entry)) n (now r) ⌝ }
 {
     match bounds(file, table, n) {
         LineRead::Part(start, end) => &file[start..end],

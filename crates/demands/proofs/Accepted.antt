@@ -30,8 +30,8 @@ use Rattle.rules.proofs.Inverse.{refuses-says, need-inv}
 use Rattle.laws.proofs.Passing.{front-over}
 use Rattle.laws.proofs.Splitting.{none-left}
 use Rattle.demands.specs.Grammar.{IsText, OrderFrom, InOrder, IsALine, IsDateLine, AtMostOne, Parts, linesIn, SealedBy, Keeps, joinLines, Meets, beginning, flightOf}
-use Rattle.demands.proofs.Laws.{said-some}
-use Rattle.demands.proofs.Leading.{every, all-layouts, counts-more, Part, Leads, a-line, date-line, h-line, layout-line, body-line, g-line, l-line, Sound, sound-start, judge-leads, leads-judge}
+use Rattle.sound.proofs.Entries.{said-some}
+use Rattle.demands.proofs.Leading.{every, told-of, all-layouts, counts-more, Part, Leads, a-line, date-line, h-line, layout-line, body-line, g-line, l-line, Sound, sound-start, judge-leads, leads-judge}
 use Rattle.demands.proofs.Leading as part
 use Rattle.demands.proofs.Sections.{Passes, done, next, passes-join, all-passed, before, begins, lines-joined, none-fit, ended, comes, passes-run, stops-run, at-end, Fresh, passes-above, Section, split, above-end, section-passes, headers-there, headers-here, layout-there, layout-here, body-same, body-stage, body-there, body-here, seal-there, seal-here, seal-needed, remarks-there, remarks-here}
 
@@ -133,9 +133,10 @@ kept needs {ls} {s} p zero h =
         recorder = f .is-a;
         day = subst (λ x. IsDateLine x (f .day)) (sym date) (f .is-date);
         headers = H .each;
-        told = every (λ g. AtMostOne g (layoutOf g (s .flight .layouts)) (told g))
-            (subst (λ x. AtMostOne family.B x (is .front)) (sym (ap (λ x. x .b) laid ∙ J .others family.B refl)) (I .one))
-            (subst (λ x. AtMostOne family.K x (js .front)) (sym (ap (λ x. x .k) laid)) (J .one));
+        told = (
+          subst (λ x. AtMostOne family.B x (is .front)) (sym (ap (λ x. x .b) laid ∙ J .others family.B refl)) (I .one),
+          subst (λ x. AtMostOne family.K x (js .front)) (sym (ap (λ x. x .k) laid)) (J .one),
+        );
         body = body .lines;
         order = in-order (js .state .clock) (body .times) (body .order);
         seals = G .0;
@@ -147,7 +148,7 @@ kept needs {ls} {s} p zero h =
 -- ---- lines that are as the grammar says pass
 
 -- from a state on the lines pass, and the file may end, with this date and these layouts
-record Passed (needs : Seal) (st : State) (ls : List (List ℕ)) (date : Date) (layouts : Layouts) : Type 0 where
+record Finished (needs : Seal) (st : State) (ls : List (List ℕ)) (date : Date) (layouts : Layouts) : Type 0 where
   state : State
   passes : Passes st ls state
   whole : state .points ≡ 0
@@ -157,7 +158,7 @@ record Passed (needs : Seal) (st : State) (ls : List (List ℕ)) (date : Date) (
 
 -- behind lines of a part
 behind : {needs : Seal} {p : Part} {st m : State} {ls ks : List (List ℕ)} {date : Date} {layouts : Layouts} → Sound st → Section p st ls m
-    → (Sound m → Passed needs m ks date layouts) → Passed needs st (ls ++ ks) date layouts
+    → (Sound m → Finished needs m ks date layouts) → Finished needs st (ls ++ ks) date layouts
 behind g w k =
     let s = section-passes g w in
     let r = k (s .1) in
@@ -172,7 +173,7 @@ may-end seal.Strict gs stage s h f = f s
 
 module _ {needs : Seal} {p : Parts} {date : Date} {layouts : Layouts} {times : List ℕ} (w : Keeps needs p date layouts times) where
   abbrev On : State → List (List ℕ) → Type 0
-  On st ls = Passed needs st ls date layouts
+  On st ls = Finished needs st ls date layouts
 
   seal-on : (st : State) → Sound st → st .flight .date ≡ date → st .flight .layouts ≡ layouts → st .points ≡ 0 → afterH ≤ st .stage → st .stage ≤ inBody → On st (p .seal ++ p .remarks)
   seal-on st g d f z a b =
@@ -204,7 +205,7 @@ module _ {needs : Seal} {p : Parts} {date : Date} {layouts : Layouts} {times : L
       → afterH ≤ m .stage → m .stage ≤ afterLayout f → On m ks)
       → On st (p .told f ++ ks)
   told-on f st g d e h a b k =
-      let r = layout-here f st (w .told f) e a b (h .0) in
+      let r = layout-here f st (told-of layouts p (w .told) f) e a b (h .0) in
       let s = layout-there f (r .1) e a b in
       behind g (r .1) λ x. k (r .0) x (s .date ∙ d) (r .2) (s .others) (s .fresh h) (s .low) (s .high)
 

@@ -10,49 +10,36 @@ use mathlib.Core.Option.{Option, none, some}
 use native.Mathlib.Omega.{arith}
 use borrow.Author.Tests.{eqb-true, eq-eqb, ne-eqb, not-false, le-leb, leb-true}
 use lib.Dec.{eqb, leb}
-use lib.ListN.{length, getD, take, drop, replicate, length-append, length-drop, take-append-drop, List·getD-append}
+use lib.ListN.{length, getD, take, drop, length-append, length-drop, take-append-drop}
 use lib.Seq.{drop-drop, drop-at, take-at, length-take-le, drop-length}
 use lib.IntN.{pos, negℤ}
-use Rattle.rules.specs.Choice.{part, Each, given, need, on, firstOf}
+use Rattle.rules.specs.Choice.{part, Each, given, need, on}
 use Rattle.rules.specs.Chars.{isValid}
 use Rattle.rules.specs.Listed.{keepsRule, packedOf, codeText}
-use Rattle.rules.specs.Layouts.{unused, entriesOf, allowed, lineLength, Span, spanOf, look, columnText}
+use Rattle.rules.specs.Layouts.{entriesOf, allowed, lineLength, Span, spanOf, look, columnText}
 use Rattle.rules.specs.declared.Entry.{Entry}
 use Rattle.rules.specs.declared.Layout.{Layout}
 use Rattle.rules.specs.Limits.{isClean, badTail, goodTail}
 use Rattle.rules.specs.Families.{firstStart}
 use Rattle.rules.specs.Refusals.{says, refuses, number}
 use Rattle.rules.specs.Numbers.{numberAt, digitsOf, wholeOf}
-use Rattle.rules.specs.Reads.{entriesSaid, columnSaid, columnRest, numberSaid}
+use Rattle.rules.specs.Reads.{entriesSaid, columnSaid, columnTextSaid, numberSaid}
 use Rattle.rules.specs.declared.Signed.{Signed}
 use Rattle.rules.specs.declared.Family.{Family}
 use Rattle.rules.proofs.Inverse.{false-true, need-inv, none-some, given-inv}
 use Rattle.trips.proofs.Texts.{clean-valid}
 use Rattle.trips.proofs.Laws.{byte-there}
 use Rattle.trips.proofs.Digits.{digits-length, digits-front, number-there, number-here}
-use Rattle.demands.specs.Grammar.{laid, widthOf, IsEntry, Tiles, Columns, none, column}
+use Rattle.demands.specs.Grammar.{widthOf, IsEntry, Tiles, Columns, none, column}
 use Rattle.demands.specs.Readings.{Spells, plain, minus, NumberOf, ReadsColumn, columnTexts, IsName, ReadsColumns}
-use Rattle.demands.proofs.Laws.{each-map, each-cut, each-join, are-valid, valid-are, nothing-found, none-found, nothing-given, each-both, rule-exactly}
-use Rattle.demands.proofs.LayoutLines.{allowed-there, unpacked, packed-back, Coded}
+use Rattle.sound.proofs.Each.{each-map, each-both, each-join, each-cut, nothing-found, none-found}
+use Rattle.sound.proofs.Entries.{unpacked, packed-back}
+use Rattle.sound.proofs.Placed.{Coded, Sound, allowed-there}
+use Rattle.sound.proofs.Columns.{each-looked, end-of, line-end}
+use Rattle.demands.proofs.Laws.{are-valid, valid-are, nothing-given, rule-exactly}
+use Rattle.demands.proofs.LayoutLines.{told-tiles}
 
 -- ---- where a line ends
-
--- where the last of the entries ends
-abbrev pub end-of : List Entry → ℕ → ℕ
-end-of [] start = start - 1
-end-of (e ∷ es) start = end-of es (e .last + 1)
-
-last-end : (e : Entry) (es : List Entry) → getD (e ∷ es) (length es) unused .last ≡ end-of es (e .last + 1)
-last-end e [] = omega arith
-last-end e (x ∷ es) = last-end x es
-
-pub line-end : (start : ℕ) (es : List Entry) → lineLength start (laid es) ≡ end-of es start
-unfolding lineLength
-line-end start [] = refl
-line-end start (e ∷ es) =
-    let n : suc (length es) - 1 ≡ length es = omega arith in
-    let g = List·getD-append (e ∷ es) (replicate (13 - suc (length es)) unused) unused (length es) (omega arith) in
-    rw (ne-eqb (suc (length es)) 0 (λ z. omega arith), n, g) (last-end e es)
 
 -- no entry ends before the first starts
 pub end-past : (es : List Entry) (from : ℕ) → Tiles from es → 1 ≤ from → from ≤ end-of es from + 1
@@ -130,16 +117,13 @@ module _ (start : ℕ) (tail : List ℕ) where
 
 -- ---- the theorem
 
-pub tail-exactly : (start : ℕ) (tail : List ℕ) (layout : Layout) → 1 ≤ start → allowed start layout ≡ true → length (layout .entries) ≡ 13
+pub tail-exactly : (start : ℕ) (tail : List ℕ) (layout : Layout) → 1 ≤ start → Sound start layout
     → (goodTail start tail layout ≡ true) ↔ Columns (entriesOf layout) tail
 unfolding goodTail badTail
-tail-exactly start tail layout low good slots = (there, here)
+tail-exactly start tail layout low s = (there, here)
   where
-    es : List Entry
-    es = entriesOf layout
-
     ends : lineLength start layout ≡ end-of (entriesOf layout) start
-    ends = ap (lineLength start) (allowed-there start layout good slots .3) ∙ line-end start (entriesOf layout)
+    ends = ap (lineLength start) (allowed-there start layout (s .right) (s .full) .1) ∙ line-end start (entriesOf layout)
 
     same : start - start ≡ 0
     same = omega arith
@@ -149,7 +133,7 @@ tail-exactly start tail layout low good slots = (there, here)
         let a = need-inv (allowed start layout) false true _ false-true e in
         let n = need-inv (eqb (start - 1 + length tail) (lineLength start layout)) false true _ false-true (a .1) in
         let c = need-inv (isClean tail) false true _ false-true (n .1) in
-        let w = allowed-there start layout good slots .2 in
+        let w = told-tiles start layout s in
         columns-there start tail low (entriesOf layout) start tail w (omega arith) (record {
           here = ap (λ x. drop x tail) same;
           long = eqb-true _ _ (n .0) ∙ ends;
@@ -159,10 +143,10 @@ tail-exactly start tail layout low good slots = (there, here)
 
     here : Columns (entriesOf layout) tail → goodTail start tail layout ≡ true
     here x =
-        let w = allowed-there start layout good slots .2 in
+        let w = told-tiles start layout s in
         let k = columns-here start tail low (entriesOf layout) start tail w (omega arith) (ap (λ x. drop x tail) same) x in
         let b : badTail start tail layout ≡ _ = none-found _ _ (entriesOf layout) 0 (each-map (entriesOf layout) (λ e h. rw h refl) (k .ruled)) in
-        rw (good, eq-eqb _ _ (k .long ∙ sym ends), clean-valid tail, valid-are tail (k .valid), b)
+        rw (s .right, eq-eqb _ _ (k .long ∙ sym ends), clean-valid tail, valid-are tail (k .valid), b)
 
 -- ---- the number that a text spells
 
@@ -219,18 +203,6 @@ unfolding number
 number-of t (some z) e = whole-there t z e
 number-of t none e = (refl, λ z s. none-some (sym e ∙ whole-here t s))
 
--- ---- looking for a code
-
--- each entry is the first of its code
-looked : (es : List Entry) (start n : ℕ) → Tiles start es → Each (λ e. firstOf (Coded (e .code)) (λ k e. spanOf e) es n ≡ some (spanOf e)) es
-unfolding firstOf
-looked [] start n w = tt
-looked (e ∷ es) start n w = (
-  rw (eq-eqb (e .code) (e .code) refl),
-  each-map es (λ x h. rw (ne-eqb (e .code) (x .code) (λ i. h .0 (sym i))) (h .1))
-      (each-both es (λ x. x .code ≡ e .code → ⊥) (λ x. firstOf (Coded (x .code)) (λ k e. spanOf e) es (suc n) ≡ some (spanOf x)) (w .1) (looked es (e .last + 1) (suc n) (w .2))),
-)
-
 -- ---- the columns stand one behind the other, each as wide as its entry says, up to the line's end
 
 texts-are : (l : List ℕ) (es : List Entry) (from : ℕ) (rest : List ℕ) → Tiles from es → 1 ≤ from → drop (from - 1) l ≡ rest → Columns es rest
@@ -266,7 +238,7 @@ module _ (layout : Layout) (l : List ℕ) (said : entriesSaid l layout ≡ says 
   column-absent name e = rw (said, e)
 
   column-read : (e : Entry) → look layout (e .code) ≡ some (spanOf e) → length (columnText l (spanOf e)) ≡ widthOf e → ReadsColumn layout l e
-  unfolding numberSaid columnRest number
+  unfolding numberSaid columnTextSaid number
   column-read e h n =
       let s = column-said (codeText (e .code)) (spanOf e) (ap (look layout) (packed-back (e .code)) ∙ h) in
       record { span = s; text = rw s; wide = n; number = rw s (number-of (columnText l (spanOf e)) (wholeOf (columnText l (spanOf e))) refl) }
@@ -277,16 +249,16 @@ module _ (layout : Layout) (l : List ℕ) (said : entriesSaid l layout ≡ says 
       column-absent name (none-found (Coded (packedOf name)) (λ k e. spanOf e) (entriesOf layout) 0
       (each-map (entriesOf layout) (λ e n. ne-eqb (e .code) (packedOf name) (λ i. n (ap codeText i ∙ name-back name w))) h))
 
-pub columns-read : (f : Family) (layout : Layout) (l tail : List ℕ) → 1 ≤ firstStart f → allowed (firstStart f) layout ≡ true → length (layout .entries) ≡ 13
+pub columns-read : (f : Family) (layout : Layout) (l tail : List ℕ) → 1 ≤ firstStart f → Sound (firstStart f) layout
     → drop (firstStart f - 1) l ≡ tail → Columns (entriesOf layout) tail → entriesSaid l layout ≡ says (entriesOf layout) → ReadsColumns f layout l
 unfolding look number
-columns-read f layout l tail low good slots cut is said =
-    let t = allowed-there (firstStart f) layout good slots .2 in
+columns-read f layout l tail low s cut is said =
+    let t = told-tiles (firstStart f) layout s in
     let es = entriesOf layout in
     let r = texts-are l es (firstStart f) tail t low cut is in
     record {
       carried = each-map es (λ e h. column-read layout l said e (h .0) (h .1))
-          (each-both es (λ e. look layout (e .code) ≡ some (spanOf e)) (λ e. length (columnText l (spanOf e)) ≡ widthOf e) (looked es (firstStart f) 0 t) (r .1));
+          (each-both es (λ e. look layout (e .code) ≡ some (spanOf e)) (λ e. length (columnText l (spanOf e)) ≡ widthOf e) (each-looked (firstStart f) layout s) (r .1));
       absent = name-absent layout l said;
       tail = r .0 ∙ sym cut;
     }

@@ -1,8 +1,8 @@
--- Demand 2, what is claimed. Each claim is a line from the room that proves it; its words stand in specs/ (Grammar, Faults, Readings, BothWays), the definitions that
--- it is about in the rules. Assumes nothing.
+-- Demand 2, what is claimed. Each claim is a line from the room that proves it; its words stand in specs/ (Grammar, Coming, Checks, Faults, FieldTexts, Readings,
+-- BothWays), the definitions that it is about in the rules. Assumes nothing.
 --
--- How these definitions are the library's answers: `file::check` answers `verdict Strict file (some (length table))` and leaves `tableAfter Strict file table` (promise FileChecked); `cut::bounds`
--- answers `boundsOf` (LineGiven), `Cursor::step` answers `stepAt` (LineStepped), the readers in `read` answer `fixSaid`, `columnSaid` and so on (FixGiven ..); the writers in
+-- How these definitions are the library's answers: `file::check` answers `verdict seal file (some (length table))` and leaves `tableAfter seal file table` (promise FileChecked),
+-- `file::check_untabled` answers `verdict seal file none` (FileJudged); `cut::bounds` answers `boundsOf` (LineGiven), `Cursor::step` answers `stepAt` (LineStepped), the readers in `read` answer `fixSaid`, `columnSaid` and so on (FixGiven ..); the writers in
 -- `write` keep `Written` (FixWritten ..), from which `BothWays` tells what they write (proofs/Promised). By the laws `only-..` of crate laws, nothing else would keep these promises.
 use Prim.Native.Nat.{ℕ, _≤_}
 use Prim.Native.Char.{code}
@@ -15,7 +15,7 @@ use lib.ListN.{length, getD}
 use Rattle.rules.specs.Choice.{Each}
 use Rattle.rules.specs.Families.{firstStart}
 use Rattle.rules.specs.Refusals.{says, refuses}
-use Rattle.rules.specs.Files.{hasRoom, verdict}
+use Rattle.rules.specs.Files.{verdict}
 use Rattle.rules.specs.Listed.{widthFits, keepsRule}
 use Rattle.rules.specs.Layouts.{isSaid, allowed}
 use Rattle.rules.specs.Reads.{fixSaid, extraSaid, headSaid, pointSaid, layoutSaid}
@@ -37,12 +37,13 @@ use Rattle.trips.proofs.Fixes.{fix-trip, fix-good}
 use Rattle.trips.proofs.Extras.{extra-trip, extra-good}
 use Rattle.trips.proofs.Heads.{head-trip, head-good}
 use Rattle.trips.proofs.Points.{point-trip, point-good}
-use Rattle.demands.specs.Grammar.{IsDay, Listing, Holds, IsLayoutLine, IsBLine, IsKLine, IsHeadLine, IsPointLine, linesIn, Meets, flightOf}
+use Rattle.demands.specs.Grammar.{IsDay, Listing, Holds, IsLayoutLine, IsBLine, IsKLine, IsHeadLine, IsPointLine, linesIn, Fits, Meets, flightOf}
 use Rattle.demands.specs.Faults.{PassAfter, Refused}
 use Rattle.demands.specs.FieldTexts.{FieldsTold}
 use Rattle.demands.specs.Coming.{Meant}
 use Rattle.demands.specs.Readings.{Readable}
 use Rattle.demands.specs.BothWays.{Slotted, ReadsAs, BothWays}
+use Rattle.demands.proofs.Leading.{fits-there, fits-so}
 use Rattle.demands.proofs.Accepted as acceptance
 use Rattle.demands.proofs.Refusing as refusing
 use Rattle.demands.proofs.FieldsThere as fields-there
@@ -54,16 +55,20 @@ use Rattle.demands.proofs.EachLine.{fix-reads, fix-read, extra-reads, e
 use Rattle.demands.proofs.Writers.{both-ways, trip-ways}
 use Rattle.demands.proofs.Worked as worked
 
--- ---- the verdict on a file, for each thing that it may need at its end, with a table of `room` entries or none
+-- ---- the verdict on a file, for each seal, with a table of `room` entries or without one
 
 module _ (seal : Seal) (file : List ℕ) (room : Option ℕ) where
   -- a file is accepted exactly when it meets the grammar and its lines fit the table
-  pub accepted-exactly : (isSaid (verdict seal file room) ≡ true) ↔ ((m : Meets seal file) × (hasRoom room (length (linesIn (m .parts))) ≡ true))
-  accepted-exactly = acceptance.accepted-exactly seal file room
+  pub accepted-exactly : (isSaid (verdict seal file room) ≡ true) ↔ ((m : Meets seal file) × Fits room (length (linesIn (m .parts))))
+  accepted-exactly =
+      let a = acceptance.accepted-exactly seal file room in
+      (λ e. let r = a .0 e in (r .0, fits-there room _ (r .1)), λ r. a .1 (r .0, fits-so room _ (r .1)))
 
   -- and then the date, the layouts and the counts of the answer are the grammar's
-  pub accepted-as : (f : Flight) → (verdict seal file room ≡ says f) ↔ ((m : Meets seal file) × (hasRoom room (length (linesIn (m .parts))) ≡ true) × (flightOf m ≡ f))
-  accepted-as f = acceptance.accepted-as seal file room f
+  pub accepted-as : (f : Flight) → (verdict seal file room ≡ says f) ↔ ((m : Meets seal file) × Fits room (length (linesIn (m .parts))) × (flightOf m ≡ f))
+  accepted-as f =
+      let a = acceptance.accepted-as seal file room f in
+      (λ e. let r = a .0 e in (r .0, fits-there room _ (r .1), r .2), λ r. a .1 (r .0, fits-so room _ (r .1), r .2))
 
   -- it is refused with a number, line and byte exactly when that refusal's meaning holds of it
   pub refused-first : (number line byte : ℕ) → (verdict seal file room ≡ refuses number line byte) ↔ Refused seal file room number line byte
@@ -122,10 +127,10 @@ readable = reading.readable
 -- B lines and K lines, by a layout that is allowed
 module _ (i : Slotted) (l : List ℕ) where
   pub fixes-exactly : allowed 36 (i .layout) ≡ true → (f : Fix) → (fixSaid l (i .layout) ≡ says f) ↔ IsBLine (i .layout) f l
-  fixes-exactly g f = (fix-read (i .layout) (g, i .slots) f l, fix-reads (i .layout) (g, i .slots) f l)
+  fixes-exactly g f = (fix-read (i .layout) (record { right = g; full = i .slots }) f l, fix-reads (i .layout) (record { right = g; full = i .slots }) f l)
 
   pub extras-exactly : allowed 8 (i .layout) ≡ true → (t : ℕ) → (extraSaid l (i .layout) ≡ says t) ↔ IsKLine (i .layout) t l
-  extras-exactly g t = (extra-read (i .layout) (g, i .slots) t l, extra-reads (i .layout) (g, i .slots) t l)
+  extras-exactly g t = (extra-read (i .layout) (record { right = g; full = i .slots }) t l, extra-reads (i .layout) (record { right = g; full = i .slots }) t l)
 
 -- I lines and J lines
 pub layouts-exactly : (family : Family) (layout : Layout) (l : List ℕ) → (layoutSaid family l ≡ says layout) ↔ IsLayoutLine family layout l

@@ -41,7 +41,8 @@ use Rattle.trips.proofs.Heads.{head-trip, head-within}
 use Rattle.trips.proofs.Heads as heads
 use Rattle.trips.proofs.Points.{point-trip}
 use Rattle.demands.specs.Grammar.{Shaped, IsALine, IsDateLine, IsHLine, IsDLine, IsELine, IsFLine, IsLLine, IsGLine, IsOtherLine, Columns, IsBLine, IsKLine, IsColumned, IsHeadLine, IsPointLine}
-use Rattle.demands.proofs.Laws.{day-exactly, planned-exactly, given-none, each-map, are-valid, shape-there, shape-said, each-cut, valid-are}
+use Rattle.sound.proofs.Each.{each-map, each-cut}
+use Rattle.demands.proofs.Laws.{day-exactly, planned-exactly, given-none, are-valid, shape-there, shape-said, valid-are}
 use Rattle.demands.proofs.LayoutLines.{IsTold}
 use Rattle.demands.proofs.Columns.{tail-exactly}
 
@@ -255,7 +256,7 @@ start-low family.K = omega arith
 limits : (f : Family) (layout : Layout) → IsTold f layout → (fields : Bool) (tail : List ℕ)
     → ((need fields false λ u. goodTail (firstStart f) tail layout) ≡ true) ↔ ((fields ≡ true) × Columns (entriesOf layout) tail)
 limits f layout t fields tail =
-    let x = tail-exactly (firstStart f) tail layout (start-low f) (t .0) (t .1) in (
+    let x = tail-exactly (firstStart f) tail layout (start-low f) t in (
       λ e. let w = need-inv fields false true _ false-true e in (w .0, x .0 (w .1)),
       λ h. rw (h .0) (x .1 (h .1)),
     )
@@ -332,8 +333,8 @@ columned-letter family.K layout t l w = ap (λ x. getD x 0 0) (w .text)
 
 pub columned-there : (f : Family) (layout : Layout) (t : ℕ) (l : List ℕ) → IsTold f layout → getD l 0 0 ≡ lineLetter f → columnedLine f layout l ≡ says t → IsColumned f layout t l
 unfolding columnedLine fixSaid extraSaid
-columned-there family.B layout t l i k e = let r = then-inv (bLine layout l) t _ e in (r .0, cc, fix-read layout i (r .0) l (rw (eq-eqb _ _ k, i .0) (r .1)))
-columned-there family.K layout t l i k e = extra-read layout i t l (rw (eq-eqb _ _ k, i .0) e)
+columned-there family.B layout t l i k e = let r = then-inv (bLine layout l) t _ e in (r .0, cc, fix-read layout i (r .0) l (rw (eq-eqb _ _ k, i .right) (r .1)))
+columned-there family.K layout t l i k e = extra-read layout i t l (rw (eq-eqb _ _ k, i .right) e)
 
 pub columned-said : (f : Family) (layout : Layout) (t : ℕ) (l : List ℕ) → IsTold f layout → IsColumned f layout t l → columnedLine f layout l ≡ says t
 unfolding columnedLine fixSaid extraSaid

@@ -35,10 +35,12 @@ use Rattle.demands.specs.Checks.{isThere, Check, check, AllPass, FailsFi
 use Rattle.demands.specs.Grammar.{laid}
 use Rattle.demands.proofs.Leading.{letter-tests, none-pass}
 use Rattle.demands.proofs.Standing.{only-without, none-open, declaration-told, laid-out, Stands}
-use Rattle.demands.proofs.Laws.{each-join, shape-there}
+use Rattle.sound.proofs.Each.{each-join}
+use Rattle.sound.proofs.Placed.{with-laid, entries-laid}
+use Rattle.sound.proofs.Columns.{end-of, line-end}
+use Rattle.demands.proofs.Laws.{shape-there}
 use Rattle.demands.proofs.EachLine.{e-inv, f-inv, columned-time}
-use Rattle.demands.proofs.LayoutLines.{there, entry-there, entries-laid, with-laid}
-use Rattle.demands.proofs.Columns.{end-of, line-end}
+use Rattle.demands.proofs.LayoutLines.{there, entry-of}
 
 -- ---- tests
 
@@ -344,7 +346,7 @@ entries-agree (suc left) l at start before n =
     agree-then (entryAt l at start (laid before)) _ (entryChecks 1 l at start before) (entryChecks left l (at + 7) (entryOf l at .last + 1) (before ++ (entryOf l at ∷ [])))
     (entry-agrees l at start before) λ e h.
     subst (λ x. Agrees (entriesFrom left l (at + 7) (e .last + 1) (withEntry (laid before) e)) (entryChecks left l (at + 7) (x .last + 1) (before ++ (x ∷ []))))
-    (sym (entry-there l at (at + 7) start (laid before) e refl h .3))
+    (sym (entry-of l at start (laid before) e h))
     (subst (λ x. Agrees (entriesFrom left l (at + 7) (e .last + 1) x) (entryChecks left l (at + 7) (e .last + 1) (before ++ (e ∷ []))))
     (sym (with-laid before e (omega arith)))
     (entries-agree left l (at + 7) (e .last + 1) (before ++ (e ∷ [])) (omega (arith, length-append before (e ∷ [])))))

@@ -24,10 +24,10 @@ use Rattle.trips.proofs.Dates.{date-trip}
 use Rattle.trips.proofs.Plans.{planned-trip}
 use Rattle.trips.proofs.Positions.{latitude-trip, longitude-trip}
 use Rattle.trips.proofs.Altitudes.{altitude-trip}
+use Rattle.sound.proofs.Entries.{code-there, code-here}
 use Rattle.demands.specs.Checks.{isThere}
 use Rattle.demands.specs.FieldTexts.{Stood, Field, Codes, FieldsTold}
 use Rattle.demands.proofs.EachLine.{mark-there}
-use Rattle.demands.proofs.LayoutLines.{code-there, code-here}
 use Rattle.demands.proofs.Leading.{letter}
 
 -- ---- a field that reads both ways

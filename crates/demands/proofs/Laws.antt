@@ -1,9 +1,9 @@
--- Laws that every room uses: what a chain's answer says of its links, what holds of each element of a list, a line's shape; and what the rules test by their tables, in the
+-- Laws that every room uses: what a chain's answer says of its links, a line's shape; and what the rules test by their tables, in the
 -- grammar's words: that a date's day exists, and the widths and texts of a listed code's column. Assumes nothing.
 use Prim.Native.Nat.{ℕ, suc, zero, _%_, _≤_, _+_}
 use Prim.Native.Char.{code}
 use mathlib.Core.Bool.{Bool, true, false, not, _&&_, cond, _||_}
-use mathlib.Core.List.{List, [], _∷_, _++_}
+use mathlib.Core.List.{List, [], _∷_}
 use mathlib.Core.Option.{Option, none, some}
 use mathlib.Core.Path.{_≡_, refl, sym, _∙_, subst, ap}
 use mathlib.Core.Logic.{_↔_}
@@ -13,9 +13,8 @@ use borrow.Author.Tests.{le-leb, leb-true, not-false, eqb-true, eqb-false, eq-eq
 use lib.Dec.{leb, eqb}
 use lib.ListN.{length, getD, drop}
 use Rattle.rules.specs.Choice.{given, firstOf, Each, on, leads, bytes}
-use Rattle.rules.specs.Refusals.{Said, says, refuses}
+use Rattle.rules.specs.Refusals.{says}
 use Rattle.rules.specs.Chars.{isValid, firstInvalid, characters, isDigit}
-use Rattle.rules.specs.Layouts.{isSaid}
 use Rattle.rules.specs.Lines.{isSized, shaped}
 use Rattle.rules.specs.Fields.{isLeap, daysOf}
 use Rattle.rules.specs.declared.Date.{Date}
@@ -24,10 +23,11 @@ use Rattle.rules.specs.declared.Planned.the-variants as planned
 use Rattle.rules.specs.Limits.{isDate, isPlanned}
 use Rattle.rules.specs.Listed.{listed, unlisted, listedNumber, widthFits, isDigits, keepsSign, keepsRule}
 use Rattle.rules.specs.declared.Listed.{Listed}
-use Rattle.rules.proofs.Inverse.{none-some, false-true, refuses-says, need-inv, and-inv}
+use Rattle.rules.proofs.Inverse.{false-true, refuses-says, need-inv, and-inv}
 use Rattle.trips.proofs.Texts.{areValid, digit-range}
 use Rattle.trips.proofs.Dates.{days-month}
 use Rattle.demands.specs.Grammar.{Shaped, Days, january, february, february-leap, march, april, may, june, july, august, september, october, november, december, IsDay, IsPlanned, Listing, IsDigit, Holds, digits, minus}
+use Rattle.sound.proofs.Each.{each-map, nothing-found, none-found}
 
 -- ---- a chain that came to x took this way
 
@@ -43,42 +43,6 @@ given-none none a x f n e = (refl, e)
 pub nothing-given : {A : Type 0} (o : Option A) → given o true (λ i. false) ≡ true → o ≡ none
 nothing-given none e = refl
 nothing-given (some i) e = absurd (false-true e)
-
--- an answer that is a value
-pub said-some : {A : Type 0} (s : Said A) → isSaid s ≡ true → (v : A) × (s ≡ says v)
-said-some (says v) e = (v, refl)
-said-some (refuses n l b) e = absurd (false-true e)
-
--- ---- each element
-
-pub each-map : {A : Type 0} {P Q : A → Type 0} (l : List A) → ((a : A) → P a → Q a) → Each P l → Each Q l
-each-map [] f h = tt
-each-map (a ∷ l) f h = (f a (h .0), each-map l f (h .1))
-
-pub each-join : {A : Type 0} (P : A → Type 0) (l r : List A) → Each P l → Each P r → Each P (l ++ r)
-each-join P [] r h g = g
-each-join P (a ∷ l) r h g = (h .0, each-join P l r (h .1) g)
-
-pub each-cut : {A : Type 0} (P : A → Type 0) (l r : List A) → Each P (l ++ r) → Each P l × Each P r
-each-cut P [] r h = (tt, h)
-each-cut P (a ∷ l) r h = let g = each-cut P l r (h .1) in ((h .0, g .0), g .1)
-
-pub each-both : {A : Type 0} (l : List A) (P Q : A → Type 0) → Each P l → Each Q l → Each (λ a. P a × Q a) l
-each-both [] P Q h g = tt
-each-both (a ∷ l) P Q h g = ((h .0, g .0), each-both l P Q (h .1) (g .1))
-
--- ---- nothing was found exactly where each element fails the test
-
-module _ {A B : Type 0} (test : A → Bool) (found : ℕ → A → B) where
-  pub nothing-found : (l : List A) (n : ℕ) → firstOf test found l n ≡ none → Each (λ a. test a ≡ false) l
-  unfolding firstOf
-  nothing-found [] n e = tt
-  nothing-found (a ∷ l) n e = let c = cond-false (test a) (some (found n a)) _ none (λ x. none-some (sym x)) e in (c .0, nothing-found l (suc n) (c .1))
-
-  pub none-found : (l : List A) (n : ℕ) → Each (λ a. test a ≡ false) l → firstOf test found l n ≡ none
-  unfolding firstOf
-  none-found [] n h = refl
-  none-found (a ∷ l) n h = rw (h .0) (none-found l (suc n) (h .1))
 
 -- ---- a line's length and characters
 

@@ -6,13 +6,14 @@ use mathlib.Core.Bool.{Bool, true, false, _&&_, cond, not}
 use mathlib.Core.List.{List, [], _∷_}
 use mathlib.Core.Logic.{inl, inr}
 use mathlib.Core.Path.{_≡_, refl, sym, _∙_}
-use mathlib.Core.Option.{none, some}
+use mathlib.Core.Option.{Option, none, some}
 use native.Mathlib.Omega.{arith}
 use borrow.Author.Tests.{le-leb, lt-leb, leb-true, leb-false, eqb-true, eqb-false, ne-eqb, ltb-true, ltb-false, le-ltb, lt-ltb}
 use lib.Dec.{leb, eqb, ltb}
 use lib.ListN.{length, getD}
-use Rattle.rules.specs.Choice.{bytes, leads}
+use Rattle.rules.specs.Choice.{bytes}
 use Rattle.rules.specs.Families.{lineLetter, layoutLetter, layoutOf, withLayout, countOf, oneMore}
+use Rattle.rules.specs.Files.{hasRoom}
 use Rattle.rules.specs.Refusals.{says}
 use Rattle.rules.specs.Lines.{kindOf}
 use Rattle.rules.specs.Roles.{roleOf, isRole, isDeclaring, isOf, sameFamily, afterA, afterH, afterLayout, inBody, afterG, atStart, afterLastG, leading, stageAfter}
@@ -26,7 +27,6 @@ use Rattle.rules.specs.declared.Kind.the-variants as kind
 use Rattle.rules.specs.declared.Role.{Role}
 use Rattle.rules.specs.declared.Role.the-variants as role
 use Rattle.rules.specs.declared.State.{State}
-use Rattle.rules.specs.Layouts.{isUnused, allPlaced, allowed}
 use Rattle.rules.specs.declared.Date.{Date}
 use Rattle.rules.specs.declared.Counts.{Counts}
 use Rattle.rules.specs.declared.Head.{Head}
@@ -36,10 +36,11 @@ use Rattle.laws.proofs.Counted.{judged-more}
 use Rattle.laws.proofs.Passing as passes
 use Rattle.demands.specs.Coming.{isAmong, lettersBefore}
 use Rattle.demands.specs.FieldTexts.{Letter}
-use Rattle.demands.specs.Grammar.{Follows, IsALine, IsDateLine, IsHLine, IsLayoutLine, IsHeadLine, IsPointLine, IsLLine, IsGLine, Timed, columned, event, satellites, Untimed, differential, remark, other}
+use Rattle.demands.specs.Grammar.{Follows, IsALine, IsDateLine, IsHLine, IsLayoutLine, IsHeadLine, IsPointLine, IsLLine, IsGLine, Timed, columned, event, satellites, Untimed, differential, remark, other, AtMostOne, Parts, Fits}
+use Rattle.sound.proofs.Placed.{sound-empty}
 use Rattle.demands.proofs.Laws.{cond-false}
 use Rattle.demands.proofs.EachLine.{a-there, a-said, date-there, date-said, h-there, h-said, d-there, d-said, e-there, e-said, f-there, f-said, l-there, l-said, g-there, g-said, other-there, other-said, columned-letter, columned-there, columned-said, head-there, head-said, point-there, point-said}
-use Rattle.demands.proofs.LayoutLines.{IsTold, layout-there, layout-said, layout-allowed}
+use Rattle.demands.proofs.LayoutLines.{IsTold, layout-there, layout-said, layout-told}
 
 -- ---- the families, one by one
 
@@ -47,6 +48,21 @@ use Rattle.demands.proofs.LayoutLines.{IsTold, layout-there, layout-sai
 abbrev pub every : (P : Family → Type 0) → P family.B → P family.K → (f : Family) → P f
 every P b k family.B = b
 every P b k family.K = k
+
+-- the layout lines of each family, from those of every one
+pub told-of : (layouts : Layouts) (p : Parts) → AtMostOne family.B (layouts .b) (p .told family.B) × AtMostOne family.K (layouts .k) (p .told family.K)
+    → (f : Family) → AtMostOne f (layoutOf f layouts) (p .told f)
+told-of layouts p h family.B = h .0
+told-of layouts p h family.K = h .1
+
+-- room in a table, as the rules test it and as the grammar says it
+pub fits-there : (room : Option ℕ) (n : ℕ) → hasRoom room n ≡ true → Fits room n
+fits-there none n h = tt
+fits-there (some most) n h = leb-true n most h
+
+pub fits-so : (room : Option ℕ) (n : ℕ) → Fits room n → hasRoom room n ≡ true
+fits-so none n h = refl
+fits-so (some most) n h = le-leb n most h
 
 -- a test that each of them passes, and one that each fails
 pub all-pass : (test : Family → Bool) → (test family.B && test family.K) ≡ true → (f : Family) → test f ≡ true
@@ -247,8 +263,7 @@ abbrev pub Sound : State → Type 0
 Sound st = (f : Family) → IsTold f (layoutOf f (st .flight .layouts))
 
 pub sound-start : Sound start
-unfolding allowed allPlaced leads isUnused
-sound-start = every (λ f. IsTold f (layoutOf f (start .flight .layouts))) (refl, refl) (refl, refl)
+sound-start = every (λ f. IsTold f (layoutOf f (start .flight .layouts))) (sound-empty _) (sound-empty _)
 
 -- ---- the order of roles
 
@@ -418,7 +433,7 @@ module _ (l : List ℕ) (st : State) where
   stays-sound (a-line z p w) g = g
   stays-sound (date-line d a b p n w) g = g
   stays-sound (h-line a b p n w) g = g
-  stays-sound (layout-line f i a b p w) g = put-by IsTold f i (st .flight .layouts) (layout-allowed f i l w) (λ x n. g x)
+  stays-sound (layout-line f i a b p w) g = put-by IsTold f i (st .flight .layouts) (layout-told f i l w) (λ x n. g x)
   stays-sound (body-line a b w) g = body-sound w g
   stays-sound (g-line a b p w) g = g
   stays-sound (l-line a b p w) g = g

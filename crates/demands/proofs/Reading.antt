@@ -34,11 +34,11 @@ use Rattle.trips.proofs.Extras.{extra-trip}
 use Rattle.demands.specs.Grammar.{Columns, IsColumned, IsGLine, IsLLine, AtMostOne, absent, given, Timed, Untimed, differential, remark, other, Items, done, timed, untimed, Body, undeclared, Parts, linesIn, Keeps, Meets}
 use Rattle.demands.specs.Grammar as grammar
 use Rattle.demands.specs.Coming.{isAmong}
-use Rattle.demands.specs.Readings.{ReadsColumns, ReadsColumned, ReadsLine, NoC, ReadsDeclaration, nowhere, declared, total, Steps, Readable}
-use Rattle.demands.proofs.Laws.{each-map, each-join}
+use Rattle.demands.specs.Readings.{ReadsFix, ReadsExtra, ReadsColumns, ReadsLine, NoC, ReadsDeclaration, nowhere, declared, total, Steps, Readable}
+use Rattle.sound.proofs.Each.{each-map, each-join}
 use Rattle.demands.proofs.EachLine.{e-said, f-said, start-low, fix-reads, extra-reads, columned-letter, columned-said, head-reads, point-reads, head-said, point-said}
 use Rattle.demands.proofs.LayoutLines.{IsTold, layout-said, told}
-use Rattle.demands.proofs.Leading.{every, same-letter, all-pass, none-pass}
+use Rattle.demands.proofs.Leading.{every, told-of, same-letter, all-pass, none-pass}
 use Rattle.demands.proofs.Sections.{before}
 use Rattle.demands.proofs.Accepted.{lines-cut, accepted-as}
 use Rattle.demands.proofs.Columns.{columns-read}
@@ -78,7 +78,12 @@ line-columns : (f : Family) (layout : Layout) (t : ℕ) (l tail : List ℕ) → 
 unfolding entriesSaid familyOf
 line-columns f layout t l tail i w d c =
     let k = columned-letter f layout t l w in
-    columns-read f layout l tail (start-low f) (i .0) (i .1) d c (rw (k, every (λ f. familyOf (lineLetter f) ≡ some f) refl refl f, i .0, columned-said f layout t l i w))
+    columns-read f layout l tail (start-low f) i d c (rw (k, every (λ f. familyOf (lineLetter f) ≡ some f) refl refl f, i .right, columned-said f layout t l i w))
+
+-- a line of a family, by its layout
+abbrev ReadsColumned : Family → Layout → List ℕ → Type 0
+ReadsColumned family.B layout l = ReadsFix layout l
+ReadsColumned family.K layout l = ReadsExtra layout l
 
 reads-columned : (f : Family) (layout : Layout) (t : ℕ) (l : List ℕ) → IsTold f layout → IsColumned f layout t l → ReadsColumned f layout l
 reads-columned family.B layout t l i (f, e, w) = record {
@@ -116,11 +121,14 @@ one-aside f (given {layout = i} {l = l} w) = (rw (layout-said f i l w .0) (none-
 
 -- ---- the lines of a body
 
-no-family : (l : List ℕ) → isAmong (bytes "BK") (getD l 0 0) ≡ false → (layouts : Layouts) → ReadsLine layouts l
+abbrev LineReads : Layouts → List ℕ → Type 0
+LineReads layouts l = (f : Family) → getD l 0 0 ≡ lineLetter f → ReadsColumned f (layoutOf f layouts) l
+
+no-family : (l : List ℕ) → isAmong (bytes "BK") (getD l 0 0) ≡ false → (layouts : Layouts) → LineReads layouts l
 unfolding isAmong bytes
 no-family l n layouts f z = absurd (other-than (bytes "BK") l (lineLetter f) (all-pass (λ f. isAmong (bytes "BK") (lineLetter f)) refl f) n z)
 
-aside-reads : (layouts : Layouts) (l : List ℕ) → Aside l → ReadsLine layouts l
+aside-reads : (layouts : Layouts) (l : List ℕ) → Aside l → LineReads layouts l
 unfolding isAmong bytes
 aside-reads layouts l n f z = absurd (other-than (bytes "BCGK") l (lineLetter f) (all-pass (λ f. isAmong (bytes "BCGK") (lineLetter f)) refl f) n z)
 
@@ -131,7 +139,7 @@ aside-no-c l n = other-than (bytes "BCGK") l (code "C") refl n
 module _ (layouts : Layouts) (can-tell : (f : Family) → IsTold f (layoutOf f layouts)) where
   -- each line is read as it may be, and is no C line
   abbrev Item : List ℕ → Type 0
-  Item l = ReadsLine layouts l × NoC l
+  Item l = LineReads layouts l × NoC l
 
   timed-item : {t : ℕ} (l : List ℕ) → Timed layouts t l → Item l
   unfolding isAmong bytes
@@ -148,13 +156,13 @@ module _ (layouts : Layouts) (can-tell : (f : Family) → IsTold f (layoutOf f l
   items-read (timed {l = l} w r) = (timed-item l w, items-read r)
   items-read (untimed {l = l} w r) = let h = untimed-aside w in ((aside-reads layouts l h, aside-no-c l h), items-read r)
 
-  body-reads : {ls : List (List ℕ)} {ts : List ℕ} → Body layouts ls ts → Each (ReadsLine layouts) ls
+  body-reads : {ls : List (List ℕ)} {ts : List ℕ} → Body layouts ls ts → Each (LineReads layouts) ls
   unfolding isAmong bytes
   body-reads (undeclared {ls = ls} i) = each-map ls (λ l x. x .0) (items-read i)
   body-reads (grammar.declared pre hd points after h i no-b w ps c j) =
-      each-join (ReadsLine layouts) pre (hd ∷ (points ++ after)) (each-map pre (λ l x. x .0) (items-read i)) (
+      each-join (LineReads layouts) pre (hd ∷ (points ++ after)) (each-map pre (λ l x. x .0) (items-read i)) (
         no-family hd (rw (head-said h hd w .0)) layouts,
-        each-join (ReadsLine layouts) points after (each-map points (λ l v. no-family l (rw (point-said l v .0)) layouts) ps) (each-map after (λ l x. x .0) (items-read j)),
+        each-join (LineReads layouts) points after (each-map points (λ l v. no-family l (rw (point-said l v .0)) layouts) ps) (each-map after (λ l x. x .0) (items-read j)),
       )
 
   -- the declaration of a body, between lines that are no C lines
@@ -189,7 +197,7 @@ module _ {seal : Seal} {p : Parts} {date : Date} {layouts : Layouts} {times : Li
     (
       rw (w .day .text),
       each-join Aside (p .headers) (p .told family.B ++ p .told family.K) (each-map (p .headers) (λ l h. rw (h .letter)) (w .headers))
-          (each-join Aside (p .told family.B) (p .told family.K) (one-aside family.B (w .told family.B)) (one-aside family.K (w .told family.K))),
+          (each-join Aside (p .told family.B) (p .told family.K) (one-aside family.B (w .told .0)) (one-aside family.K (w .told .1))),
     ),
   )
 
@@ -197,18 +205,18 @@ module _ {seal : Seal} {p : Parts} {date : Date} {layouts : Layouts} {times : Li
   pub back-by : (P : List ℕ → Type 0) → ((l : List ℕ) → IsGLine l → P l) → ((l : List ℕ) → IsLLine l → P l) → Each P back
   back-by P g r = each-join P (p .seal) (p .remarks) (each-map (p .seal) g (w .seals)) (each-map (p .remarks) r (w .remarks))
 
-  keeps-reads : Each (ReadsLine layouts) (linesIn p)
+  keeps-reads : Each (LineReads layouts) (linesIn p)
   unfolding isAmong bytes
   keeps-reads =
-      subst (Each (ReadsLine layouts)) (sym in-three)
-      (each-join (ReadsLine layouts) front (p .body ++ back) (each-map front (aside-reads layouts) front-aside)
-      (each-join (ReadsLine layouts) (p .body) back (body-reads layouts (λ f. told f (w .told f)) (w .body))
-      (back-by (ReadsLine layouts) (λ l h. no-family l (rw (h .letter)) layouts) (λ l h. no-family l (rw (h .letter)) layouts))))
+      subst (Each (LineReads layouts)) (sym in-three)
+      (each-join (LineReads layouts) front (p .body ++ back) (each-map front (aside-reads layouts) front-aside)
+      (each-join (LineReads layouts) (p .body) back (body-reads layouts (λ f. told f (told-of layouts p (w .told) f)) (w .body))
+      (back-by (LineReads layouts) (λ l h. no-family l (rw (h .letter)) layouts) (λ l h. no-family l (rw (h .letter)) layouts))))
 
   keeps-declares : ReadsDeclaration (linesIn p)
   keeps-declares =
       subst ReadsDeclaration (sym in-three)
-      (body-declares layouts (λ f. told f (w .told f)) front back (each-map front aside-no-c front-aside)
+      (body-declares layouts (λ f. told f (told-of layouts p (w .told) f)) front back (each-map front aside-no-c front-aside)
       (back-by NoC (λ l h e. omega (arith, h .letter)) (λ l h e. omega (arith, h .letter))) (w .body))
 
 -- ---- the theorem
@@ -239,6 +247,6 @@ readable seal file table f e =
           let k : i + 1 - 1 ≡ i = omega arith in
           line-by-number seal file table (i + 1) (omega arith) (omega arith) .bytes ∙ ap (λ x. getD x (i + 1 - 1) []) t ∙ ap (λ x. getD ls x []) k;
       stepping = steps-over file ls 0 (subst (splitting.Steps file 0) c (steps file));
-      reads = subst (λ (x : Flight). Each (ReadsLine (x .layouts)) ls) (w .2) (keeps-reads (m .keeps));
+      reads = subst (λ (x : Flight). Each (ReadsLine (x .layouts)) ls) (w .2) (each-map ls (λ l h. record { b = h family.B; k = h family.K }) (keeps-reads (m .keeps)));
       declaration = keeps-declares (m .keeps);
     }

@@ -33,7 +33,7 @@ use Rattle.demands.specs.Grammar.{Follows, AtMostOne, given, beginning, 
 use Rattle.demands.specs.Coming.{isAmong, pointsOf, isOpen, Open, those, lastTime, NoTime, Latest, isInTime, Meant}
 use Rattle.demands.specs.Faults.{PassAfter, Before, NoEnd, none-comes, lf-alone, cr-alone, Unsealed, Refused, empty, too-long, line-end, in-line, table-full, ends-early}
 use Rattle.demands.proofs.EachLine.{head-said}
-use Rattle.demands.proofs.Leading.{some-points}
+use Rattle.demands.proofs.Leading.{fits-there, fits-so, some-points}
 use Rattle.demands.proofs.Sections.{Passes, done, next, all-passed, before, text-is, is-text, begins, lines-joined, none-fit, Stops, ended, endless, faulty, full, comes, passes-run, stops-run}
 use Rattle.demands.proofs.Standing.{head-points, Declaration, undeclared, declared, open-behind, declaration-told, laid-out, Stands, stands-start, stands-next}
 use Rattle.demands.proofs.Faulty.{judge-passes, passes-judge, judge-fails, fails-judge}
@@ -223,7 +223,7 @@ module _ (seal : Seal) (file : List ℕ) (room : Option ℕ) where
   stopped lines st k x rest w e v (full {l = l} {ls = ls} m h g) =
       let c = cut rest l ls e in
       let i : m .flight .lines ≡ length lines + 1 = judged-more l st m h .lines ∙ ap (λ y. y + 1) (v .lines) in
-      rw i (table-full lines l (c .rest) (rw (c .bytes) at w) (text-is l (c .clear)) (judge-passes lines l st v m h) (full-at room (length lines) (w .fits) (rw i at g)))
+      rw i (table-full lines l (c .rest) (rw (c .bytes) at w) (text-is l (c .clear)) (judge-passes lines l st v m h) (full-at room (length lines) (fits-so room _ (w .fits)) (rw i at g)))
 
   means : Means (verdict seal file room)
   unfolding verdict number
@@ -233,7 +233,7 @@ module _ (seal : Seal) (file : List ℕ) (room : Option ℕ) where
       let c = comes seal room (linesOf file) start (none-fit room) in
       let b = begins (c .lines) file (c .left) (c .parted) in
       let v = passes-behind [] stands-start (c .passes) in
-      let fits = rw (all-passed (c .passes)) at (c .fits) in
+      let fits = fits-there room _ (rw (all-passed (c .passes)) at (c .fits)) in
       let w : Before file room (c .lines) (b .rest) = record { least = leb-true _ _ p; most = leb-true _ _ q; bytes = b .bytes; texts = b .texts; passes = v .0; fits = fits } in
       stopped (c .lines) (c .state) (c .left) (run seal room start (linesOf file)) (b .rest) w (b .lines) (v .1) (c .stops)
 
@@ -253,7 +253,7 @@ module _ (seal : Seal) (file : List ℕ) (room : Option ℕ) where
   unfolding verdict
   goes lines rest k x w e h s =
       let l : linesOf file ≡ before lines k = ap linesOf (w .bytes) ∙ lines-joined lines rest (w .texts) ∙ ap (before lines) e in
-      rw (le-leb _ _ (w .least), le-leb _ _ (w .most), l) (passes-run seal room k (h .1) (rw (h .2 .lines) (w .fits)) ∙ stops-run seal room (h .0) s)
+      rw (le-leb _ _ (w .least), le-leb _ _ (w .most), l) (passes-run seal room k (h .1) (rw (h .2 .lines) (fits-so room _ (w .fits))) ∙ stops-run seal room (h .0) s)
 
   finish-early : (lines : List (List ℕ)) (st : State) → Stands lines st → Open lines ⊎ Unsealed seal lines
       → finish seal st ≡ refuses 16 (st .flight .lines + 1) 0

@@ -32,7 +32,7 @@ use Rattle.demands.specs.Grammar.{IsHeadLine, IsPointLine, AtMostOne, ab
 use Rattle.demands.specs.Grammar as grammar
 use Rattle.demands.specs.Coming.{orZero, isAmong, only, without, endsWith, pointsOf, isOpen, lettersBefore, those, firstEntries, lastTime}
 use Rattle.demands.specs.FieldTexts.{Letter}
-use Rattle.demands.proofs.Laws.{each-join}
+use Rattle.sound.proofs.Each.{each-join}
 use Rattle.demands.proofs.EachLine.{e-inv, f-inv, columned-time, head-reads, head-said, head-there, point-there}
 use Rattle.demands.proofs.LayoutLines.{there, layout-laid, layout-there, layout-said}
 use Rattle.demands.proofs.Leading.{every, put-by, same-family, is-same, letter, tells-letter, isTelling, isTiming, isSealing, leadsTo, letter-tests, counts-more, Sound, sound-start, some-points, plain-fits, head-fits, order-inv, judge-leads, stays-sound, none-pass}

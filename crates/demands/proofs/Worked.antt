@@ -27,7 +27,8 @@ use Rattle.demands.specs.Coming.{isAmong}
 use Rattle.demands.specs.Grammar.{IsText, july, AtMostOne, absent, given, Timed, columned, event, satellites, Items, done, timed, untimed, Body, undeclared, declared, none, column, linesIn, Meets, joinLines}
 use Rattle.laws.proofs.Splitting.{lines-are-text}
 use Rattle.demands.proofs.Sections.{text-is}
-use Rattle.demands.proofs.Laws.{each-map, each-join, each-cut, are-valid, width-exactly, rule-exactly}
+use Rattle.sound.proofs.Each.{each-map, each-join, each-cut}
+use Rattle.demands.proofs.Laws.{are-valid, width-exactly, rule-exactly}
 use Rattle.demands.proofs.Leading.{every, none-pass}
 use Rattle.demands.proofs.EachLine.{columned-letter, head-said, point-said}
 use Rattle.demands.proofs.Reading.{Aside, other-than, untimed-aside, front, back, in-three, front-aside, back-by}
@@ -81,17 +82,20 @@ five-meet = record {
     };
     day = record { text = refl; day = record { from = lit≤ tt; to = lit≤ tt; days = 31; month = july; low = lit≤ tt; high = lit≤ tt } };
     headers = tt;
-    told = every (λ f. AtMostOne f (layoutOf f (record { b = fiveLayout; k = emptyLayout })) (every (λ f. List (List ℕ)) (bytes "I023638FXA3940SIU" ∷ []) [] f)) (given (record {
-      entries = fxa ∷ siu ∷ [];
-      tiles = (
-        record { starts = refl; ends = lit≤ tt; spelt = lit≤ tt; word = refl; wide = width-exactly 0x465841 3 .0 refl },
-        ((λ e. omega arith), tt),
-        (record { starts = refl; ends = lit≤ tt; spelt = lit≤ tt; word = refl; wide = width-exactly 0x534955 2 .0 refl }, tt, tt),
-      );
-      text = refl;
-      short = lit≤ tt;
-      slots = refl;
-    })) absent;
+    told = (
+      given (record {
+        entries = fxa ∷ siu ∷ [];
+        tiles = (
+          record { starts = refl; ends = lit≤ tt; spelt = lit≤ tt; word = refl; wide = width-exactly 0x465841 3 .0 refl },
+          ((λ e. omega arith), tt),
+          (record { starts = refl; ends = lit≤ tt; spelt = lit≤ tt; word = refl; wide = width-exactly 0x534955 2 .0 refl }, tt, tt),
+        );
+        text = refl;
+        short = lit≤ tt;
+        slots = refl;
+      }),
+      absent,
+    );
     body = undeclared (timed (columned family.B (
       theFix,
       refl,

@@ -92,7 +92,7 @@ unfolding bytes
 mayCome role.Opens ls = eqb (length ls) 0
 -- behind line 1, among H lines only
 mayCome role.Heads ls = leb 1 (length ls) && only (bytes "AH") ls
--- behind line 2, and behind no later layout line
+-- behind line 2, with only the A line, H lines and earlier layout lines before it
 mayCome (role.Tells f) ls = leb 2 (length ls) && only (lettersBefore f) ls
 -- the next point of the declaration, or the head of the only one, before the first B
 mayCome role.Declares ls = (isOpen ls || (without (code "C") ls && without (code "B") ls)) && isBody ls

@@ -8,10 +8,9 @@ use mathlib.Core.Option.{Option, some}
 use mathlib.Core.Path.{_≡_}
 use lib.ListN.{length, getD}
 use Rattle.rules.specs.Choice.{Each}
-use Rattle.rules.specs.Files.{hasRoom}
 use Rattle.rules.specs.declared.Seal.{Seal}
 use Rattle.rules.specs.declared.Seal.the-variants as seal
-use Rattle.demands.specs.Grammar.{IsText, joinLines, beginning}
+use Rattle.demands.specs.Grammar.{IsText, joinLines, beginning, Fits}
 use Rattle.demands.specs.Coming.{Open}
 use Rattle.demands.specs.Checks.{AllPass, FailsFirst, checksOf}
 
@@ -27,7 +26,7 @@ pub record Before (file : List ℕ) (room : Option ℕ) (lines : List (List ℕ)
   pub bytes : file ≡ joinLines lines ++ rest
   pub texts : Each IsText lines
   pub passes : PassAfter [] lines
-  pub fits : hasRoom room (length lines) ≡ true
+  pub fits : Fits room (length lines)
 
 -- "first CR or LF is not CR LF, or none comes", behind n bytes of text
 pub data NoEnd : List ℕ → ℕ → Type 0 where

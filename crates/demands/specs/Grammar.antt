@@ -5,6 +5,7 @@ use Prim.Native.Char.{code}
 use mathlib.Core.Bool.{Bool, true, false, cond}
 use mathlib.Core.List.{List, [], _∷_, _++_}
 use mathlib.Core.Logic.{_⊎_}
+use mathlib.Core.Option as option
 use mathlib.Core.Path.{_≡_}
 use lib.Dec.{eqb}
 use lib.ListN.{length, getD, replicate}
@@ -301,7 +302,7 @@ pub record Keeps (seal : Seal) (p : Parts) (date : Date) (layouts : Layouts) (ti
   pub recorder : IsALine (p .recorder)
   pub day : IsDateLine date (p .day)
   pub headers : Each IsHLine (p .headers)
-  pub told : (f : Family) → AtMostOne f (layoutOf f layouts) (p .told f)
+  pub told : AtMostOne family.B (layouts .b) (p .told family.B) × AtMostOne family.K (layouts .k) (p .told family.K)
   pub body : Body layouts (p .body) times
   pub order : InOrder times
   pub seals : Each IsGLine (p .seal)
@@ -333,6 +334,13 @@ pub record Meets (seal : Seal) (file : List ℕ) : Type 0 where
   pub layouts : Layouts
   pub times : List ℕ
   pub keeps : Keeps seal parts date layouts times
+
+-- ---- the table
+
+-- so many lines have an entry each in the lent table, where one is lent
+abbrev pub Fits : option.Option ℕ → ℕ → Type 0
+Fits option.none lines = Unit {0}
+Fits (option.some most) lines = lines ≤ most
 
 -- ---- what the file says
 

@@ -14,7 +14,7 @@ use Rattle.rules.specs.Listed.{codeText}
 use Rattle.rules.specs.Layouts.{spanOf, entriesOf, columnText}
 use Rattle.rules.specs.Split.{boundsOf, lineText, stepAt}
 use Rattle.rules.specs.Files.{tableAfter}
-use Rattle.rules.specs.Reads.{fixSaid, extraSaid, headSaid, pointSaid, columnSaid, columnRest, numberSaid}
+use Rattle.rules.specs.Reads.{fixSaid, extraSaid, headSaid, pointSaid, columnSaid, columnTextSaid, numberSaid}
 use Rattle.rules.specs.declared.Reason.the-variants.{Absent, NotNumber}
 use Rattle.rules.specs.declared.Signed.{Signed}
 use Rattle.rules.specs.declared.Entry.{Entry}
@@ -43,7 +43,7 @@ NumberOf t (refuses n l b) = (refuses n l b ≡ no {A = Signed} NotNumber 0) × 
 -- "A column is read by its code as text, and as a whole number ..": an entry's code leads to the bytes from its first to its last, so many, and to their number
 pub record ReadsColumn (layout : Layout) (l : List ℕ) (e : Entry) : Type 0 where
   pub span : columnSaid l layout (codeText (e .code)) ≡ says (spanOf e)
-  pub text : columnRest l (columnSaid l layout (codeText (e .code))) ≡ columnText l (spanOf e)
+  pub text : columnTextSaid l (columnSaid l layout (codeText (e .code))) ≡ columnText l (spanOf e)
   pub wide : length (columnText l (spanOf e)) ≡ widthOf e
   pub number : NumberOf (columnText l (spanOf e)) (numberSaid l layout (codeText (e .code)))
 
@@ -81,14 +81,10 @@ pub record ReadsExtra (layout : Layout) (l : List ℕ) : Type 0 where
   pub reads : extraSaid l layout ≡ says time
   pub columns : ReadsColumns family.K layout l
 
--- a line of a family, by its layout
-abbrev pub ReadsColumned : Family → Layout → List ℕ → Type 0
-ReadsColumned family.B layout l = ReadsFix layout l
-ReadsColumned family.K layout l = ReadsExtra layout l
-
--- of whichever family the line is
-abbrev pub ReadsLine : Layouts → List ℕ → Type 0
-ReadsLine layouts l = (f : Family) → getD l 0 0 ≡ lineLetter f → ReadsColumned f (layoutOf f layouts) l
+-- a B line by the I layout, a K line by the J layout
+pub record ReadsLine (layouts : Layouts) (l : List ℕ) : Type 0 where
+  pub b : getD l 0 0 ≡ code "B" → ReadsFix (layouts .b) l
+  pub k : getD l 0 0 ≡ code "K" → ReadsExtra (layouts .k) l
 
 -- a C point line reads as the point whose line it is
 pub record ReadsPoint (l : List ℕ) : Type 0 where

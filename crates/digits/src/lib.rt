@@ -3,7 +3,7 @@ ghost use Prim.Native.Nat.{_+_, _≤_};
 ghost use mathlib.Core.Path.{_≡_};
 ghost use lib.Dec.{leb};
 ghost use lib.ListN.{length};
-ghost use Rattle.rules.specs.Promises.{DigitsRead};
+ghost use Rattle.rules.specs.Promises.{DigitsGiven};
 use rules::Number;
 
 // Whether a text of `size` bytes has n bytes from a place on.
@@ -16,7 +16,7 @@ fn reaches(size: usize, at: usize, n: usize) -> bool
 // One digit that is there, as a number.
 fn one_there(s: &[u8], at: usize) -> Number
     requires { ⌜ at + 1 ≤ length (now s) ⌝ }
-    ensures { λ r. ⌜ DigitsRead (now (s .entry)) at 1 r ⌝ }
+    ensures { λ r. ⌜ DigitsGiven (now (s .entry)) at 1 r ⌝ }
 {
     let b = s[at];
     if number::is_digit(b) {
@@ -28,7 +28,7 @@ fn one_there(s: &[u8], at: usize) -> Number
 // Two digits that are there: one and one.
 fn two_there(s: &[u8], at: usize) -> Number
     requires { ⌜ at + 2 ≤ length (now s) ⌝ }
-    ensures { λ r. ⌜ DigitsRead (now (s .entry)) at 2 r ⌝ }
+    ensures { λ r. ⌜ DigitsGiven (now (s .entry)) at 2 r ⌝ }
 {
     let Number::Value(v) = one_there(s, at) else {
         return Number::NoNumber;
@@ -42,7 +42,7 @@ fn two_there(s: &[u8], at: usize) -> Number
 // Three digits that are there: two and one.
 fn three_there(s: &[u8], at: usize) -> Number
     requires { ⌜ at + 3 ≤ length (now s) ⌝ }
-    ensures { λ r. ⌜ DigitsRead (now (s .entry)) at 3 r ⌝ }
+    ensures { λ r. ⌜ DigitsGiven (now (s .entry)) at 3 r ⌝ }
 {
     let Number::Value(v) = two_there(s, at) else {
         return Number::NoNumber;
@@ -56,7 +56,7 @@ fn three_there(s: &[u8], at: usize) -> Number
 // Four digits that are there: three and one.
 fn four_there(s: &[u8], at: usize) -> Number
     requires { ⌜ at + 4 ≤ length (now s) ⌝ }
-    ensures { λ r. ⌜ DigitsRead (now (s .entry)) at 4 r ⌝ }
+    ensures { λ r. ⌜ DigitsGiven (now (s .entry)) at 4 r ⌝ }
 {
     let Number::Value(v) = three_there(s, at) else {
         return Number::NoNumber;
@@ -70,7 +70,7 @@ fn four_there(s: &[u8], at: usize) -> Number
 // Five digits that are there: four and one.
 fn five_there(s: &[u8], at: usize) -> Number
     requires { ⌜ at + 5 ≤ length (now s) ⌝ }
-    ensures { λ r. ⌜ DigitsRead (now (s .entry)) at 5 r ⌝ }
+    ensures { λ r. ⌜ DigitsGiven (now (s .entry)) at 5 r ⌝ }
 {
     let Number::Value(v) = four_there(s, at) else {
         return Number::NoNumber;
@@ -83,7 +83,7 @@ fn five_there(s: &[u8], at: usize) -> Number
 
 // The number that two digits at a place of s spell, as `number::digits` gives it.
 pub fn two(s: &[u8], at: usize) -> Number
-    ensures { λ r. ⌜ DigitsRead (now (s .entry)) at 2 r ⌝ }
+    ensures { λ r. ⌜ DigitsGiven (now (s .entry)) at 2 r ⌝ }
 {
     if !reaches(s.len(), at, 2) {
         return Number::NoNumber;
@@ -93,7 +93,7 @@ pub fn two(s: &[u8], at: usize) -> Number
 
 // The number that three digits at a place of s spell, as `number::digits` gives it.
 pub fn three(s: &[u8], at: usize) -> Number
-    ensures { λ r. ⌜ DigitsRead (now (s .entry)) at 3 r ⌝ }
+    ensures { λ r. ⌜ DigitsGiven (now (s .entry)) at 3 r ⌝ }
 {
     if !reaches(s.len(), at, 3) {
         return Number::NoNumber;
@@ -103,7 +103,7 @@ pub fn three(s: &[u8], at: usize) -> Number
 
 // The number that four digits at a place of s spell, as `number::digits` gives it.
 pub fn four(s: &[u8], at: usize) -> Number
-    ensures { λ r. ⌜ DigitsRead (now (s .entry)) at 4 r ⌝ }
+    ensures { λ r. ⌜ DigitsGiven (now (s .entry)) at 4 r ⌝ }
 {
     if !reaches(s.len(), at, 4) {
         return Number::NoNumber;
@@ -113,7 +113,7 @@ pub fn four(s: &[u8], at: usize) -> Number
 
 // The number that five digits at a place of s spell, as `number::digits` gives it.
 pub fn five(s: &[u8], at: usize) -> Number
-    ensures { λ r. ⌜ DigitsRead (now (s .entry)) at 5 r ⌝ }
+    ensures { λ r. ⌜ DigitsGiven (now (s .entry)) at 5 r ⌝ }
 {
     if !reaches(s.len(), at, 5) {
         return Number::NoNumber;

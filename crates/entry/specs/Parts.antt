@@ -58,8 +58,8 @@ unfoldable pub lettersTold : Letters → Option ℕ
 lettersTold (letters.Code x) = some x
 lettersTold letters.NoCode = none
 
-abbrev pub CodeRead : List ℕ → ℕ → Letters → Type 0
-CodeRead l at r = lettersTold r ≡ codeAt l at
+abbrev pub CodeGiven : List ℕ → ℕ → Letters → Type 0
+CodeGiven l at r = lettersTold r ≡ codeAt l at
 
 -- the entry behind i others: the letter, NN and 7 bytes for each entry stand before it
 abbrev pub EntryGiven : List ℕ → ℕ → ℕ → Layout → EntryRead → Type 0

@@ -2,7 +2,7 @@
 ghost use Prim.Native.Nat.{_≤_};
 ghost use mathlib.Core.Path.{_≡_};
 ghost use Rattle.rules.specs.Refusals.{no};
-ghost use Rattle.entry.specs.Parts.{NoColumns, StartGiven, SpotFound, CarriesTest, ColumnFound, EntryPlaced, CodeRead, EntryGiven, entryTold};
+ghost use Rattle.entry.specs.Parts.{NoColumns, StartGiven, SpotFound, CarriesTest, ColumnFound, EntryPlaced, CodeGiven, EntryGiven, entryTold};
 use rules::ColumnRead;
 use rules::Entry;
 use rules::Family;
@@ -105,7 +105,7 @@ pub enum Letters {
 // The code at a place of a line. NoCode where not three code characters stand there.
 fn code_at(line: &[u8], at: usize) -> Letters
     requires { ⌜ at ≤ 2000 ⌝ }
-    ensures { λ r. ⌜ CodeRead (now (line .entry)) at r ⌝ }
+    ensures { λ r. ⌜ CodeGiven (now (line .entry)) at r ⌝ }
 {
     if !chars::codes_at(line, at, 3) {
         return Letters::NoCode;

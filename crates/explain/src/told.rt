@@ -1,5 +1,5 @@
 // The first line of an explanation, and the whole, put into a buffer, with the place behind them as the answer.
-ghost use Rattle.pieces.specs.Buffer.{Fills};
+ghost use Rattle.pieces.specs.Buffer.{PiecePut};
 ghost use Rattle.explain.specs.Explanation.{called, counted, placed, begun, meant, head, explanation};
 use faulty::line_text;
 use pieces::put_byte;
@@ -13,7 +13,7 @@ use rules::Reason;
 use rules::Refusal;
 
 fn put_called(out: &mut [u8], reason: Reason) -> usize
-    ensures { λ r. ⌜ Fills (now (out .entry)) 0 (called reason) r (now (out .exit)) ⌝ }
+    ensures { λ r. ⌜ PiecePut (now (out .entry)) 0 (called reason) r (now (out .exit)) ⌝ }
 {
     let number = refusals::number(reason);
     let a = put_text(out, 0, b"REFUSED");
@@ -23,7 +23,7 @@ fn put_called(out: &mut [u8], reason: Reason) -> usize
 }
 
 fn put_counted(out: &mut [u8], at: usize, word: &[u8], n: u32) -> usize
-    ensures { λ r. ⌜ Fills (now (out .entry)) at (counted (now (word .entry)) n) r (now (out .exit)) ⌝ }
+    ensures { λ r. ⌜ PiecePut (now (out .entry)) at (counted (now (word .entry)) n) r (now (out .exit)) ⌝ }
 {
     if n == 0 {
         return at;
@@ -33,14 +33,14 @@ fn put_counted(out: &mut [u8], at: usize, word: &[u8], n: u32) -> usize
 }
 
 fn put_placed(out: &mut [u8], at: usize, line: u32, byte: u32) -> usize
-    ensures { λ r. ⌜ Fills (now (out .entry)) at (placed line byte) r (now (out .exit)) ⌝ }
+    ensures { λ r. ⌜ PiecePut (now (out .entry)) at (placed line byte) r (now (out .exit)) ⌝ }
 {
     let next = put_counted(out, at, b", line", line);
     put_counted(out, next, b", byte", byte)
 }
 
 fn put_begun(out: &mut [u8], at: usize, byte: u32) -> usize
-    ensures { λ r. ⌜ Fills (now (out .entry)) at (begun byte) r (now (out .exit)) ⌝ }
+    ensures { λ r. ⌜ PiecePut (now (out .entry)) at (begun byte) r (now (out .exit)) ⌝ }
 {
     let from = bytes_before(byte as usize);
     if from == 0 {
@@ -52,7 +52,7 @@ fn put_begun(out: &mut [u8], at: usize, byte: u32) -> usize
 }
 
 fn put_meant(out: &mut [u8], at: usize, reason: Reason, byte: u32) -> usize
-    ensures { λ r. ⌜ Fills (now (out .entry)) at (meant reason byte) r (now (out .exit)) ⌝ }
+    ensures { λ r. ⌜ PiecePut (now (out .entry)) at (meant reason byte) r (now (out .exit)) ⌝ }
 {
     let a = put_text(out, at, b": ");
     let b = put_meaning(out, a, reason);
@@ -61,7 +61,7 @@ fn put_meant(out: &mut [u8], at: usize, reason: Reason, byte: u32) -> usize
 }
 
 fn put_head(out: &mut [u8], why: Refusal) -> usize
-    ensures { λ r. ⌜ Fills (now (out .entry)) 0 (head why) r (now (out .exit)) ⌝ }
+    ensures { λ r. ⌜ PiecePut (now (out .entry)) 0 (head why) r (now (out .exit)) ⌝ }
 {
     let reason = why.reason;
     let a = put_called(out, reason);
@@ -70,7 +70,7 @@ fn put_head(out: &mut [u8], why: Refusal) -> usize
 }
 
 pub(crate) fn put_explanation(out: &mut [u8], file: &[u8], why: Refusal) -> usize
-    ensures { λ r. ⌜ Fills (now (out .entry)) 0 (explanation (now (file .entry)) why) r (now (out .exit)) ⌝ }
+    ensures { λ r. ⌜ PiecePut (now (out .entry)) 0 (explanation (now (file .entry)) why) r (now (out .exit)) ⌝ }
 {
     let next = put_head(out, why);
     if why.line == 0 {

@@ -4,10 +4,10 @@ use mathlib.Core.List.{List}
 use Rattle.rules.specs.declared.Class.{Class}
 use Rattle.laws.proofs.Only.{Only, same, alike}
 use Rattle.laws.proofs.Told.{fix-one}
-use Rattle.fix.specs.Parts.{FormGiven, FieldsRead}
+use Rattle.fix.specs.Parts.{FormGiven, FieldsGiven}
 
 pub only-form-given : (c : Class) (first : ℕ) → Only (FormGiven c first)
 only-form-given c first = same
 
-pub only-fields-read : (l : List ℕ) → Only (FieldsRead l)
-only-fields-read l = alike fix-one
+pub only-fields-given : (l : List ℕ) → Only (FieldsGiven l)
+only-fields-given l = alike fix-one

@@ -17,5 +17,5 @@ abbrev pub FormGiven : Class → ℕ → Refusal → Type 0
 FormGiven c first r = r ≡ formAt c first
 
 -- the fields of a B line before its columns
-abbrev pub FieldsRead : List ℕ → FixRead → Type 0
-FieldsRead l r = fixTold r ≡ fixFields l
+abbrev pub FieldsGiven : List ℕ → FixRead → Type 0
+FieldsGiven l r = fixTold r ≡ fixFields l

@@ -1,12 +1,12 @@
 // The fields of a B line before its columns, and how a field that breaks its rule is refused.
 ghost use mathlib.Core.Path.{_≡_};
 ghost use Rattle.rules.specs.Refusals.{reasonOf};
-ghost use Rattle.fix.specs.Parts.{FormGiven, FieldsRead};
+ghost use Rattle.fix.specs.Parts.{FormGiven, FieldsGiven};
 use rules::Altitude;
 use rules::Class;
 use rules::Fix;
 use rules::FixRead;
-use rules::Place;
+use rules::PositionField;
 use rules::Reason;
 use rules::Refusal;
 use rules::Time;
@@ -37,15 +37,15 @@ pub fn form(class: Class, byte: u32) -> Refusal
 
 // The fields of a B line before its columns.
 pub fn fix_fields(line: &[u8]) -> FixRead
-    ensures { λ r. ⌜ FieldsRead (now (line .entry)) r ⌝ }
+    ensures { λ r. ⌜ FieldsGiven (now (line .entry)) r ⌝ }
 {
     let Time::Secs(time) = field::time_at(line, 1) else {
         return FixRead::Refused(form(Class::Time, 2));
     };
-    let Place::Is(lat) = field::latitude_at(line, 7) else {
+    let PositionField::Is(lat) = field::latitude_at(line, 7) else {
         return FixRead::Refused(form(Class::Position, 8));
     };
-    let Place::Is(lon) = field::longitude_at(line, 15) else {
+    let PositionField::Is(lon) = field::longitude_at(line, 15) else {
         return FixRead::Refused(form(Class::Position, 16));
     };
     let validity = chars::byte(line, 24);

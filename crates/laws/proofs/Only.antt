@@ -8,7 +8,7 @@ use Rattle.rules.specs.Refusals.{Said}
 use Rattle.rules.specs.Layouts.{LayoutTold, allowed}
 use Rattle.rules.specs.Files.{CheckedTold}
 use Rattle.rules.specs.Writes.{fixText, isFix, extraText, isExtra, layoutText, headText, isHead, pointText, isPoint}
-use Rattle.rules.specs.Promises.{DigitsRead, WholeRead, DigitsPut, DigitTest, CodeTest, ValidTest, InvalidFound, CodesTest, ByteAt, EitherTest, TimeAt, DateAt, LatitudeAt, LongitudeAt, AltitudeAt, TimePut, DatePut, LatitudePut, LongitudePut, AltitudePut, DegreesGiven, ListedAt, AllowedTest, LengthGiven, LookGiven, PresenceGiven, ColumnTest, KindGiven, ColumnsChecked, ShapeChecked, RecorderChecked, DateLineChecked, HeaderChecked, LayoutChecked, HeadChecked, PointChecked, DifferentialChecked, EventChecked, SatellitesChecked, FixChecked, ExtraChecked, ColumnedChecked, FixGiven, ExtraGiven, EventGiven, SatellitesGiven, DateGiven, LayoutGiven, HeadGiven, HeadRest, PointGiven, PointRest, ColumnGiven, ColumnRest, NumberGiven, FileChecked, FileJudged, LineGiven, LineRest, Written, FixWritten, ExtraWritten, LayoutWritten, HeadWritten, PointWritten}
+use Rattle.rules.specs.Promises.{DigitsGiven, WholeGiven, DigitsPut, DigitTest, CodeTest, ValidTest, InvalidFound, CodesTest, ByteAt, EitherTest, TimeAt, DateAt, LatitudeAt, LongitudeAt, AltitudeAt, TimePut, DatePut, LatitudePut, LongitudePut, AltitudePut, DegreesGiven, ListedAt, AllowedTest, LengthGiven, LookGiven, PresenceGiven, ColumnTest, KindGiven, ColumnsChecked, ShapeChecked, RecorderChecked, DateLineChecked, HeaderChecked, LayoutChecked, HeadChecked, PointChecked, DifferentialChecked, EventChecked, SatellitesChecked, FixChecked, ExtraChecked, ColumnedChecked, FixGiven, ExtraGiven, EventGiven, SatellitesGiven, DateGiven, LayoutGiven, HeadGiven, HeadRest, PointGiven, PointRest, ColumnGiven, ColumnTextGiven, NumberGiven, FileChecked, FileJudged, LineGiven, LineTextGiven, Written, FixWritten, ExtraWritten, LayoutWritten, HeadWritten, PointWritten}
 use Rattle.rules.specs.declared.Date.{Date}
 use Rattle.rules.specs.declared.Position.{Position}
 use Rattle.rules.specs.declared.Height.{Height}
@@ -19,7 +19,7 @@ use Rattle.rules.specs.declared.Head.{Head}
 use Rattle.rules.specs.declared.Point.{Point}
 use Rattle.rules.specs.declared.Flight.{Flight}
 use Rattle.rules.specs.declared.Seal.{Seal}
-use Rattle.laws.proofs.Told.{OneToOne, altitude-one, column-one, date-one, day-one, degrees-one, digits-one, fix-one, found-one, head-one, length-one, line-one, outcome-one, place-one, point-one, presence-one, time-one, timed-one, value-one, whole-one, wrote-one}
+use Rattle.laws.proofs.Told.{OneToOne, altitude-one, column-one, date-one, day-one, degrees-one, digits-one, fix-one, found-one, head-one, length-one, line-one, outcome-one, position-one, point-one, presence-one, time-one, timed-one, value-one, whole-one, wrote-one}
 
 -- ---- what is claimed
 
@@ -56,11 +56,11 @@ checked-only r r′ e e′ =
 
 -- ---- digits and whole numbers
 
-pub only-digits-read : (s : List ℕ) (at n : ℕ) → Only (DigitsRead s at n)
-only-digits-read s at n = alike digits-one
+pub only-digits-given : (s : List ℕ) (at n : ℕ) → Only (DigitsGiven s at n)
+only-digits-given s at n = alike digits-one
 
-pub only-whole-read : (t : List ℕ) → Only (WholeRead t)
-only-whole-read t = alike whole-one
+pub only-whole-given : (t : List ℕ) → Only (WholeGiven t)
+only-whole-given t = alike whole-one
 
 pub only-digits-put : (n v at : ℕ) (out : List ℕ) → Only (DigitsPut n v at out)
 only-digits-put n v at out = same
@@ -97,10 +97,10 @@ pub only-date-at : (s : List ℕ) (at : ℕ) → Only (DateAt s at)
 only-date-at s at = alike day-one
 
 pub only-latitude-at : (s : List ℕ) (at : ℕ) → Only (LatitudeAt s at)
-only-latitude-at s at = alike place-one
+only-latitude-at s at = alike position-one
 
 pub only-longitude-at : (s : List ℕ) (at : ℕ) → Only (LongitudeAt s at)
-only-longitude-at s at = alike place-one
+only-longitude-at s at = alike position-one
 
 pub only-altitude-at : (s : List ℕ) (at : ℕ) → Only (AltitudeAt s at)
 only-altitude-at s at = alike altitude-one
@@ -225,8 +225,8 @@ only-point-rest l = same
 pub only-column-given : (l : List ℕ) (layout : Layout) (name : List ℕ) → Only (ColumnGiven l layout name)
 only-column-given l layout name = alike column-one
 
-pub only-column-rest : (l : List ℕ) (layout : Layout) (name : List ℕ) → Only (ColumnRest l layout name)
-only-column-rest l layout name = same
+pub only-column-text-given : (l : List ℕ) (layout : Layout) (name : List ℕ) → Only (ColumnTextGiven l layout name)
+only-column-text-given l layout name = same
 
 pub only-number-given : (l : List ℕ) (layout : Layout) (name : List ℕ) → Only (NumberGiven l layout name)
 only-number-given l layout name = alike value-one
@@ -242,8 +242,8 @@ only-file-judged seal file = checked-only
 pub only-line-given : (file table : List ℕ) (n : ℕ) → Only (LineGiven file table n)
 only-line-given file table n = alike line-one
 
-pub only-line-rest : (file table : List ℕ) (n : ℕ) → Only (LineRest file table n)
-only-line-rest file table n = same
+pub only-line-text-given : (file table : List ℕ) (n : ℕ) → Only (LineTextGiven file table n)
+only-line-text-given file table n = same
 
 -- ---- writers
 

@@ -183,20 +183,20 @@ judged-so l st after j = rw (le-leb 1 (length l) (j .long), j .known, j .order) 
 
 -- ---- the lines one after the other
 
-pub record Ran (seal : Seal) (room : Option ℕ) (st : State) (t : List ℕ) (ls : Lines) (f : Flight) : Type 0 where
+pub record Goes (seal : Seal) (room : Option ℕ) (st : State) (t : List ℕ) (ls : Lines) (f : Flight) : Type 0 where
   pub after : State
   pub judges : judge t st ≡ says after
   pub fits : hasRoom room (after .flight .lines) ≡ true
   pub runs : run seal room after ls ≡ says f
 
 module _ (seal : Seal) (room : Option ℕ) (st : State) (t : List ℕ) (ls : Lines) (f : Flight) where
-  pub ran : run seal room st (line t ls) ≡ says f → Ran seal room st t ls f
+  pub ran : run seal room st (line t ls) ≡ says f → Goes seal room st t ls f
   unfolding run
   ran e =
       let a = then-inv (inLine (st .flight .lines + 1) (judge t st)) f _ e in
       let n = need-inv (hasRoom room (a .0 .flight .lines)) _ (says f) _ refuses-says (a .2) in
       record { after = a .0; judges = in-line-inv _ (judge t st) (a .0) (a .1); fits = n .0; runs = n .1 }
 
-  pub ran-so : Ran seal room st t ls f → run seal room st (line t ls) ≡ says f
+  pub ran-so : Goes seal room st t ls f → run seal room st (line t ls) ≡ says f
   unfolding run
   ran-so r = rw (r .judges, r .fits) (r .runs)

@@ -6,7 +6,7 @@ use lib.ListN.{getD}
 use Rattle.rules.specs.Choice.{given}
 use Rattle.rules.specs.Refusals.{Said, says, refuses, number, refusal, outcomeTold}
 use Rattle.rules.specs.Numbers.{numberTold, wholeTold}
-use Rattle.rules.specs.Fields.{timeTold, dayTold, placeTold, altitudeTold}
+use Rattle.rules.specs.Fields.{timeTold, dayTold, positionTold, altitudeTold}
 use Rattle.rules.specs.Degrees.{degreesTold}
 use Rattle.rules.specs.Layouts.{lengthTold, presenceTold, columnTold}
 use Rattle.rules.specs.Split.{lineTold}
@@ -22,7 +22,7 @@ use Rattle.rules.specs.declared.Number.the-variants as number
 use Rattle.rules.specs.declared.Whole.the-variants as whole
 use Rattle.rules.specs.declared.Time.the-variants as time
 use Rattle.rules.specs.declared.Day.the-variants as day
-use Rattle.rules.specs.declared.Place.the-variants as place
+use Rattle.rules.specs.declared.PositionField.the-variants as place
 use Rattle.rules.specs.declared.Altitude.the-variants as altitude
 use Rattle.rules.specs.declared.DegreesRead.the-variants as degreesRead
 use Rattle.rules.specs.declared.LengthRead.the-variants as lengthRead
@@ -101,9 +101,9 @@ pub day-one : OneToOne dayTold
 unfolding dayTold
 day-one = by-back (λ o. given o day.NoDay day.On) (elim [ day.On v ↦ refl | day.NoDay ↦ refl ])
 
-pub place-one : OneToOne placeTold
-unfolding placeTold
-place-one = by-back (λ o. given o place.NoPlace place.Is) (elim [ place.Is v ↦ refl | place.NoPlace ↦ refl ])
+pub position-one : OneToOne positionTold
+unfolding positionTold
+position-one = by-back (λ o. given o place.NoPosition place.Is) (elim [ place.Is v ↦ refl | place.NoPosition ↦ refl ])
 
 pub altitude-one : OneToOne altitudeTold
 unfolding altitudeTold

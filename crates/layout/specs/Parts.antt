@@ -12,8 +12,8 @@ use Rattle.rules.specs.declared.LayoutRead.{LayoutRead}
 use Rattle.rules.specs.declared.Family.{Family}
 
 -- whether a line can tell an entry behind others
-abbrev pub Follows : ℕ → Layout → Entry → Bool → Type 0
-Follows start before e r = r ≡ (isSpelt e && isSaid (placed start before e 0))
+abbrev pub EntryTest : ℕ → Layout → Entry → Bool → Type 0
+EntryTest start before e r = r ≡ (isSpelt e && isSaid (placed start before e 0))
 
 -- a refusal, and the empty layout beside it
 abbrev pub LayoutRefused : Refusal → LayoutRead → Type 0

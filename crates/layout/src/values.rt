@@ -6,7 +6,7 @@ ghost use Rattle.rules.specs.Choice.{leads};
 ghost use Rattle.rules.specs.Listed.{isCodeWord, listed, unlisted};
 ghost use Rattle.rules.specs.Layouts.{entriesOf, emptyLayout, isSpelt, isUnused, allPlaced, bit, wordFrom};
 ghost use Rattle.rules.specs.Promises.{AllowedTest, LengthGiven, LookGiven, PresenceGiven};
-ghost use Rattle.layout.specs.Parts.{Follows, LineLength};
+ghost use Rattle.layout.specs.Parts.{EntryTest, LineLength};
 use crate::reading::with_entry;
 use entry::EntryRead;
 use entry::carries;
@@ -54,7 +54,7 @@ fn is_spelt(e: Entry) -> bool
 
 // Whether a line can tell the entry at `start`, behind those of a layout.
 fn follows(start: usize, before: Layout, e: Entry) -> bool
-    ensures { λ r. ⌜ Follows start before e r ⌝ }
+    ensures { λ r. ⌜ EntryTest start before e r ⌝ }
 {
     if !is_spelt(e) {
         return false;

@@ -22,7 +22,7 @@ use Rattle.rules.proofs.Inverse.{and-inv}
 use Rattle.trips.proofs.Texts.{digit-range}
 use Rattle.put.specs.Puts.{Fills}
 use Rattle.put.proofs.Laws.{digits-length, put-last, fills-then, byte-then, digits-then}
-use Rattle.legend.specs.Spelling.{Spells}
+use Rattle.legend.specs.Spelling.{Spellable}
 use Rattle.ending.proofs.Laws.{regroup}
 
 pub entry-length : (e : Entry) → length (entryText e) ≡ 7
@@ -104,7 +104,7 @@ all-small (x ∷ es) start before e zero =
     small (x .code) (and-inv (leb (x .last) 99) _ (and-inv (isSpelt x) _ (and-inv (isSpelt x && isSaid (placed start before x 0)) _ e .0) .0) .1)
 all-small (x ∷ es) start before e (suc i) = all-small es (x .last + 1) (withEntry before x) (and-inv (isSpelt x && isSaid (placed start before x 0)) _ e .1) i
 
-pub spells : (start : ℕ) (l : Layout) → allowed start l ≡ true → Spells l
+pub spells : (start : ℕ) (l : Layout) → allowed start l ≡ true → Spellable l
 unfolding allowed
 spells start l e =
     let t = and-inv (leb (l .count) 13) _ (and-inv (leb (l .count) 13 && allPlaced (entriesOf l) start emptyLayout) _ e .0) in

@@ -8,7 +8,7 @@ ghost use Rattle.rules.specs.Layouts.{entriesOf};
 ghost use Rattle.rules.specs.Writes.{entryText, entryTexts, layoutText, crlf};
 ghost use Rattle.rules.specs.Promises.{LayoutWritten};
 ghost use Rattle.put.specs.Puts.{Fills};
-ghost use Rattle.legend.specs.Spelling.{Spells};
+ghost use Rattle.legend.specs.Spelling.{Spellable};
 use ending::refused;
 use rules::Entry;
 use rules::Family;
@@ -38,7 +38,7 @@ fn fill_entry(e: Entry, out: &mut [u8], at: usize)
 
 // The entries of a layout, one behind the other, from the fourth byte on.
 fn fill_entries(l: Layout, out: &mut [u8])
-    requires { ⌜ Spells l ⌝ }
+    requires { ⌜ Spellable l ⌝ }
     ensures { λ _. ⌜ Fills (now (out .entry)) 3 (entryTexts (entriesOf l)) (now (out .exit)) ⌝ }
 {
     let n = l.count;
@@ -62,7 +62,7 @@ fn letter(family: Family) -> u8
 
 // A layout's line and its CR LF, at the front of an output.
 fn fill_layout(family: Family, l: Layout, out: &mut [u8])
-    requires { ⌜ Spells l ⌝ }
+    requires { ⌜ Spellable l ⌝ }
     ensures { λ _. ⌜ Fills (now (out .entry)) 0 (layoutText family l ++ crlf) (now (out .exit)) ⌝ }
 {
     let n = l.count;

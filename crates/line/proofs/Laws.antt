@@ -22,7 +22,7 @@ use lib.Dec.{eqb}
 use Rattle.chars.proofs.Laws.{and-true, and-false}
 use Rattle.rules.specs.Choice.{given}
 use Rattle.rules.specs.declared.Planned.{Planned}
-use Rattle.rules.proofs.Links.{by-some, by-none, need-true, need-false, cond-eq, cond-ne, on-is, number-value, number-none, time-secs, time-none, day-on, day-none, place-is, place-none, outcome-accepted, outcome-refused, found-at, found-nothing, fix-is, fix-refused}
+use Rattle.rules.proofs.Links.{by-some, by-none, need-true, need-false, cond-eq, cond-ne, on-is, number-value, number-none, time-secs, time-none, day-on, day-none, position-is, position-none, outcome-accepted, outcome-refused, found-at, found-nothing, fix-is, fix-refused}
 use Rattle.fix.proofs.Laws.{refuses-form}
 use Rattle.line.specs.Parts.{plannedTold}
 use Rattle.line.specs.declared.PlannedRead.{PlannedRead}
@@ -106,7 +106,7 @@ pub ruleset plans = (cond-eq, cond-ne, number-value, number-none, day-on, day-no
 
 pub ruleset heads = (refuses-form, number-value, number-none, time-secs, time-none, day-on, day-none, planned-is, planned-none)
 
-pub ruleset points = (refuses-form, outcome-accepted, outcome-refused, place-is, place-none)
+pub ruleset points = (refuses-form, outcome-accepted, outcome-refused, position-is, position-none)
 
 pub ruleset columned = (outcome-accepted, outcome-refused)
 

@@ -25,10 +25,10 @@ use rules::Kind;
 use rules::Layout;
 use rules::Number;
 use rules::Outcome;
-use rules::Place;
 use rules::Planned;
 use rules::Point;
 use rules::PointRead;
+use rules::PositionField;
 use rules::Reason;
 use rules::Refusal;
 use rules::Time;
@@ -197,10 +197,10 @@ pub fn point_line(line: &[u8]) -> PointRead
     if let Outcome::Refused(r) = shape::shaped(line, 18, 255, false) {
         return PointRead::Refused(r);
     }
-    let Place::Is(lat) = field::latitude_at(line, 1) else {
+    let PositionField::Is(lat) = field::latitude_at(line, 1) else {
         return PointRead::Refused(form(Class::Position, 2));
     };
-    let Place::Is(lon) = field::longitude_at(line, 9) else {
+    let PositionField::Is(lon) = field::longitude_at(line, 9) else {
         return PointRead::Refused(form(Class::Position, 10));
     };
     PointRead::Is(Point { lat, lon })

@@ -2,7 +2,7 @@
 ghost use Prim.Native.Nat.{_<_, _^_};
 ghost use mathlib.Core.Path.{_≡_};
 ghost use lib.IntN.{pos, negℤ};
-ghost use Rattle.rules.specs.Promises.{DigitTest, DigitsRead, WholeRead};
+ghost use Rattle.rules.specs.Promises.{DigitTest, DigitsGiven, WholeGiven};
 use rules::Number;
 use rules::Signed;
 use rules::Whole;
@@ -16,7 +16,7 @@ pub fn is_digit(b: u8) -> bool
 
 // The number that n digits at a place of s spell. NoNumber where another byte stands there, s ends before, or n is over 18.
 pub fn digits(s: &[u8], at: usize, n: usize) -> Number
-    ensures { λ r. ⌜ DigitsRead (now (s .entry)) at n r ⌝ }
+    ensures { λ r. ⌜ DigitsGiven (now (s .entry)) at n r ⌝ }
 {
     if 18 < n {
         return Number::NoNumber;
@@ -57,7 +57,7 @@ fn minus(v: u64) -> Signed
 
 // A whole text as a number: 1 to 18 digits, with or without a minus before them. NoWhole for any other text.
 pub fn whole(text: &[u8]) -> Whole
-    ensures { λ r. ⌜ WholeRead (now (text .entry)) r ⌝ }
+    ensures { λ r. ⌜ WholeGiven (now (text .entry)) r ⌝ }
 {
     let n = text.len();
     if n < 1 {

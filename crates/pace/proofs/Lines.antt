@@ -33,7 +33,7 @@ use Rattle.laws.proofs.Splitting.{lines-of-line}
 use Rattle.plain.specs.Plain.{isMild, every}
 use Rattle.plain.proofs.Laws.{mild-text}
 use Rattle.sure.specs.Sure.{patternOf, sureTime}
-use Rattle.sure.proofs.Said.{Parts, parts, sure-columned}
+use Rattle.sure.proofs.Said.{SureParts, parts, sure-columned}
 use Rattle.cut.proofs.Cuts.{Cut}
 use Rattle.order.specs.States.{areFew, moreOf}
 use Rattle.order.proofs.States.{are-few, few-more}
@@ -45,22 +45,22 @@ use Rattle.pace.specs.declared.Taken.the-variants as taken
 -- ---- what the answers tell
 
 -- a line was taken: it has a time, which does not fall
-pub record Timed (time : Time) (p : Pace) (next : ℕ) (counts : Counts) (q : Pace) : Type 0 where
+pub record InTime (time : Time) (p : Pace) (next : ℕ) (counts : Counts) (q : Pace) : Type 0 where
   pub t : ℕ
   pub is : timeTold time ≡ some t
   pub forth : isBack (passing (p .clock) t) ≡ false
   pub numbers : q ≡ onward p next t counts
 
 timed-by : (o : Option ℕ) (time : Time) (p q : Pace) (next : ℕ) (counts : Counts) → timeTold time ≡ o
-    → some q ≡ (given o none λ s. need (not (isBack (passing (p .clock) s))) none λ _. some (onward p next s counts)) → Timed time p next counts q
+    → some q ≡ (given o none λ s. need (not (isBack (passing (p .clock) s))) none λ _. some (onward p next s counts)) → InTime time p next counts q
 timed-by none time p q next counts o e = let z : _≡_ {A = ℕ} 0 1 = cc in absurd (omega arith)
 timed-by (some t) time p q next counts o e = by (isBack (passing (p .clock) t)) refl e
   where
-    by : (b : Bool) → isBack (passing (p .clock) t) ≡ b → some q ≡ (need (not b) none λ _. some (onward p next t counts)) → Timed time p next counts q
+    by : (b : Bool) → isBack (passing (p .clock) t) ≡ b → some q ≡ (need (not b) none λ _. some (onward p next t counts)) → InTime time p next counts q
     by true w e = let z : _≡_ {A = ℕ} 0 1 = cc in absurd (omega arith)
     by false w e = record { t = t; is = o; forth = w; numbers = cc }
 
-pub timed-is : (time : Time) (p q : Pace) (next : ℕ) (counts : Counts) (r : Taken) → AfterTime time p next counts r → r ≡ taken.Next q → Timed time p next counts q
+pub timed-is : (time : Time) (p q : Pace) (next : ℕ) (counts : Counts) (r : Taken) → AfterTime time p next counts r → r ≡ taken.Next q → InTime time p next counts q
 unfolding takenTold
 timed-is time p q next counts r a e = timed-by (timeTold time) time p q next counts refl (rw e at a)
 
@@ -104,7 +104,7 @@ module _ (l : List ℕ) (st : State) (p : Pace) (next : ℕ) (g : Going st p) (l
       let more : counts ≡ oneMore f (p .counts) = n ∙ few-more f (p .counts) (are-few (p .counts) few) in
       let d = timed-is time p q next (oneMore f (p .counts)) r (rw more at a) h in
       let layout = layoutOf f (st .flight .layouts) in
-      let m : Parts f l (lineLength (firstStart f) layout) (patternOf (entriesOf layout)) (d .t) = rw (k .sized, k .columned) at (parts f l size pattern (d .t) (sym s ∙ d .is)) in (
+      let m : SureParts f l (lineLength (firstStart f) layout) (patternOf (entriesOf layout)) (d .t) = rw (k .sized, k .columned) at (parts f l size pattern (d .t) (sym s ∙ d .is)) in (
         rw (d .numbers) (record {
           judged = judged-columned l (paced st p) (g .points) (g .low) (g .high) long f (d .t) e (sure-columned f layout l (d .t) (k .told) m) (d .forth);
           at = refl;

@@ -21,7 +21,6 @@ use Rattle.rules.specs.Files.{verdict, tableAfter, goodLines}
 use Rattle.rules.specs.Listing.{okText, lineShown, fixesShown, listedAs, listing}
 use Rattle.rules.specs.declared.Reason.the-variants.{BadValue, InputOver}
 use Rattle.rules.specs.declared.Layout.{Layout}
-use Rattle.rules.specs.declared.Family.the-variants as family
 use Rattle.rules.specs.declared.Flight.{Flight}
 use Rattle.rules.specs.declared.Seal.{Seal}
 use Rattle.rules.specs.declared.Seal.the-variants as seal
@@ -214,7 +213,7 @@ pages-left seal file table f room enough e = by (allowed 36 (f .layouts .b)) ref
         let r = readable seal file table f e in
         let low : i < length (r .lines) = omega (arith, many, r .counted) in
         let same : getD (r .lines) i [] ≡ getD (textsOf (linesOf file)) i [] = sym (r .numbered i low) ∙ line-by-number seal file table (i + 1) (omega arith) (rw e (omega (arith, many))) .bytes ∙ ap (λ n. getD (textsOf (linesOf file)) n []) (back-one i) in
-        subst (λ (l : List ℕ). getD l 0 0 ≡ code "B" → ReadsFix (f .layouts .b) l) same (each-at (ReadsLine (f .layouts)) (r .lines) i low (r .reads) family.B)
+        subst (λ (l : List ℕ). getD l 0 0 ≡ code "B" → ReadsFix (f .layouts .b) l) same (each-at (ReadsLine (f .layouts)) (r .lines) i low (r .reads) .b)
 
     by : (b : Bool) → allowed 36 (f .layouts .b) ≡ b
         → joined file (tableAfter seal file table) (f .lines) (f .layouts .b) room (f .lines) 0 ≡ fixesShown 1 (f .layouts .b) (linesOf file)

@@ -11,7 +11,7 @@ use lib.Dec.{ltb, lit<}
 use lib.ListN.{length, take, drop, set, length-append, length-take, length-drop, length-set}
 use lib.Seq.{sets, length-sets, sets-eq, set-split, drop-at, length-take-le, take-all, take-nil, append-snoc}
 use Rattle.rules.specs.Listing.{decimalIn, decimal, shown, shownLetter}
-use Rattle.pieces.specs.Buffer.{Shown, Fills}
+use Rattle.pieces.specs.Buffer.{Shown, PiecePut}
 
 -- ---- pieces
 
@@ -33,7 +33,7 @@ take-both (suc n) (x ∷ s) t =
     rw z (ap (λ (l : List ℕ). x ∷ l) (take-both n s t))
 
 -- one piece after the other
-pub then : {out mid after s t : List ℕ} {at m r : ℕ} → Fills out at s m mid → Fills mid m t r after → Fills out at (s ++ t) r after
+pub then : {out mid after s t : List ℕ} {at m r : ℕ} → PiecePut out at s m mid → PiecePut mid m t r after → PiecePut out at (s ++ t) r after
 then {out} {mid} {after} {s} {t} {at} {m} {r} a b =
     let n = length out - at in
     let long : length mid ≡ length out = ap length (a .bytes) ∙ length-sets out at (take n s) in
@@ -44,32 +44,32 @@ then {out} {mid} {after} {s} {t} {at} {m} {r} a b =
     }
 
 -- the same where the first piece is a byte, a number or a letter behind a space, in the form that `search` finds
-pub byte-then : {out mid after t : List ℕ} {at b m r : ℕ} → Fills out at (b ∷ []) m mid → Fills mid m t r after → Fills out at (b ∷ t) r after
+pub byte-then : {out mid after t : List ℕ} {at b m r : ℕ} → PiecePut out at (b ∷ []) m mid → PiecePut mid m t r after → PiecePut out at (b ∷ t) r after
 byte-then a b = then a b
 
-pub shown-then : {out mid after t : List ℕ} {at m r : ℕ} (n : ℕ) → Fills out at (shown n) m mid → Fills mid m t r after → Fills out at (shown n ++ t) r after
+pub shown-then : {out mid after t : List ℕ} {at m r : ℕ} (n : ℕ) → PiecePut out at (shown n) m mid → PiecePut mid m t r after → PiecePut out at (shown n ++ t) r after
 shown-then n a b = then a b
 
-pub letter-then : {out mid after t : List ℕ} {at b m r : ℕ} → Fills out at (shownLetter b) m mid → Fills mid m t r after → Fills out at (shownLetter b ++ t) r after
+pub letter-then : {out mid after t : List ℕ} {at b m r : ℕ} → PiecePut out at (shownLetter b) m mid → PiecePut mid m t r after → PiecePut out at (shownLetter b ++ t) r after
 letter-then a b = then a b
 
 pub ruleset pieces = (then, byte-then, shown-then, letter-then)
 
-pub nothing : (out : List ℕ) (at : ℕ) → Fills out at [] at out
+pub nothing : (out : List ℕ) (at : ℕ) → PiecePut out at [] at out
 nothing out at = record { bytes = rw (take-nil {A = ℕ} (length out - at)); next = rw (take-nil {A = ℕ} (length out - at)) (omega arith) }
 
-pub one-byte : (out : List ℕ) (at b : ℕ) → at < length out → Fills out at (b ∷ []) (at + 1) (set out at b)
+pub one-byte : (out : List ℕ) (at b : ℕ) → at < length out → PiecePut out at (b ∷ []) (at + 1) (set out at b)
 one-byte out at b h =
     let all = take-all (length out - at) (b ∷ []) (omega arith) in
     record { bytes = rw all; next = rw all }
 
-pub no-byte : (out : List ℕ) (at b : ℕ) → length out ≤ at → Fills out at (b ∷ []) at out
+pub no-byte : (out : List ℕ) (at b : ℕ) → length out ≤ at → PiecePut out at (b ∷ []) at out
 no-byte out at b h =
     let z : length out - at ≡ 0 = omega arith in
     record { bytes = rw z; next = rw z (omega arith) }
 
 -- the pieces are a whole line
-pub whole : {out after text : List ℕ} {n r : ℕ} → length out ≡ n → length text ≤ n → Fills out 0 text r after → Shown text out r after
+pub whole : {out after text : List ℕ} {n r : ℕ} → length out ≡ n → length text ≤ n → PiecePut out 0 text r after → Shown text out r after
 whole {out} {after} {text} {n} {r} e h f =
     let room : 0 + length text ≤ length out = omega arith in
     let all = take-all (length out - 0) text (omega arith) in

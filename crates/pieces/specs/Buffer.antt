@@ -6,7 +6,7 @@ use lib.ListN.{length, take, drop}
 use lib.Seq.{sets}
 
 -- a piece: as much of the text as has room stands in the buffer from a place on, and the answer is the place behind it
-pub record Fills (out : List ℕ) (at : ℕ) (text : List ℕ) (r : ℕ) (after : List ℕ) : Type 0 where
+pub record PiecePut (out : List ℕ) (at : ℕ) (text : List ℕ) (r : ℕ) (after : List ℕ) : Type 0 where
   pub bytes : after ≡ sets out at (take (length out - at) text)
   pub next : r ≡ at + length (take (length out - at) text)
 

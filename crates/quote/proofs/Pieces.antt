@@ -9,7 +9,7 @@ use borrow.Author.Tests.{eq-eqb, ne-eqb}
 use lib.Dec.{leb}
 use lib.ListN.{length, getD, take, drop, replicate, drop-of-length-le, length-drop, replicate-append-replicate}
 use lib.Seq.{take-suc, take-all, take-nil}
-use Rattle.pieces.specs.Buffer.{Fills}
+use Rattle.pieces.specs.Buffer.{PiecePut}
 use Rattle.pieces.proofs.Laws.{then, nothing}
 use Rattle.quote.specs.Quote.{visible, before, window, windowLine, caretLine, quote}
 
@@ -53,24 +53,24 @@ before-least b = by (leb b 80)
 -- ---- pieces one after the other
 
 module _ {out mid after : List ℕ} {at m r : ℕ} where
-  pub window-fills : {t : List ℕ} (l : List ℕ) (b : ℕ) → t ≡ window b l → Fills out at (map visible t) m mid → Fills mid m (10 ∷ []) r after → Fills out at (windowLine b l) r after
+  pub window-fills : {t : List ℕ} (l : List ℕ) (b : ℕ) → t ≡ window b l → PiecePut out at (map visible t) m mid → PiecePut mid m (10 ∷ []) r after → PiecePut out at (windowLine b l) r after
   unfolding windowLine
   window-fills l b e f g = then (rw e at f) g
 
-  pub caret-fills : (b from : ℕ) → from ≡ before b → Fills out at (replicate (b - 1 - from) 32) m mid → Fills mid m (94 ∷ 10 ∷ []) r after → Fills out at (caretLine b) r after
+  pub caret-fills : (b from : ℕ) → from ≡ before b → PiecePut out at (replicate (b - 1 - from) 32) m mid → PiecePut mid m (94 ∷ 10 ∷ []) r after → PiecePut out at (caretLine b) r after
   unfolding caretLine
   caret-fills b from e f g = then (rw e at f) g
 
-  pub quote-fills : (b : ℕ) (l : List ℕ) → (b ≡ 0 → ⊥) → Fills out at (windowLine b l) m mid → Fills mid m (caretLine b) r after → Fills out at (quote b l) r after
+  pub quote-fills : (b : ℕ) (l : List ℕ) → (b ≡ 0 → ⊥) → PiecePut out at (windowLine b l) m mid → PiecePut mid m (caretLine b) r after → PiecePut out at (quote b l) r after
   unfolding quote
   quote-fills b l n f g = rw (ne-eqb b 0 n) (then f g)
 
 module _ (out : List ℕ) (at : ℕ) where
-  pub quote-none : (b : ℕ) (l : List ℕ) → b ≡ 0 → length l ≡ 0 → Fills out at (quote b l) at out
+  pub quote-none : (b : ℕ) (l : List ℕ) → b ≡ 0 → length l ≡ 0 → PiecePut out at (quote b l) at out
   unfolding quote
   quote-none b l e n = rw (eq-eqb b 0 e, eq-eqb (length l) 0 n) (nothing out at)
 
 module _ {out after : List ℕ} {at r : ℕ} where
-  pub quote-text : (b : ℕ) (l : List ℕ) → b ≡ 0 → (length l ≡ 0 → ⊥) → Fills out at (windowLine 0 l) r after → Fills out at (quote b l) r after
+  pub quote-text : (b : ℕ) (l : List ℕ) → b ≡ 0 → (length l ≡ 0 → ⊥) → PiecePut out at (windowLine 0 l) r after → PiecePut out at (quote b l) r after
   unfolding quote
   quote-text b l e n f = rw (eq-eqb b 0 e, ne-eqb (length l) 0 n) f

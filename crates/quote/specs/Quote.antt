@@ -6,7 +6,7 @@ use mathlib.Core.List.{List, [], _∷_, _++_, map}
 use mathlib.Core.Path.{_≡_}
 use lib.Dec.{eqb, leb}
 use lib.ListN.{length, take, drop, replicate}
-use Rattle.pieces.specs.Buffer.{Fills}
+use Rattle.pieces.specs.Buffer.{PiecePut}
 use Rattle.rules.specs.Listing.{lf}
 
 -- a byte as it is shown: itself from hex 20 to 7E, else a question mark, so that each byte takes one place and a terminal is not disturbed
@@ -38,4 +38,4 @@ abbrev pub BytesBefore : ℕ → ℕ → Type 0
 BytesBefore b r = r ≡ before b
 
 abbrev pub QuotePut : ℕ → List ℕ → List ℕ → ℕ → ℕ → List ℕ → Type 0
-QuotePut b text out at r after = Fills out at (quote b text) r after
+QuotePut b text out at r after = PiecePut out at (quote b text) r after

@@ -3,7 +3,7 @@ ghost use Prim.Native.Nat.{_≤_};
 ghost use mathlib.Core.List.{map};
 ghost use mathlib.Core.Path.{_≡_};
 ghost use lib.ListN.{replicate};
-ghost use Rattle.pieces.specs.Buffer.{Fills};
+ghost use Rattle.pieces.specs.Buffer.{PiecePut};
 ghost use Rattle.quote.specs.Quote.{visible, window, windowLine, caretLine, BytesBefore, QuotePut};
 use pieces::put_byte;
 
@@ -22,7 +22,7 @@ fn visible(b: u8) -> u8
 
 // The bytes of a text, each as it is shown.
 fn put_visible(out: &mut [u8], at: usize, text: &[u8]) -> usize
-    ensures { λ r. ⌜ Fills (now (out .entry)) at (map visible (now (text .entry))) r (now (out .exit)) ⌝ }
+    ensures { λ r. ⌜ PiecePut (now (out .entry)) at (map visible (now (text .entry))) r (now (out .exit)) ⌝ }
 {
     let mut next = at;
     let mut i = 0;
@@ -34,7 +34,7 @@ fn put_visible(out: &mut [u8], at: usize, text: &[u8]) -> usize
 }
 
 fn put_spaces(out: &mut [u8], at: usize, n: usize) -> usize
-    ensures { λ r. ⌜ Fills (now (out .entry)) at (replicate n 32) r (now (out .exit)) ⌝ }
+    ensures { λ r. ⌜ PiecePut (now (out .entry)) at (replicate n 32) r (now (out .exit)) ⌝ }
 {
     let mut next = at;
     let mut left = n;
@@ -71,7 +71,7 @@ fn window(text: &[u8], byte: usize) -> &[u8]
 }
 
 fn put_window(out: &mut [u8], at: usize, text: &[u8], byte: usize) -> usize
-    ensures { λ r. ⌜ Fills (now (out .entry)) at (windowLine byte (now (text .entry))) r (now (out .exit)) ⌝ }
+    ensures { λ r. ⌜ PiecePut (now (out .entry)) at (windowLine byte (now (text .entry))) r (now (out .exit)) ⌝ }
 {
     let next = put_visible(out, at, window(text, byte));
     put_byte(out, next, b'\n')
@@ -79,7 +79,7 @@ fn put_window(out: &mut [u8], at: usize, text: &[u8], byte: usize) -> usize
 
 fn put_caret(out: &mut [u8], at: usize, byte: usize) -> usize
     requires { ⌜ 1 ≤ byte ⌝ }
-    ensures { λ r. ⌜ Fills (now (out .entry)) at (caretLine byte) r (now (out .exit)) ⌝ }
+    ensures { λ r. ⌜ PiecePut (now (out .entry)) at (caretLine byte) r (now (out .exit)) ⌝ }
 {
     let from = bytes_before(byte);
     let a = put_spaces(out, at, byte - 1 - from);

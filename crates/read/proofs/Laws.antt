@@ -7,7 +7,7 @@ use lib.ListN.{length, take, drop, length-drop, drop-of-length-le}
 use lib.Seq.{take-all}
 use Rattle.rules.specs.Layouts.{Span, columnText, columnTold}
 use Rattle.rules.specs.Refusals.{Said}
-use Rattle.rules.specs.Reads.{headTold, headRest, pointTold, pointRest, columnRest}
+use Rattle.rules.specs.Reads.{headTold, headRest, pointTold, pointRest, columnTextSaid}
 use Rattle.rules.specs.declared.Refusal.{Refusal}
 use Rattle.rules.specs.declared.ColumnRead.{ColumnRead}
 use Rattle.rules.specs.declared.ColumnRead.the-variants as columnRead
@@ -47,12 +47,12 @@ module _ (l : List ℕ) (s : Said Point) (r : PointRead) (e : pointTold r ≡ s)
 
 -- the text of a column that was found; there is none behind a refusal
 module _ (l : List ℕ) (s : Said Span) (r : ColumnRead) (e : columnTold r ≡ s) where
-  pub column-there : (a b : ℕ) (x : List ℕ) → r ≡ columnRead.Between a b → x ≡ columnText l (record { first = a; last = b }) → x ≡ columnRest l s
-  unfolding columnTold columnRest
+  pub column-there : (a b : ℕ) (x : List ℕ) → r ≡ columnRead.Between a b → x ≡ columnText l (record { first = a; last = b }) → x ≡ columnTextSaid l s
+  unfolding columnTold columnTextSaid
   column-there a b x g k = rw (← e, g) k
 
-  pub column-none : (w : Refusal) → r ≡ columnRead.Refused w → [] ≡ columnRest l s
-  unfolding columnTold columnRest
+  pub column-none : (w : Refusal) → r ≡ columnRead.Refused w → [] ≡ columnTextSaid l s
+  unfolding columnTold columnTextSaid
   column-none w g = rw (← e, g)
 
 pub ruleset cut = (column-there, column-none)

@@ -1,7 +1,7 @@
 // The readers of a line, total on every line and every layout: 17 first, then the checks of its kind, then 19 and 20; with 0 for the line number.
 ghost use mathlib.Core.Path.{_≡_};
 ghost use Rattle.rules.specs.Families.{layoutLetter};
-ghost use Rattle.rules.specs.Promises.{EventGiven, SatellitesGiven, DateGiven, HeadGiven, HeadRest, PointGiven, PointRest, FixGiven, ExtraGiven, ColumnGiven, ColumnRest, NumberGiven, LayoutGiven};
+ghost use Rattle.rules.specs.Promises.{EventGiven, SatellitesGiven, DateGiven, HeadGiven, HeadRest, PointGiven, PointRest, FixGiven, ExtraGiven, ColumnGiven, ColumnTextGiven, NumberGiven, LayoutGiven};
 ghost use Rattle.known.specs.Known.{allowedFor};
 use known::FamilyRead;
 use rules::ColumnRead;
@@ -167,7 +167,7 @@ pub fn column_of(line: &[u8], layout: Layout, code: [u8; 3]) -> ColumnRead
 
 // The text of that column, as a part of the line; empty where `column_of` refuses.
 pub fn column_text<'a>(line: &'a [u8], layout: Layout, code: [u8; 3]) -> &'a [u8]
-    ensures { λ r. ⌜ ColumnRest (now (line .entry)) layout code (now r) ⌝ }
+    ensures { λ r. ⌜ ColumnTextGiven (now (line .entry)) layout code (now r) ⌝ }
 {
     match column_of(line, layout, code) {
         ColumnRead::Between(first, last) => column::text_of(line, first, last),

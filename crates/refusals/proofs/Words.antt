@@ -7,7 +7,7 @@ use native.Mathlib.Nat.{le-max-left, le-max-right, le-trans}
 use native.Mathlib.Omega.{arith}
 use lib.ListN.{length, getD, take, drop, length-append}
 use lib.Seq.{drop-drop, drop-append-seam, take-append-seam}
-use Rattle.pieces.specs.Buffer.{Fills}
+use Rattle.pieces.specs.Buffer.{PiecePut}
 use Rattle.rules.specs.Choice.{bytes}
 use Rattle.rules.specs.Refusals.{number}
 use Rattle.rules.specs.declared.Reason.{Reason}
@@ -125,10 +125,10 @@ module _ (reason : Reason) (n : ℕ) (e : n ≡ number reason) where
   meaning-found = rw e (word-found meanings (number reason) (number-in reason .0) (number-in reason .1))
 
   module _ {out after : List ℕ} {at r : ℕ} where
-    pub name-fills : Fills out at (wordAt (joined names) (endsFrom 0 names) n) r after → NamePut reason out at r after
+    pub name-fills : PiecePut out at (wordAt (joined names) (endsFrom 0 names) n) r after → NamePut reason out at r after
     name-fills f = rw name-found at f
 
-    pub meaning-fills : Fills out at (wordAt (joined meanings) (endsFrom 0 meanings) n) r after → MeaningPut reason out at r after
+    pub meaning-fills : PiecePut out at (wordAt (joined meanings) (endsFrom 0 meanings) n) r after → MeaningPut reason out at r after
     meaning-fills f = rw meaning-found at f
 
 -- ---- how long they are

@@ -4,7 +4,7 @@ use Prim.Native.String.{String}
 use mathlib.Core.List.{List, [], _∷_, map}
 use mathlib.Core.Path.{_≡_}
 use lib.ListN.{length, getD}
-use Rattle.pieces.specs.Buffer.{Fills}
+use Rattle.pieces.specs.Buffer.{PiecePut}
 use Rattle.rules.specs.Choice.{bytes, part}
 use Rattle.rules.specs.Refusals.{number}
 use Rattle.rules.specs.declared.Reason.{Reason}
@@ -60,10 +60,10 @@ abbrev pub NumberOf : Reason → ℕ → Type 0
 NumberOf reason r = r ≡ number reason
 
 abbrev pub NamePut : Reason → List ℕ → ℕ → ℕ → List ℕ → Type 0
-NamePut reason out at r after = Fills out at (name reason) r after
+NamePut reason out at r after = PiecePut out at (name reason) r after
 
 abbrev pub MeaningPut : Reason → List ℕ → ℕ → ℕ → List ℕ → Type 0
-MeaningPut reason out at r after = Fills out at (meaning reason) r after
+MeaningPut reason out at r after = PiecePut out at (meaning reason) r after
 
 -- ---- words that stand one after the other
 

@@ -1,5 +1,5 @@
 // Document 01's table of refusals: the number, the name and the meaning of each.
-ghost use Rattle.pieces.specs.Buffer.{Fills};
+ghost use Rattle.pieces.specs.Buffer.{PiecePut};
 ghost use Rattle.refusals.specs.Table.{NumberOf, NamePut, MeaningPut, WordIn, wordAt};
 use pieces::put_text;
 use rules::Reason;
@@ -136,7 +136,7 @@ pub fn number(reason: Reason) -> u8
 // The word of number n, of words that stand one after the other.
 fn put_word(out: &mut [u8], at: usize, words: &[u8], ends: &[usize], n: usize) -> usize
     requires { ⌜ WordIn (now words) (now ends) n ⌝ }
-    ensures { λ r. ⌜ Fills (now (out .entry)) at (wordAt (now (words .entry)) (now (ends .entry)) n) r (now (out .exit)) ⌝ }
+    ensures { λ r. ⌜ PiecePut (now (out .entry)) at (wordAt (now (words .entry)) (now (ends .entry)) n) r (now (out .exit)) ⌝ }
 {
     let from = ends[n - 1];
     let to = ends[n];

@@ -9,7 +9,7 @@ use lib.Dec.{leb, ltb, eqb}
 use Rattle.rules.specs.Choice.{given, need, on}
 use Rattle.rules.specs.Refusals.{Said, says, refuses, andThen, refusal, outcomeTold}
 use Rattle.rules.specs.Numbers.{numberTold, wholeTold}
-use Rattle.rules.specs.Fields.{timeTold, dayTold, placeTold, altitudeTold}
+use Rattle.rules.specs.Fields.{timeTold, dayTold, positionTold, altitudeTold}
 use Rattle.rules.specs.Promises.{foundTold}
 use Rattle.rules.specs.Reads.{fixTold, timeReadTold, dateReadTold, headTold, pointTold}
 use Rattle.rules.specs.Layouts.{columnTold, Span}
@@ -29,8 +29,8 @@ use Rattle.rules.specs.declared.Date.{Date}
 use Rattle.rules.specs.declared.Day.{Day}
 use Rattle.rules.specs.declared.Day.the-variants as day
 use Rattle.rules.specs.declared.Position.{Position}
-use Rattle.rules.specs.declared.Place.{Place}
-use Rattle.rules.specs.declared.Place.the-variants as place
+use Rattle.rules.specs.declared.PositionField.{PositionField}
+use Rattle.rules.specs.declared.PositionField.the-variants as place
 use Rattle.rules.specs.declared.Height.{Height}
 use Rattle.rules.specs.declared.Altitude.{Altitude}
 use Rattle.rules.specs.declared.Altitude.the-variants as altitude
@@ -148,13 +148,13 @@ pub day-none : {B : Type 0} (n : Option Date) (r : Day) (x a : B) (f : Date → 
 unfolding dayTold
 day-none n r x a f e g h = by-none dayTold n r x a f e day.NoDay refl g h
 
-pub place-is : {B : Type 0} (n : Option Position) (r : Place) (v : Position) (x a : B) (f : Position → B) → placeTold r ≡ n → r ≡ place.Is v → x ≡ f v → x ≡ given n a f
-unfolding placeTold
-place-is n r v x a f e g h = by-some placeTold n r x a f e (place.Is v) v refl g h
+pub position-is : {B : Type 0} (n : Option Position) (r : PositionField) (v : Position) (x a : B) (f : Position → B) → positionTold r ≡ n → r ≡ place.Is v → x ≡ f v → x ≡ given n a f
+unfolding positionTold
+position-is n r v x a f e g h = by-some positionTold n r x a f e (place.Is v) v refl g h
 
-pub place-none : {B : Type 0} (n : Option Position) (r : Place) (x a : B) (f : Position → B) → placeTold r ≡ n → r ≡ place.NoPlace → x ≡ a → x ≡ given n a f
-unfolding placeTold
-place-none n r x a f e g h = by-none placeTold n r x a f e place.NoPlace refl g h
+pub position-none : {B : Type 0} (n : Option Position) (r : PositionField) (x a : B) (f : Position → B) → positionTold r ≡ n → r ≡ place.NoPosition → x ≡ a → x ≡ given n a f
+unfolding positionTold
+position-none n r x a f e g h = by-none positionTold n r x a f e place.NoPosition refl g h
 
 pub altitude-metres : {B : Type 0} (n : Option Height) (r : Altitude) (v : Height) (x a : B) (f : Height → B) → altitudeTold r ≡ n → r ≡ altitude.Metres v → x ≡ f v → x ≡ given n a f
 unfolding altitudeTold
@@ -209,6 +209,6 @@ pub ruleset tests = (need-le, need-gt, need-eq, need-ne, need-true, need-false, 
 
 pub ruleset numbers = (tests, number-value, number-none)
 
-pub ruleset fields = (tests, time-secs, time-none, day-on, day-none, place-is, place-none, altitude-metres, altitude-none, number-value, number-none, found-at, found-nothing)
+pub ruleset fields = (tests, time-secs, time-none, day-on, day-none, position-is, position-none, altitude-metres, altitude-none, number-value, number-none, found-at, found-nothing)
 
 pub ruleset answers = (outcome-accepted, outcome-refused, fix-is, fix-refused, timed-secs, timed-refused, column-between, column-refused)

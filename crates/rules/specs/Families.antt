@@ -1,4 +1,5 @@
--- Document 01's two families of lines with columns: B lines, whose layout an I line tells, and K lines, whose layout a J line tells. All that differs between them stands here.
+-- Document 01's two families of lines with columns: B lines, whose layout an I line tells, and K lines, whose layout a J line tells. Their letters, first starts, layouts
+-- and counts stand here; their fields stand in Lines, their place in the order in Roles.
 use Prim.Native.Nat.{ℕ, _+_}
 use Prim.Native.Char.{code}
 use mathlib.Core.Bool.{cond}

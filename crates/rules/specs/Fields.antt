@@ -15,8 +15,8 @@ use Rattle.rules.specs.declared.Date.{Date}
 use Rattle.rules.specs.declared.Day.{Day}
 use Rattle.rules.specs.declared.Day.the-variants.{On, NoDay}
 use Rattle.rules.specs.declared.Position.{Position}
-use Rattle.rules.specs.declared.Place.{Place}
-use Rattle.rules.specs.declared.Place.the-variants.{Is, NoPlace}
+use Rattle.rules.specs.declared.PositionField.{PositionField}
+use Rattle.rules.specs.declared.PositionField.the-variants.{Is, NoPosition}
 use Rattle.rules.specs.declared.Height.{Height}
 use Rattle.rules.specs.declared.Altitude.{Altitude}
 use Rattle.rules.specs.declared.Altitude.the-variants.{Metres, NoAltitude}
@@ -134,9 +134,9 @@ unfoldable pub dayTold : Day → Option Date
 dayTold (On d) = some d
 dayTold NoDay = none
 
-unfoldable pub placeTold : Place → Option Position
-placeTold (Is p) = some p
-placeTold NoPlace = none
+unfoldable pub positionTold : PositionField → Option Position
+positionTold (Is p) = some p
+positionTold NoPosition = none
 
 unfoldable pub altitudeTold : Altitude → Option Height
 altitudeTold (Metres h) = some h

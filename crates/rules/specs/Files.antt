@@ -35,7 +35,7 @@ hasRoom none lines = true
 hasRoom (some entries) lines = leb lines entries
 
 -- "Checks go line by line, in a line 3 to 15 in this order." "3 LINE_END: line, one past the text before it"; "15 TABLE_FULL: good line, no entry left; line, 0",
--- where the table has `room` entries, or none is lent
+-- where the table has `room` entries, or no table is lent
 unfoldable pub run : Seal → Option ℕ → State → Lines → Said Flight
 run seal room st end = finish seal st
 run seal room st (broken n) = refuses (number LineEnd) (st .flight .lines + 1) (n + 1)

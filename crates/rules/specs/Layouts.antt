@@ -121,10 +121,6 @@ allowed start l =
 unfoldable pub lineLength : ℕ → Layout → ℕ
 lineLength start l = cond (eqb (l .count) 0) (start - 1) ((getD (l .entries) (l .count - 1) unused) .last)
 
--- "columns from 36", "columns from 8": all the columns of a line, as its text from the first start on
-abbrev pub tailOf : ℕ → List ℕ → List ℕ
-tailOf start l = drop (byte start) l
-
 -- the text of a column of a line
 abbrev pub columnText : List ℕ → Span → List ℕ
 columnText l s = part (byte (s .first)) (s .last) l
@@ -166,7 +162,7 @@ lookSaid f l name =
     need (allowed (firstStart f) l) (no BadValue 0) λ _.
     given (look l (packedOf name)) (no Absent 0) λ s. says s
 
--- the presence word "of an I line", so of a layout for B lines
+-- the presence word of "which listed codes an I line carries", so of a layout for B lines
 unfoldable pub presenceSaid : Layout → Said Presence
 presenceSaid l = need (allowed (firstStart family.B) l) (no BadValue 0) λ _. says (presenceOf l)
 

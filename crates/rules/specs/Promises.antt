@@ -1,6 +1,6 @@
--- The promise of every public function whose types stand here, by name (a crate with an answer of its own names its promise in its specs/). Each is an equation between the answer, in the paper's terms, and what the rules say of the inputs; for what
--- is lent `&mut`, also between the bytes or entries afterwards and those lent. A function's `ensures` cites its promise, and so does the law that no second
--- answer meets it.
+-- The promise of every public function whose answer type stands in `rules`, by name (a crate with an answer of its own names its promise in its specs/). Each is an
+-- equation between the answer, in the paper's terms, and what the rules say of the inputs; for what is lent `&mut`, also between the bytes or entries afterwards and those
+-- lent. A function's `ensures` cites its promise, and so does the law that no second answer meets it.
 use Prim.Native.Nat.{ℕ}
 use mathlib.Core.Bool.{Bool}
 use mathlib.Core.List.{List}
@@ -11,14 +11,14 @@ use Rattle.rules.specs.Families.{firstStart}
 use Rattle.rules.specs.Refusals.{outcomeTold}
 use Rattle.rules.specs.Chars.{isValid, firstInvalid, isDigit, isCode, codesAt}
 use Rattle.rules.specs.Numbers.{numberTold, numberAt, wholeTold, wholeOf, digitsOf}
-use Rattle.rules.specs.Fields.{isEither, timeTold, timeAt, timeText, dayTold, dateAt, dateText, placeTold, latitudeAt, longitudeAt, latitudeText, longitudeText, altitudeTold, altitudeAt, altitudeText}
+use Rattle.rules.specs.Fields.{isEither, timeTold, timeAt, timeText, dayTold, dateAt, dateText, positionTold, latitudeAt, longitudeAt, latitudeText, longitudeText, altitudeTold, altitudeAt, altitudeText}
 use Rattle.rules.specs.Degrees.{degreesTold, degreesOf}
 use Rattle.rules.specs.Listed.{listed, unlisted, keepsRule}
 use Rattle.rules.specs.Layouts.{LayoutTold, allowed, lengthTold, lengthSaid, presenceTold, presenceSaid, columnTold, lookSaid, columns}
 use Rattle.rules.specs.Lines.{kindOf, aLine, dateLine, hLine, layoutLine, headLine, pointLine, dLine, eLine, fLine, bLine, kLine, columnedLine, shaped}
 use Rattle.rules.specs.Split.{lineTold, boundsOf, lineText}
 use Rattle.rules.specs.Files.{CheckedTold, verdict, tableAfter}
-use Rattle.rules.specs.Reads.{fixTold, fixSaid, timeReadTold, extraSaid, eventSaid, satellitesSaid, dateReadTold, dateSaid, layoutSaid, headTold, headSaid, headRest, pointTold, pointSaid, pointRest, columnSaid, columnRest, numberReadTold, numberSaid}
+use Rattle.rules.specs.Reads.{fixTold, fixSaid, timeReadTold, extraSaid, eventSaid, satellitesSaid, dateReadTold, dateSaid, layoutSaid, headTold, headSaid, headRest, pointTold, pointSaid, pointRest, columnSaid, columnTextSaid, numberReadTold, numberSaid}
 use Rattle.rules.specs.Writes.{wroteTold, written, outAfter, putAt, fixText, isFix, extraText, isExtra, layoutText, headText, isHead, pointText, isPoint}
 use Rattle.rules.specs.declared.Outcome.{Outcome}
 use Rattle.rules.specs.declared.Found.{Found}
@@ -29,7 +29,7 @@ use Rattle.rules.specs.declared.Time.{Time}
 use Rattle.rules.specs.declared.Date.{Date}
 use Rattle.rules.specs.declared.Day.{Day}
 use Rattle.rules.specs.declared.Position.{Position}
-use Rattle.rules.specs.declared.Place.{Place}
+use Rattle.rules.specs.declared.PositionField.{PositionField}
 use Rattle.rules.specs.declared.Height.{Height}
 use Rattle.rules.specs.declared.Altitude.{Altitude}
 use Rattle.rules.specs.declared.DegreesRead.{DegreesRead}
@@ -61,11 +61,11 @@ foundTold found.Nothing = none
 
 -- ---- digits and whole numbers
 
-abbrev pub DigitsRead : List ℕ → ℕ → ℕ → Number → Type 0
-DigitsRead s at n r = numberTold r ≡ numberAt s at n
+abbrev pub DigitsGiven : List ℕ → ℕ → ℕ → Number → Type 0
+DigitsGiven s at n r = numberTold r ≡ numberAt s at n
 
-abbrev pub WholeRead : List ℕ → Whole → Type 0
-WholeRead t r = wholeTold r ≡ wholeOf t
+abbrev pub WholeGiven : List ℕ → Whole → Type 0
+WholeGiven t r = wholeTold r ≡ wholeOf t
 
 abbrev pub DigitsPut : ℕ → ℕ → ℕ → List ℕ → List ℕ → Type 0
 DigitsPut n v at out after = after ≡ putAt out at (digitsOf n v)
@@ -102,11 +102,11 @@ TimeAt s at r = timeTold r ≡ timeAt s at
 abbrev pub DateAt : List ℕ → ℕ → Day → Type 0
 DateAt s at r = dayTold r ≡ dateAt s at
 
-abbrev pub LatitudeAt : List ℕ → ℕ → Place → Type 0
-LatitudeAt s at r = placeTold r ≡ latitudeAt s at
+abbrev pub LatitudeAt : List ℕ → ℕ → PositionField → Type 0
+LatitudeAt s at r = positionTold r ≡ latitudeAt s at
 
-abbrev pub LongitudeAt : List ℕ → ℕ → Place → Type 0
-LongitudeAt s at r = placeTold r ≡ longitudeAt s at
+abbrev pub LongitudeAt : List ℕ → ℕ → PositionField → Type 0
+LongitudeAt s at r = positionTold r ≡ longitudeAt s at
 
 abbrev pub AltitudeAt : List ℕ → ℕ → Altitude → Type 0
 AltitudeAt s at r = altitudeTold r ≡ altitudeAt s at
@@ -231,8 +231,8 @@ PointRest l r = r ≡ pointRest l (pointSaid l)
 abbrev pub ColumnGiven : List ℕ → Layout → List ℕ → ColumnRead → Type 0
 ColumnGiven l layout name r = columnTold r ≡ columnSaid l layout name
 
-abbrev pub ColumnRest : List ℕ → Layout → List ℕ → List ℕ → Type 0
-ColumnRest l layout name r = r ≡ columnRest l (columnSaid l layout name)
+abbrev pub ColumnTextGiven : List ℕ → Layout → List ℕ → List ℕ → Type 0
+ColumnTextGiven l layout name r = r ≡ columnTextSaid l (columnSaid l layout name)
 
 abbrev pub NumberGiven : List ℕ → Layout → List ℕ → NumberRead → Type 0
 NumberGiven l layout name r = numberReadTold r ≡ numberSaid l layout name
@@ -251,8 +251,8 @@ FileJudged seal file r = CheckedTold (verdict seal file none) r
 abbrev pub LineGiven : List ℕ → List ℕ → ℕ → LineRead → Type 0
 LineGiven file table n r = lineTold r ≡ boundsOf file table n
 
-abbrev pub LineRest : List ℕ → List ℕ → ℕ → List ℕ → Type 0
-LineRest file table n r = r ≡ lineText file (boundsOf file table n)
+abbrev pub LineTextGiven : List ℕ → List ℕ → ℕ → List ℕ → Type 0
+LineTextGiven file table n r = r ≡ lineText file (boundsOf file table n)
 
 -- ---- writers
 

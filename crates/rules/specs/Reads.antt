@@ -99,9 +99,9 @@ columnSaid l layout name =
     says s
 
 -- its text; none where refused
-unfoldable pub columnRest : List ℕ → Said Span → List ℕ
-columnRest l (says s) = columnText l s
-columnRest l (refuses n k b) = []
+unfoldable pub columnTextSaid : List ℕ → Said Span → List ℕ
+columnTextSaid l (says s) = columnText l s
+columnTextSaid l (refuses n k b) = []
 
 -- "and as a whole number where it is 1 to 18 digits, with or without a minus before them"; "20 NOT_NUMBER: column is no such number"
 unfoldable pub numberSaid : List ℕ → Layout → List ℕ → Said Signed

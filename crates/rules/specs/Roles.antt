@@ -11,7 +11,7 @@ use Rattle.rules.specs.declared.Kind.the-variants as kind
 use Rattle.rules.specs.declared.Role.{Role}
 use Rattle.rules.specs.declared.Role.the-variants as role
 
--- the kinds are listed here, and nowhere else
+-- what each kind does is told here, and nowhere else
 abbrev pub roleOf : Kind → Role
 roleOf kind.A = role.Opens
 roleOf kind.B = role.Columned family.B
@@ -30,7 +30,7 @@ roleOf kind.NoKind = role.NoRole
 
 -- ---- tests of a role
 
--- the first byte is A to Z
+-- the role of a line whose first byte is A to Z
 abbrev pub isRole : Role → Bool
 isRole = elim [ role.Opens ↦ true | role.Heads ↦ true | role.Tells f ↦ true | role.Columned f ↦ true | role.Declares ↦ true | role.Event ↦ true | role.Satellites ↦ true | role.Differential ↦ true | role.Seals ↦ true | role.Remark ↦ true | role.Other ↦ true | role.NoRole ↦ false ]
 
@@ -46,7 +46,7 @@ isFront = elim [ role.Opens ↦ true | role.Heads ↦ true | role.Tells f ↦ fa
 abbrev pub isPlain : Role → Bool
 isPlain = elim [ role.Opens ↦ false | role.Heads ↦ false | role.Tells f ↦ false | role.Columned f ↦ false | role.Declares ↦ true | role.Event ↦ true | role.Satellites ↦ true | role.Differential ↦ true | role.Seals ↦ true | role.Remark ↦ true | role.Other ↦ true | role.NoRole ↦ false ]
 
--- "E: time, 3 code characters, text."
+-- an E line
 abbrev pub isEvent : Role → Bool
 isEvent = elim [ role.Opens ↦ false | role.Heads ↦ false | role.Tells f ↦ false | role.Columned f ↦ false | role.Declares ↦ false | role.Event ↦ true | role.Satellites ↦ false | role.Differential ↦ false | role.Seals ↦ false | role.Remark ↦ false | role.Other ↦ false | role.NoRole ↦ false ]
 

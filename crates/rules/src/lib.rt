@@ -92,9 +92,9 @@ pub struct Position {
     pub letter: u8,
 }
 
-pub enum Place {
+pub enum PositionField {
     Is(Position),
-    NoPlace,
+    NoPosition,
 }
 
 // An altitude.

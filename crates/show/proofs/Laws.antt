@@ -19,7 +19,7 @@ use Rattle.rules.specs.declared.Entry.{Entry}
 use Rattle.rules.specs.declared.Layout.{Layout}
 use Rattle.rules.specs.declared.Fix.{Fix}
 use Rattle.rules.specs.declared.Flight.{Flight}
-use Rattle.pieces.specs.Buffer.{Fills}
+use Rattle.pieces.specs.Buffer.{PiecePut}
 use Rattle.pieces.proofs.Laws.{number-room}
 use Rattle.show.specs.Lines.{columnLine, counted, okNumbers, positionShown, fixPlaces, fixHeights}
 
@@ -49,10 +49,10 @@ minus-metres (negsuc n) h = rw add-one
 
 -- t is what the test of the sign said, and m the size
 module _ (out after : List ℕ) (at r : ℕ) (z : ℤ) (t : Bool) (m : ℕ) (e : t ≡ nonNeg z) (f : m ≡ natAbs z) where
-  pub plain-fills : t ≡ true → Fills out at (shown m) r after → Fills out at (shownMetres z) r after
+  pub plain-fills : t ≡ true → PiecePut out at (shown m) r after → PiecePut out at (shownMetres z) r after
   plain-fills g p = rw (plain-metres z (sym e ∙ g), ← f) p
 
-  pub minus-fills : t ≡ false → Fills out at (32 ∷ 45 ∷ decimal m) r after → Fills out at (shownMetres z) r after
+  pub minus-fills : t ≡ false → PiecePut out at (32 ∷ 45 ∷ decimal m) r after → PiecePut out at (shownMetres z) r after
   minus-fills g p = rw (minus-metres z (sym e ∙ g), ← f) p
 
 -- ---- layouts

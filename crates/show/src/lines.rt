@@ -4,7 +4,7 @@ ghost use mathlib.Core.Path.{_≡_};
 ghost use Rattle.rules.specs.Choice.{byte};
 ghost use Rattle.rules.specs.Layouts.{lineLength, columnText, spanOf};
 ghost use Rattle.rules.specs.Listing.{refusedText, fixShown, columnShown};
-ghost use Rattle.pieces.specs.Buffer.{Fills};
+ghost use Rattle.pieces.specs.Buffer.{PiecePut};
 ghost use Rattle.show.specs.Lines.{columnLine, counted, okNumbers, positionShown, fixPlaces, fixHeights};
 use crate::values::put_letter;
 use crate::values::put_metres;
@@ -18,7 +18,7 @@ use rules::Position;
 
 // A word and three numbers, with which a line begins.
 fn put_counted(out: &mut [u8], at: usize, word: &[u8], a: u64, b: u64, c: u64) -> usize
-    ensures { λ r. ⌜ Fills (now (out .entry)) at (counted (now (word .entry)) a b c) r (now (out .exit)) ⌝ }
+    ensures { λ r. ⌜ PiecePut (now (out .entry)) at (counted (now (word .entry)) a b c) r (now (out .exit)) ⌝ }
 {
     let x = put_text(out, at, word);
     let y = put_shown(out, x, a);
@@ -28,7 +28,7 @@ fn put_counted(out: &mut [u8], at: usize, word: &[u8], a: u64, b: u64, c: u64) -
 
 // A refusal's line.
 pub(crate) fn put_refusal(out: &mut [u8], number: u8, line: u32, byte: u32) -> usize
-    ensures { λ r. ⌜ Fills (now (out .entry)) 0 (refusedText number line byte) r (now (out .exit)) ⌝ }
+    ensures { λ r. ⌜ PiecePut (now (out .entry)) 0 (refusedText number line byte) r (now (out .exit)) ⌝ }
 {
     let a = put_counted(out, 0, b"REFUSED", number as u64, line as u64, byte as u64);
     put_byte(out, a, b'\n')
@@ -59,7 +59,7 @@ pub(crate) fn put_flight(
     fix: usize,
     extra: usize,
 ) -> usize
-    ensures { λ r. ⌜ Fills (now (out .entry)) 0 (okNumbers lines bs ks fix extra) r (now (out .exit)) ⌝ }
+    ensures { λ r. ⌜ PiecePut (now (out .entry)) 0 (okNumbers lines bs ks fix extra) r (now (out .exit)) ⌝ }
 {
     let a = put_counted(out, 0, b"OK", lines as u64, bs as u64, ks as u64);
     let b = put_shown(out, a, fix as u64);
@@ -69,7 +69,7 @@ pub(crate) fn put_flight(
 
 // A latitude or a longitude with its letter.
 fn put_position(out: &mut [u8], at: usize, p: Position) -> usize
-    ensures { λ r. ⌜ Fills (now (out .entry)) at (positionShown p) r (now (out .exit)) ⌝ }
+    ensures { λ r. ⌜ PiecePut (now (out .entry)) at (positionShown p) r (now (out .exit)) ⌝ }
 {
     let a = put_shown(out, at, p.count);
     put_letter(out, a, p.letter)
@@ -77,7 +77,7 @@ fn put_position(out: &mut [u8], at: usize, p: Position) -> usize
 
 // A fix's line up to its position.
 fn put_places(out: &mut [u8], at: usize, line: u32, f: Fix) -> usize
-    ensures { λ r. ⌜ Fills (now (out .entry)) at (fixPlaces line f) r (now (out .exit)) ⌝ }
+    ensures { λ r. ⌜ PiecePut (now (out .entry)) at (fixPlaces line f) r (now (out .exit)) ⌝ }
 {
     let a = put_counted(out, at, b"FIX", line as u64, f.time as u64, f.lat.count);
     let b = put_letter(out, a, f.lat.letter);
@@ -86,7 +86,7 @@ fn put_places(out: &mut [u8], at: usize, line: u32, f: Fix) -> usize
 
 // A fix's line from its validity on.
 fn put_heights(out: &mut [u8], at: usize, f: Fix) -> usize
-    ensures { λ r. ⌜ Fills (now (out .entry)) at (fixHeights f) r (now (out .exit)) ⌝ }
+    ensures { λ r. ⌜ PiecePut (now (out .entry)) at (fixHeights f) r (now (out .exit)) ⌝ }
 {
     let a = put_letter(out, at, f.validity);
     let b = put_metres(out, a, f.pressure);
@@ -96,7 +96,7 @@ fn put_heights(out: &mut [u8], at: usize, f: Fix) -> usize
 
 // A fix's line, from a place of the buffer on.
 pub fn put_fix(out: &mut [u8], at: usize, line: u32, f: Fix) -> usize
-    ensures { λ r. ⌜ Fills (now (out .entry)) at (fixShown line f) r (now (out .exit)) ⌝ }
+    ensures { λ r. ⌜ PiecePut (now (out .entry)) at (fixShown line f) r (now (out .exit)) ⌝ }
 {
     let a = put_places(out, at, line, f);
     put_heights(out, a, f)
@@ -133,7 +133,7 @@ fn column_text(line: &[u8], e: Entry) -> &[u8]
 // A column's line, where the code is three bytes.
 fn put_spelt(out: &mut [u8], at: usize, line: &[u8], e: Entry) -> usize
     requires { ⌜ e .code ≤ 0xFFFFFF ⌝ }
-    ensures { λ r. ⌜ Fills (now (out .entry)) at (columnShown (now (line .entry)) e) r (now (out .exit)) ⌝ }
+    ensures { λ r. ⌜ PiecePut (now (out .entry)) at (columnShown (now (line .entry)) e) r (now (out .exit)) ⌝ }
 {
     let code = e.code;
     let head = [
@@ -153,7 +153,7 @@ fn put_spelt(out: &mut [u8], at: usize, line: &[u8], e: Entry) -> usize
 
 // A column's line, from a place of the buffer on; nothing where the code is no three bytes.
 pub fn put_column(out: &mut [u8], at: usize, line: &[u8], e: Entry) -> usize
-    ensures { λ r. ⌜ Fills (now (out .entry)) at (columnLine (now (line .entry)) e) r (now (out .exit)) ⌝ }
+    ensures { λ r. ⌜ PiecePut (now (out .entry)) at (columnLine (now (line .entry)) e) r (now (out .exit)) ⌝ }
 {
     if 0xFFFFFF < e.code {
         return at;

@@ -2,7 +2,7 @@
 ghost use mathlib.Core.Path.{_≡_};
 ghost use lib.IntN.{natAbs};
 ghost use lib.Signed.{nonNeg};
-ghost use Rattle.pieces.specs.Buffer.{Fills};
+ghost use Rattle.pieces.specs.Buffer.{PiecePut};
 ghost use Rattle.rules.specs.Listing.{shownLetter, shownMetres};
 use pieces::put_byte;
 use pieces::put_decimal;
@@ -11,7 +11,7 @@ use rules::Height;
 
 // A space and a letter.
 pub(crate) fn put_letter(out: &mut [u8], at: usize, b: u8) -> usize
-    ensures { λ r. ⌜ Fills (now (out .entry)) at (shownLetter b) r (now (out .exit)) ⌝ }
+    ensures { λ r. ⌜ PiecePut (now (out .entry)) at (shownLetter b) r (now (out .exit)) ⌝ }
 {
     let next = put_byte(out, at, b' ');
     put_byte(out, next, b)
@@ -38,7 +38,7 @@ fn magnitude(h: Height) -> u64
 
 // A space and an altitude.
 pub(crate) fn put_metres(out: &mut [u8], at: usize, h: Height) -> usize
-    ensures { λ r. ⌜ Fills (now (out .entry)) at (shownMetres (h .metres)) r (now (out .exit)) ⌝ }
+    ensures { λ r. ⌜ PiecePut (now (out .entry)) at (shownMetres (h .metres)) r (now (out .exit)) ⌝ }
 {
     let metres = magnitude(h);
     if is_plain(h) {

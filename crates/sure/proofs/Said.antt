@@ -139,7 +139,7 @@ need-some : {A : Type 0} (t : Bool) (f : Unit {0} → Option A) (v : A) → need
 need-some true f v e = (refl, e)
 need-some false f v e = let z : _≡_ {A = ℕ} 0 1 = cc in absurd (omega arith)
 
-pub record Parts (f : Family) (l : List ℕ) (size : ℕ) (pattern : List ℕ) (t : ℕ) : Type 0 where
+pub record SureParts (f : Family) (l : List ℕ) (size : ℕ) (pattern : List ℕ) (t : ℕ) : Type 0 where
   pub long : length l ≡ size
   pub mild : every isMild l ≡ true
   pub fields : fieldsTime f l ≡ some t
@@ -150,7 +150,7 @@ given-parts none c t e = let z : _≡_ {A = ℕ} 0 1 = cc in absurd (omega arith
 given-parts (some s) true t e = (e, refl)
 given-parts (some s) false t e = let z : _≡_ {A = ℕ} 0 1 = cc in absurd (omega arith)
 
-pub parts : (f : Family) (l : List ℕ) (size : ℕ) (pattern : List ℕ) (t : ℕ) → sureTime f l size pattern ≡ some t → Parts f l size pattern t
+pub parts : (f : Family) (l : List ℕ) (size : ℕ) (pattern : List ℕ) (t : ℕ) → sureTime f l size pattern ≡ some t → SureParts f l size pattern t
 unfolding sureTime
 parts f l size pattern t e =
     let a = need-some (eqb (length l) size) _ t e in
@@ -173,7 +173,7 @@ unfolding bLine
 fix-said layout l f s r c = rw (s, r, c)
 
 -- a line of a family is read with its time
-pub sure-columned : (f : Family) (layout : Layout) (l : List ℕ) (t : ℕ) → allowed (firstStart f) layout ≡ true → Parts f l (lineLength (firstStart f) layout) (patternOf (entriesOf layout)) t
+pub sure-columned : (f : Family) (layout : Layout) (l : List ℕ) (t : ℕ) → allowed (firstStart f) layout ≡ true → SureParts f l (lineLength (firstStart f) layout) (patternOf (entriesOf layout)) t
     → columnedLine f layout l ≡ says t
 unfolding columnedLine kLine fieldsTime
 sure-columned family.B layout l t a p =

@@ -108,14 +108,15 @@ put-both =
     (columned family.K refl (record { fields = refl; long = refl; kept = tt; added = (fit refl refl, tt) }) (same refl
     (columned family.B refl (record { fields = refl; long = refl; kept = tt; added = (fit refl refl, tt) }) (same refl done)))))))))))
 
+-- with a line of every kind, a declaration among them
 abbrev pub bothLines : List ℕ
 unfolding fileOf
-bothLines = fileOf ("AXYZ001" ∷ "HFDTE150724" ∷ "I00" ∷ "J010808TDS" ∷ "B1200005130000N00015000WA0010000120" ∷ "K1200047" ∷ "GABC" ∷ [])
+bothLines = fileOf ("AXYZ001" ∷ "HFDTE150724" ∷ "I00" ∷ "J010808TDS" ∷ "C150724093000150724000100" ∷ "C5130000N00015000W" ∷ "C5130000N00015000W" ∷ "C5130000N00015000W" ∷ "C5130000N00015000W" ∷ "D20331" ∷ "F115959" ∷ "B1200005130000N00015000WA0010000120" ∷ "K1200047" ∷ "E120005PEV" ∷ "LPILOT" ∷ "Z" ∷ "GABC" ∷ [])
 
 -- I00 replaced, and a column put before the one of the K lines
 abbrev pub bothWidened : List ℕ
 unfolding fileOf
-bothWidened = fileOf ("AXYZ001" ∷ "HFDTE150724" ∷ "I023639DAE4040ZZZ" ∷ "J020810HDT1111TDS" ∷ "B1200005130000N00015000WA0010000120-012:" ∷ "K1200042707" ∷ "GABC" ∷ [])
+bothWidened = fileOf ("AXYZ001" ∷ "HFDTE150724" ∷ "I023639DAE4040ZZZ" ∷ "J020810HDT1111TDS" ∷ "C150724093000150724000100" ∷ "C5130000N00015000W" ∷ "C5130000N00015000W" ∷ "C5130000N00015000W" ∷ "C5130000N00015000W" ∷ "D20331" ∷ "F115959" ∷ "B1200005130000N00015000WA0010000120-012:" ∷ "K1200042707" ∷ "E120005PEV" ∷ "LPILOT" ∷ "Z" ∷ "GABC" ∷ [])
 
 pub both : WiderFile bothLines bothWidened
 unfolding everything fileOf widthIn textIn told
@@ -123,9 +124,10 @@ both =
     front refl (front refl (from (changed {i = emptyLayout} {i′ = told family.B "I023639DAE4040ZZZ"} refl refl tt
     (changed {i = told family.K "J010808TDS"} {i′ = told family.K "J020810HDT1111TDS"} refl refl (refl, tt)
     (rest {old = laid "I00" "J010808TDS"} {new = laid "I023639DAE4040ZZZ" "J020810HDT1111TDS"}
+    (same refl (same refl (same refl (same refl (same refl (same refl (same refl
     (columned family.B refl (record { fields = refl; long = refl; kept = tt; added = (fit refl refl, (fit refl refl, tt)) })
     (columned family.K refl (record { fields = refl; long = refl; kept = (refl, tt); added = (fit refl refl, (fit refl refl, tt)) })
-    (same refl done))))))))
+    (same refl (same refl (same refl (same refl done))))))))))))))))))
 
 -- how many lines were put in
 pub put-in : (putIn between ≡ 0) × (putIn put-i ≡ 1) × (putIn put-j ≡ 1) × (putIn put-both ≡ 2) × (putIn both ≡ 0)

@@ -32,7 +32,7 @@ use Rattle.wider.proofs.Changing.{told-role, told-after, told-passes, s
 
 -- ---- what is shown of the lines ls′ of the new file, from its state on, where those of the old one are ls and say f
 
-pub record Passed (seal : Seal) (st : State) (ls ls′ : Lines) (f : Flight) (old new : Layouts) : Type 0 where
+pub record Widened (seal : Seal) (st : State) (ls ls′ : Lines) (f : Flight) (old new : Layouts) : Type 0 where
   pub lines : ℕ
   pub runs : run seal none st ls′ ≡ says (wideFlight new lines f)
   pub told : f .layouts ≡ old
@@ -40,9 +40,9 @@ pub record Passed (seal : Seal) (st : State) (ls ls′ : Lines) (f : Flight) (ol
 
 -- with a line t′ before the new ones
 before-line : {seal : Seal} {st after : State} {ls ls′ : Lines} {f : Flight} {old new : Layouts} (ms : Lines) (t′ : List ℕ) → judge t′ st ≡ says after
-    → (r : Passed seal after ls ls′ f old new)
+    → (r : Widened seal after ls ls′ f old new)
     → ((g : Family) → Paired old new g (linesOfFamily g ls) (linesOfFamily g ls′) → Paired old new g (linesOfFamily g ms) (linesOfFamily g (line t′ ls′)))
-    → Passed seal st ms (line t′ ls′) f old new
+    → Widened seal st ms (line t′ ls′) f old new
 before-line {seal = seal} {st = st} {after = after} {ls′ = ls′} ms t′ j r p = record {
   lines = r .lines;
   runs = ran-so seal none st t′ ls′ _ (record { after = after; judges = j; fits = refl; runs = r .runs });
@@ -68,14 +68,14 @@ ended seal st f h =
     (w .0, v .0, cc)
 
 module _ (seal : Seal) (f : Flight) where
-  at-end : (old new : Layouts) (st : State) (n : ℕ) → st .flight .layouts ≡ old → run seal none st end ≡ says f → Passed seal (wide new n st) end end f old new
+  at-end : (old new : Layouts) (st : State) (n : ℕ) → st .flight .layouts ≡ old → run seal none st end ≡ says f → Widened seal (wide new n st) end end f old new
   unfolding run finish
   at-end old new st n p h =
       let e = ended seal st f h in
       record { lines = n; runs = rw (e .0, e .1, ← e .2); told = rw (← e .2) p; pairs = λ g. tt }
 
   body : {old new : Layouts} {ls ls′ : Lines} → Fine old new → AfterLayouts old new ls ls′ → (st : State) (n : ℕ) → st .flight .layouts ≡ old → run seal none st ls ≡ says f
-      → Passed seal (wide new n st) ls ls′ f old new
+      → Widened seal (wide new n st) ls ls′ f old new
   body {old = old} {new = new} fi done st n p h = at-end old new st n p h
   body {old = old} {new = new} fi (same {t = t} {ls = ls} x b) st n p h =
       let u = ran seal none st t ls f h in
@@ -148,7 +148,7 @@ pub record Went (seal : Seal) (st : State) (ls ls′ : Lines) (f : Flight) : Typ
   pub old : Layouts
   pub new : Layouts
   pub fine : Fine old new
-  pub passed : Passed seal st ls ls′ f old new
+  pub passed : Widened seal st ls ls′ f old new
 
 -- with a line t′ before the new ones, and ms for the old ones, which is of no family
 went-line : {seal : Seal} {st after : State} {ls ls′ : Lines} {f : Flight} (ms : Lines) (t′ : List ℕ) → judge t′ st ≡ says after

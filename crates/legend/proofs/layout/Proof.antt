@@ -7,14 +7,14 @@ use borrow.Author.Needs.{needs}
 use borrow.Author.Tests.{ltb-true, ltb-false, not-false}
 use lib.ListN.{length}
 use Rattle.entry.proofs.Turns.{unmapped}
-use Rattle.legend.specs.Spelling.{Spells}
+use Rattle.legend.specs.Spelling.{Spellable}
 use Rattle.ending.proofs.Laws.{bad, short, done}
 use Rattle.legend.proofs.Entries.{spells, layout-length}
 use Rattle.legend.proofs.layout.Statement.{statement}
 use Rattle.legend.proofs.layout.Tie as tie
 
 -- a layout that is allowed can be spelt
-spelt : (c : tie.Else1) → Spells (c .before .before .before .args .l)
+spelt : (c : tie.Else1) → Spellable (c .before .before .before .args .l)
 spelt c = spells _ _ (sym (c .before .allowed .ensures) ∙ not-false _ (c .if1 .left))
 
 long : (c : tie.Start) → length (c .args .l .entries) ≡ 13

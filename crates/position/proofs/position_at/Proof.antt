@@ -3,7 +3,7 @@ use Prim.Native.Nat.{_+_, _*_}
 use mathlib.Core.Option.{some}
 use mathlib.Core.Path.{_≡_}
 use borrow.Author.Needs.{needs}
-use Rattle.rules.specs.Fields.{positionAt, placeTold}
+use Rattle.rules.specs.Fields.{positionAt, positionTold}
 use Rattle.rules.proofs.Links.{numbers}
 use Rattle.number.proofs.Laws.{reads, count-fits}
 use Rattle.position.proofs.Laws.{wide}
@@ -21,11 +21,11 @@ unfolding positionAt
 kept c = search (numbers, reads, needs) depth 16
 
 returns-5 : tie.Need-returns-5
-unfolding placeTold
+unfolding positionTold
 returns-5 c = kept c
 
 pub position-at-spec : {M : Type 1} → statement M
-unfolding positionAt placeTold
+unfolding positionAt positionTold
 position-at-spec =
     tie.close
     (tie.spec

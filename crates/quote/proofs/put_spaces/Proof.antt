@@ -4,14 +4,14 @@ use mathlib.Core.Path.{_≡_, refl}
 use native.Mathlib.Omega.{arith}
 use lib.ListN.{length, replicate}
 use borrow.Author.Needs.{needs}
-use Rattle.pieces.specs.Buffer.{Fills}
+use Rattle.pieces.specs.Buffer.{PiecePut}
 use Rattle.pieces.proofs.Laws.{then, nothing}
 use Rattle.quote.proofs.Pieces.{space-more}
 use Rattle.quote.proofs.put_spaces.Statement.{statement}
 use Rattle.quote.proofs.put_spaces.Tie as tie
 
 abbrev Inv-loop : tie.InvT-loop
-Inv-loop out₀ at n next₀ left₀ out next left = (left ≤ n) × (length out ≡ length out₀) × Fills out₀ at (replicate (n - left) 32) next out
+Inv-loop out₀ at n next₀ left₀ out next left = (left ≤ n) × (length out ≡ length out₀) × PiecePut out₀ at (replicate (n - left) 32) next out
 
 abbrev μ-loop : tie.MeasureT-loop
 μ-loop out₀ at n next₀ left₀ out next left = left

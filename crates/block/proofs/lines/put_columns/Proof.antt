@@ -4,14 +4,14 @@ use mathlib.Core.Path.{_≡_, refl}
 use borrow.Author.Needs.{needs}
 use lib.ListN.{length, take}
 use Rattle.rules.specs.Layouts.{entriesOf}
-use Rattle.pieces.specs.Buffer.{Fills}
+use Rattle.pieces.specs.Buffer.{PiecePut}
 use Rattle.block.specs.Blocks.{columnLines}
 use Rattle.block.proofs.Laws.{no-columns, column-more, all-columns}
 use Rattle.block.proofs.lines.put_columns.Statement.{statement}
 use Rattle.block.proofs.lines.put_columns.Tie as tie
 
 abbrev Inv-loop : tie.InvT-loop
-Inv-loop out₀ at line layout n next₀ i₀ out next i = (length out ≡ length out₀) × Fills out₀ at (columnLines line (take i (entriesOf layout))) next out
+Inv-loop out₀ at line layout n next₀ i₀ out next i = (length out ≡ length out₀) × PiecePut out₀ at (columnLines line (take i (entriesOf layout))) next out
 
 abbrev μ-loop : tie.MeasureT-loop
 μ-loop out₀ at line layout n next₀ i₀ out next i = n - i
