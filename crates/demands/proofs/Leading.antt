@@ -227,7 +227,7 @@ counts-more l st after e f = rw (letter-tests l .2 f .0) (judged-more l st after
 
 -- the part of the file that a line leads to
 pub data Part : Type 0 where
-  recorder header body seal remarks : Part
+  recorder header body seals remarks : Part
   telling : Family → Part
 
 -- a line with a time is counted in its family, where it has one
@@ -236,15 +236,16 @@ countedBy (columned f w) ns = oneMore f ns
 countedBy (event w) ns = ns
 countedBy (satellites w) ns = ns
 
-abbrev pub noted : {layouts : Layouts} {t : ℕ} {l : List ℕ} → Timed layouts t l → State → State
-noted {t = t} w st =
+-- the state behind it: it is counted, and the clock stands at its time
+abbrev pub afterTimed : {layouts : Layouts} {t : ℕ} {l : List ℕ} → Timed layouts t l → State → State
+afterTimed {t = t} w st =
     clocked t (withFlight st (record { date = st .flight .date; layouts = st .flight .layouts; lines = st .flight .lines; counts = countedBy w (st .flight .counts) }))
 
 -- a line of the body may come, and the state after it
 pub data InBody (st : State) (l : List ℕ) : State → Type 0 where
   head : (h : Head) → st .points ≡ 0 → st .declared ≡ false → countOf family.B (st .flight .counts) ≡ 0 → IsHeadLine h l → InBody st l (begun h (moved inBody st))
   point : 1 ≤ st .points → IsPointLine l → InBody st l (pointed (moved inBody st))
-  timed : (t : ℕ) (w : Timed (st .flight .layouts) t l) → st .points ≡ 0 → Follows (st .clock) t → InBody st l (noted w (moved inBody st))
+  timed : (t : ℕ) (w : Timed (st .flight .layouts) t l) → st .points ≡ 0 → Follows (st .clock) t → InBody st l (afterTimed w (moved inBody st))
   quiet : st .points ≡ 0 → Untimed l → InBody st l (moved inBody st)
 
 -- a line may come, its part, and the state after it
@@ -255,7 +256,7 @@ pub data Leads (st : State) (l : List ℕ) : Part → State → Type 0 where
   layout-line : (f : Family) (i : Layout) → afterH ≤ st .stage → st .stage ≤ afterLayout f - 1 → st .points ≡ 0 → IsLayoutLine f i l
       → Leads st l (telling f) (laidOut f i (moved (afterLayout f) st))
   body-line : {m : State} → afterH ≤ st .stage → st .stage ≤ inBody → InBody st l m → Leads st l body m
-  g-line : afterH ≤ st .stage → st .stage ≤ afterG → st .points ≡ 0 → IsGLine l → Leads st l seal (moved afterG st)
+  g-line : afterH ≤ st .stage → st .stage ≤ afterG → st .points ≡ 0 → IsGLine l → Leads st l seals (moved afterG st)
   l-line : afterG ≤ st .stage → st .stage ≤ afterLastG → st .points ≡ 0 → IsLLine l → Leads st l remarks (moved afterLastG st)
 
 -- each layout is one that a line can tell
@@ -358,7 +359,7 @@ module _ (l : List ℕ) (st : State) where
   by-role stage g k f o (passes.differential e) = to-body (λ c. moved c st) stage o (quiet (plain-fits st f) (differential (d-there l tt k e)))
   by-role stage g k f o (passes.seals e) =
       let s = leading-inv afterH afterG afterG (st .stage) stage o in
-      rw (← s .2) (seal, g-line (s .0) (s .1) (plain-fits st f) (g-there l tt k e))
+      rw (← s .2) (seals, g-line (s .0) (s .1) (plain-fits st f) (g-there l tt k e))
   by-role stage g k f o (passes.remark e) = l-led stage (leb (st .stage) inBody) (plain-fits st f) (l-there l tt k e) o
   by-role stage g k f o (passes.other e) = to-body (λ c. moved c st) stage o (quiet (plain-fits st f) (other (other-there l tt (k .0) (k .1) e)))
 

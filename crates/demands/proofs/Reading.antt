@@ -15,7 +15,7 @@ use Rattle.rules.specs.Choice.{bytes, Each}
 use Rattle.rules.specs.Families.{firstStart, lineLetter, layoutLetter, familyOf, layoutOf}
 use Rattle.rules.specs.Refusals.{says}
 use Rattle.rules.specs.Layouts.{entriesOf}
-use Rattle.rules.specs.Split.{end, linesOf, offsets}
+use Rattle.rules.specs.Split.{Lines, end, linesOf, offsets}
 use Rattle.rules.specs.Reads.{entriesSaid}
 use Rattle.rules.specs.Files.{verdict, goodLines}
 use Rattle.rules.specs.declared.Date.{Date}
@@ -54,11 +54,12 @@ lines-are file m = ap textsOf (lines-cut file m) ∙ texts-before (linesIn (m .p
 
 -- ---- their offsets, and the steps over them
 
-offset-is : (ls : List (List ℕ)) (at n : ℕ) → n < length ls → getD (offsets at (before ls end)) n 0 ≡ at + total (take n ls)
+-- whatever comes behind them
+pub offset-is : (k : Lines) (ls : List (List ℕ)) (at n : ℕ) → n < length ls → getD (offsets at (before ls k)) n 0 ≡ at + total (take n ls)
 unfolding offsets total
-offset-is [] at n h = absurd (omega arith)
-offset-is (l ∷ ls) at zero h = omega arith
-offset-is (l ∷ ls) at (suc n) h = offset-is ls (at + length l + 2) n (omega arith) ∙ omega arith
+offset-is k [] at n h = absurd (omega arith)
+offset-is k (l ∷ ls) at zero h = omega arith
+offset-is k (l ∷ ls) at (suc n) h = offset-is k ls (at + length l + 2) n (omega arith) ∙ omega arith
 
 steps-over : (file : List ℕ) (ls : List (List ℕ)) (at : ℕ) → splitting.Steps file at (before ls end) → Steps file at ls
 unfolding Steps
@@ -185,7 +186,7 @@ module _ {seal : Seal} {p : Parts} {date : Date} {layouts : Layouts} {times : Li
   front = p .recorder ∷ p .day ∷ (p .headers ++ (p .told family.B ++ p .told family.K))
 
   abbrev pub back : List (List ℕ)
-  back = p .seal ++ p .remarks
+  back = p .seals ++ p .remarks
 
   pub in-three : linesIn p ≡ front ++ (p .body ++ back)
   in-three = simp append-assoc
@@ -203,7 +204,7 @@ module _ {seal : Seal} {p : Parts} {date : Date} {layouts : Layouts} {times : Li
 
   -- G and L lines
   pub back-by : (P : List ℕ → Type 0) → ((l : List ℕ) → IsGLine l → P l) → ((l : List ℕ) → IsLLine l → P l) → Each P back
-  back-by P g r = each-join P (p .seal) (p .remarks) (each-map (p .seal) g (w .seals)) (each-map (p .remarks) r (w .remarks))
+  back-by P g r = each-join P (p .seals) (p .remarks) (each-map (p .seals) g (w .seals)) (each-map (p .remarks) r (w .remarks))
 
   keeps-reads : Each (LineReads layouts) (linesIn p)
   unfolding isAmong bytes
@@ -240,7 +241,7 @@ readable seal file table f e =
       counted = n;
       bs = sym (ap (λ x. x .counts .b) (w .2));
       ks = sym (ap (λ x. x .counts .k) (w .2));
-      entries = λ i h. entry-put seal file table i 0 (omega arith) ∙ ap (λ x. getD (offsets 0 x) i 0) c ∙ offset-is ls 0 i h ∙ zero-add (total (take i ls));
+      entries = λ i h. entry-put seal file table i 0 (omega arith) ∙ ap (λ x. getD (offsets 0 x) i 0) c ∙ offset-is end ls 0 i h ∙ zero-add (total (take i ls));
       unchanged = λ i h. entry-kept seal file table i 0 (omega arith);
       long = table-length seal file table;
       numbered = λ i h.

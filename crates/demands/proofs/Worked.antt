@@ -62,7 +62,7 @@ five-meet = record {
     headers = [];
     told = every (λ f. List (List ℕ)) (bytes "I023638FXA3940SIU" ∷ []) [];
     body = bytes "B1200005130000N00015000WA001000012001208" ∷ [];
-    seal = bytes "GABC" ∷ [];
+    seals = bytes "GABC" ∷ [];
     remarks = [];
   };
   bytes = refl;

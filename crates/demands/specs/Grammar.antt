@@ -285,12 +285,12 @@ pub record Parts : Type 0 where
   -- the lines that tell each family's layout
   pub told : Family → List (List ℕ)
   pub body : List (List ℕ)
-  pub seal : List (List ℕ)
+  pub seals : List (List ℕ)
   pub remarks : List (List ℕ)
 
 -- in their order
 abbrev pub linesIn : Parts → List (List ℕ)
-linesIn p = p .recorder ∷ p .day ∷ (p .headers ++ (p .told family.B ++ (p .told family.K ++ (p .body ++ (p .seal ++ p .remarks)))))
+linesIn p = p .recorder ∷ p .day ∷ (p .headers ++ (p .told family.B ++ (p .told family.K ++ (p .body ++ (p .seals ++ p .remarks)))))
 
 -- "At least one G is needed (h)."
 abbrev pub SealedBy : Seal → List (List ℕ) → Type 0
@@ -305,8 +305,8 @@ pub record Keeps (seal : Seal) (p : Parts) (date : Date) (layouts : Layouts) (ti
   pub told : AtMostOne family.B (layouts .b) (p .told family.B) × AtMostOne family.K (layouts .k) (p .told family.K)
   pub body : Body layouts (p .body) times
   pub order : InOrder times
-  pub seals : Each IsGLine (p .seal)
-  pub sealed : SealedBy seal (p .seal)
+  pub seals : Each IsGLine (p .seals)
+  pub sealed : SealedBy seal (p .seals)
   pub remarks : Each IsLLine (p .remarks)
 
 -- ---- the file
