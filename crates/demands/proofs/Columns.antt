@@ -150,7 +150,7 @@ tail-exactly start tail layout low s = (there, here)
 
 -- ---- the number that a text spells
 
-whole-there : (t : List ℕ) (z : Signed) → wholeOf t ≡ some z → Spells t z
+pub whole-there : (t : List ℕ) (z : Signed) → wholeOf t ≡ some z → Spells t z
 unfolding wholeOf on
 whole-there t z e = go (eqb (getD t 0 0) 45) refl e
   where
@@ -194,7 +194,7 @@ minus-here n v a b c =
     let d = number-here t 1 n v [] b c (sym (append-nil (digitsOf n v))) in
     rw (k, le-leb 2 (n + 1) (omega arith), i, d)
 
-whole-here : (t : List ℕ) {z : Signed} → Spells t z → wholeOf t ≡ some z
+pub whole-here : (t : List ℕ) {z : Signed} → Spells t z → wholeOf t ≡ some z
 whole-here t (plain n v a b c e) = ap wholeOf e ∙ plain-here n v a b c
 whole-here t (minus n v a b c e) = ap wholeOf e ∙ minus-here n v a b c
 
@@ -221,7 +221,7 @@ texts-are l (e ∷ es) from rest w h g (column {t = t} c n v u x) =
 
 -- ---- all columns of a line
 
-name-back : (name : List ℕ) → IsName name → codeText (packedOf name) ≡ name
+pub name-back : (name : List ℕ) → IsName name → codeText (packedOf name) ≡ name
 name-back [] w = absurd (omega (arith, w .three))
 name-back (a ∷ []) w = absurd (omega (arith, w .three))
 name-back (a ∷ b ∷ []) w = absurd (omega (arith, w .three))

@@ -1,5 +1,5 @@
 -- Demand 2, what is claimed. Each claim is a line from the room that proves it; its words stand in specs/ (Grammar, Coming, Checks, Faults, FieldTexts, Readings,
--- BothWays), the definitions that it is about in the rules. Assumes nothing.
+-- BothWays, ReadersRefuse), the definitions that it is about in the rules. Assumes nothing.
 --
 -- How these definitions are the library's answers: `file::check` answers `verdict seal file (some (length table))` and leaves `tableAfter seal file table` (promise FileChecked),
 -- `file::check_untabled` answers `verdict seal file none` (FileJudged); `cut::bounds` answers `boundsOf` (LineGiven), `Cursor::step` answers `stepAt` (LineStepped), the readers in `read` answer `fixSaid`, `columnSaid` and so on (FixGiven ..); the writers in
@@ -42,6 +42,7 @@ use Rattle.demands.specs.Faults.{PassAfter, Refused}
 use Rattle.demands.specs.FieldTexts.{FieldsTold}
 use Rattle.demands.specs.Coming.{Meant}
 use Rattle.demands.specs.Readings.{Readable}
+use Rattle.demands.specs.ReadersRefuse.{ReadersRefuse, NamesMeant}
 use Rattle.demands.specs.BothWays.{Slotted, ReadsAs, BothWays}
 use Rattle.demands.proofs.Leading.{fits-there, fits-so}
 use Rattle.demands.proofs.Accepted as acceptance
@@ -53,6 +54,7 @@ use Rattle.demands.proofs.Reading as reading
 use Rattle.demands.proofs.LayoutLines.{layout-exactly, layout-line-exactly}
 use Rattle.demands.proofs.EachLine.{fix-reads, fix-read, extra-reads, extra-read, head-reads, head-read, point-reads, point-read}
 use Rattle.demands.proofs.Writers.{both-ways, trip-ways}
+use Rattle.demands.proofs.ReadersRefuse as readers
 use Rattle.demands.proofs.Worked as worked
 
 -- ---- the verdict on a file, for each seal, with a table of `room` entries or without one
@@ -164,3 +166,12 @@ points-both-ways = trip-ways isPoint point-trip point-good
 pub layouts-both-ways : (family : Family)
     → BothWays (λ l (v : Slotted). layoutSaid family l ≡ says (v .layout)) (λ v. layoutText family (v .layout)) (λ v. allowed (firstStart family) (v .layout)) (λ v. allowed (firstStart family) (v .layout))
 layouts-both-ways family = both-ways _ _ _ _ (λ l v. layout-exactly family (v .layout) l (v .slots)) (λ v. refl)
+
+-- ---- what each reader refuses first: 17, then the checks 7 to 13 of its kind of line, then 19, then 20, with 0 for the line number
+
+pub readers-refuse-first : ReadersRefuse
+readers-refuse-first = readers.readers-refuse
+
+-- what 19 and 20 test, apart from how
+pub names-meant : NamesMeant
+names-meant = readers.names-meant

@@ -12,5 +12,6 @@ pub mod Refusing
 pub mod Reading
 pub mod Writers
 pub mod Worked
+pub mod ReadersRefuse
 pub mod Demands
 pub mod Promised

@@ -5,3 +5,4 @@ pub mod FieldTexts
 pub mod Faults
 pub mod Readings
 pub mod BothWays
+pub mod ReadersRefuse
