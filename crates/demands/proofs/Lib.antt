@@ -15,3 +15,5 @@ pub mod Worked
 pub mod ReadersRefuse
 pub mod Demands
 pub mod Promised
+pub mod Left
+pub mod DemandOne

@@ -6,3 +6,4 @@ pub mod Faults
 pub mod Readings
 pub mod BothWays
 pub mod ReadersRefuse
+pub mod Left
