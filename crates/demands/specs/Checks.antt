@@ -37,7 +37,7 @@ pub record Check : Type 0 where
 abbrev pub check : ℕ → ℕ → Bool → Check
 check n b t = record { number = n; byte = b; passes = t }
 
--- "9 FORM: first field against its rule; line, field's first byte": the number of a field that breaks its rule, by what the field holds
+-- "9 FORM: first field against its rule; line, field's first byte": the number by which a field of a class is refused. Every class has 9
 abbrev pub formNumber : Class → ℕ
 formNumber class.Time = 9
 formNumber class.Position = 9
@@ -45,7 +45,7 @@ formNumber class.Altitude = 9
 formNumber class.Date = 9
 formNumber class.Other = 9
 
--- the check of a field, by what it holds, its first byte and its test
+-- the check of a field, by its class, its first byte and its test
 abbrev pub field : Class → ℕ → Bool → Check
 field c b t = check (formNumber c) b t
 
