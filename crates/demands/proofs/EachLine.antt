@@ -29,7 +29,7 @@ use Rattle.rules.specs.declared.Family.the-variants as family
 use Rattle.rules.specs.declared.Fix.{Fix}
 use Rattle.rules.specs.declared.Head.{Head}
 use Rattle.rules.specs.declared.Point.{Point}
-use Rattle.rules.proofs.Inverse.{none-some, refuses-says, given-inv, need-inv, then-inv, and-inv, false-true}
+use Rattle.rules.proofs.Inverse.{none-some, refuses-says, given-inv, need-inv, then-inv, and-inv, false-true, given-none}
 use Rattle.trips.proofs.Laws.{past, byte-there}
 use Rattle.trips.proofs.Times.{time-trip}
 use Rattle.trips.proofs.Dates.{date-trip}
@@ -42,7 +42,7 @@ use Rattle.trips.proofs.Heads as heads
 use Rattle.trips.proofs.Points.{point-trip}
 use Rattle.demands.specs.Grammar.{Shaped, IsALine, IsDateLine, IsHLine, IsDLine, IsELine, IsFLine, IsLLine, IsGLine, IsOtherLine, Columns, IsBLine, IsKLine, IsColumned, IsHeadLine, IsPointLine}
 use Rattle.sound.proofs.Each.{each-map, each-cut}
-use Rattle.demands.proofs.Laws.{day-exactly, planned-exactly, given-none, are-valid, shape-there, shape-said, valid-are}
+use Rattle.demands.proofs.Laws.{day-exactly, planned-exactly, are-valid, shape-there, shape-said, valid-are}
 use Rattle.demands.proofs.LayoutLines.{IsTold}
 use Rattle.demands.proofs.Columns.{tail-exactly}
 
@@ -153,7 +153,7 @@ time-text l x t p k e = byte-there l 0 1 x refl p k ∙ ap (λ y. x ∷ y) (time
 text-time : (l : List ℕ) (x t : ℕ) (rest : List ℕ) → isTime t ≡ true → l ≡ x ∷ (timeText t ++ rest) → timeAt l 1 ≡ some t
 text-time l x t rest g e = time-trip .here l 1 t rest g (ap (drop 1) e)
 
-pub e-inv : (l : List ℕ) (t : ℕ) → eLine l ≡ says t → Shaped 10 255 false l × (timeAt l 1 ≡ some t) × (codesAt l 7 3 ≡ true)
+e-inv : (l : List ℕ) (t : ℕ) → eLine l ≡ says t → Shaped 10 255 false l × (timeAt l 1 ≡ some t) × (codesAt l 7 3 ≡ true)
 unfolding eLine
 e-inv l t e =
     let s = then-inv (shaped 10 255 false l) t _ e in
@@ -194,7 +194,7 @@ pairs-here [] at h = refl
 pairs-here (a ∷ []) at h = refl
 pairs-here (a ∷ b ∷ l) at h = rw (h .0, h .1 .0) (pairs-here l (at + 2) (h .1 .1))
 
-pub f-inv : (l : List ℕ) (t : ℕ) → fLine l ≡ says t → Shaped 7 255 false l × (timeAt l 1 ≡ some t) × ((length l - 7) % 2 ≡ 0) × (badPair 7 (drop 7 l) ≡ none)
+f-inv : (l : List ℕ) (t : ℕ) → fLine l ≡ says t → Shaped 7 255 false l × (timeAt l 1 ≡ some t) × ((length l - 7) % 2 ≡ 0) × (badPair 7 (drop 7 l) ≡ none)
 unfolding fLine
 f-inv l t e =
     let s = then-inv (shaped 7 255 false l) t _ e in
@@ -344,24 +344,6 @@ columned-said family.B layout t l i w =
 columned-said family.K layout t l i w =
     let a = need-inv (eqb (getD l 0 0) (code "K")) _ (says t) _ refuses-says (extra-reads layout i t l w) in
     need-inv (allowed 8 layout) _ (says t) _ refuses-says (a .1) .1
-
--- its time stands at 2 to 7
-pub columned-time : (f : Family) (layout : Layout) (t : ℕ) (l : List ℕ) → columnedLine f layout l ≡ says t → timeAt l 1 ≡ some t
-unfolding columnedLine bLine kLine
-columned-time family.B layout t l e =
-    let r = then-inv (bLine layout l) t _ e in
-    let s = then-inv (shapedBy 36 layout l) (r .0) _ (r .1) in
-    let x = then-inv (fixFields l) (r .0) _ (s .2) in
-    let c = then-inv (columns l layout) (r .0) _ (x .2) in
-    let i : x .0 ≡ r .0 = cc in
-    let j : r .0 .time ≡ t = cc in
-    fields-there l (r .0) (x .1 ∙ ap says i) .at-time ∙ ap some j
-columned-time family.K layout t l e =
-    let s = then-inv (shapedBy 8 layout l) t _ e in
-    let x = given-inv (timeAt l 1) _ (says t) _ refuses-says (s .2) in
-    let c = then-inv (columns l layout) t _ (x .2) in
-    let i : x .0 ≡ t = cc in
-    x .1 ∙ ap some i
 
 pub head-there : (h : Head) (l : List ℕ) → getD l 0 0 ≡ code "C" → headLine l ≡ says h → IsHeadLine h l
 unfolding headSaid

@@ -30,6 +30,7 @@ use Rattle.rules.specs.Lines.{isSized, shaped, aLine, dateLine, hLine, layoutLi
 use Rattle.rules.specs.declared.Entry.{Entry}
 use Rattle.rules.proofs.Inverse.{false-true, bool-eq}
 use Rattle.laws.proofs.Passing.{roleIn}
+use Rattle.laws.proofs.Walking.{columned-time, event-time, satellites-time}
 use Rattle.demands.specs.Coming.{isAmong, only, without, isOpen, isBody, lettersBefore, mayCome, orZero, entryOf, entriesTold, endsAt, sizeOf, lastTime, isInTime}
 use Rattle.demands.specs.Checks.{isThere, Check, check, AllPass, FailsFirst, oneEach, shapeChecks, columnChecks, timeCheck, pairChecks, hasCode, entryChecks, layoutChecks, dateChecks, headerChecks, headChecks, pointChecks, thenTime, roleChecks, checksOf, lineChecks, eventChecks, satelliteChecks}
 use Rattle.demands.specs.Grammar.{laid}
@@ -39,7 +40,6 @@ use Rattle.sound.proofs.Each.{each-join}
 use Rattle.sound.proofs.Placed.{with-laid, entries-laid}
 use Rattle.sound.proofs.Columns.{end-of, line-end}
 use Rattle.demands.proofs.Laws.{shape-there}
-use Rattle.demands.proofs.EachLine.{e-inv, f-inv, columned-time}
 use Rattle.demands.proofs.LayoutLines.{there, entry-of}
 
 -- ---- tests
@@ -435,8 +435,8 @@ module _ (ls : List (List ℕ)) (l : List ℕ) (st : State) (w : Stands ls st) w
       either-way (eqb (st .points) 0) (isOpen ls) _ _ (headChecks l) (pointChecks l) (open-points ls st w)
       (agree-last (headLine l) _ (headChecks l) (head-agrees l))
       (agree-last (pointLine l) _ (pointChecks l) (point-agrees l))
-  ruled-agrees role.Event stage i = then-time ls l (eLine l) (moved stage st) (eventChecks l) (w .clock) (λ t e. e-inv l t e .1) (event-agrees l)
-  ruled-agrees role.Satellites stage i = then-time ls l (fLine l) (moved stage st) (satelliteChecks l) (w .clock) (λ t e. f-inv l t e .1) (satellites-agree l)
+  ruled-agrees role.Event stage i = then-time ls l (eLine l) (moved stage st) (eventChecks l) (w .clock) (λ t. event-time t l) (event-agrees l)
+  ruled-agrees role.Satellites stage i = then-time ls l (fLine l) (moved stage st) (satelliteChecks l) (w .clock) (λ t. satellites-time t l) (satellites-agree l)
   ruled-agrees role.Differential stage i = search agreeing depth 20
   ruled-agrees role.Seals stage i = search agreeing depth 20
   ruled-agrees role.Remark stage i = search agreeing depth 20

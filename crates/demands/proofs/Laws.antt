@@ -23,7 +23,7 @@ use Rattle.rules.specs.declared.Planned.the-variants as planned
 use Rattle.rules.specs.Limits.{isDate, isPlanned}
 use Rattle.rules.specs.Listed.{listed, unlisted, listedNumber, widthFits, isDigits, keepsSign, keepsRule}
 use Rattle.rules.specs.declared.Listed.{Listed}
-use Rattle.rules.proofs.Inverse.{false-true, refuses-says, need-inv, and-inv}
+use Rattle.rules.proofs.Inverse.{false-true, refuses-says, need-inv, and-inv, given-none}
 use Rattle.trips.proofs.Texts.{areValid, digit-range}
 use Rattle.trips.proofs.Dates.{days-month}
 use Rattle.demands.specs.Grammar.{Shaped, Days, january, february, february-leap, march, april, may, june, july, august, september, october, november, december, IsDay, IsPlanned, Listing, IsDigit, Holds, digits, minus}
@@ -34,10 +34,6 @@ use Rattle.sound.proofs.Each.{each-map, nothing-found, none-found}
 pub cond-false : {A : Type 0} (t : Bool) (a b x : A) → (a ≡ x → ⊥) → cond t a b ≡ x → (t ≡ false) × (b ≡ x)
 cond-false true a b x n e = absurd (n e)
 cond-false false a b x n e = (refl, e)
-
-pub given-none : {A B : Type 0} (o : Option A) (a x : B) (f : A → B) → ((v : A) → f v ≡ x → ⊥) → given o a f ≡ x → (o ≡ none) × (a ≡ x)
-given-none (some v) a x f n e = absurd (n v e)
-given-none none a x f n e = (refl, e)
 
 -- nothing was found
 pub nothing-given : {A : Type 0} (o : Option A) → given o true (λ i. false) ≡ true → o ≡ none

@@ -16,7 +16,7 @@ use Rattle.rules.specs.Families.{lineLetter, layoutLetter, layoutOf, withLayout
 use Rattle.rules.specs.Files.{hasRoom}
 use Rattle.rules.specs.Refusals.{says}
 use Rattle.rules.specs.Lines.{kindOf}
-use Rattle.rules.specs.Roles.{roleOf, isRole, isDeclaring, isOf, sameFamily, afterA, afterH, afterLayout, inBody, afterG, atStart, afterLastG, leading, stageAfter}
+use Rattle.rules.specs.Roles.{roleOf, isRole, isDeclaring, isTimed, isOf, sameFamily, afterA, afterH, afterLayout, inBody, afterG, atStart, afterLastG, leading, stageAfter}
 use Rattle.rules.specs.Order.{judge, start, fitsDeclaration, orderOf, withFlight, moved, dated, laidOut, counted, begun, pointed, clocked, onward, nextDay, back, passing, isBack}
 use Rattle.rules.specs.declared.Layout.{Layout}
 use Rattle.rules.specs.declared.Layouts.{Layouts}
@@ -157,10 +157,6 @@ not-empty (b ∷ l) h = omega arith
 abbrev pub isTelling : Family → Role → Bool
 isTelling g = elim [ role.Opens ↦ false | role.Heads ↦ false | role.Tells f ↦ sameFamily g f | role.Columned f ↦ false | role.Declares ↦ false | role.Event ↦ false | role.Satellites ↦ false | role.Differential ↦ false | role.Seals ↦ false | role.Remark ↦ false | role.Other ↦ false | role.NoRole ↦ false ]
 
--- has a time
-abbrev pub isTiming : Role → Bool
-isTiming = elim [ role.Opens ↦ false | role.Heads ↦ false | role.Tells f ↦ false | role.Columned f ↦ true | role.Declares ↦ false | role.Event ↦ true | role.Satellites ↦ true | role.Differential ↦ false | role.Seals ↦ false | role.Remark ↦ false | role.Other ↦ false | role.NoRole ↦ false ]
-
 -- the first part of a file that a line of this role leads to
 abbrev pub leadsTo : Role → ℕ
 leadsTo = elim [ role.Opens ↦ afterA | role.Heads ↦ afterH | role.Tells f ↦ afterLayout f | role.Columned f ↦ inBody | role.Declares ↦ inBody | role.Event ↦ inBody | role.Satellites ↦ inBody | role.Differential ↦ inBody | role.Seals ↦ afterG | role.Remark ↦ inBody | role.Other ↦ inBody | role.NoRole ↦ inBody ]
@@ -170,7 +166,7 @@ isSealing r = eqb (leadsTo r) afterG
 
 -- the tests of a first byte by the role, and those that ask for a family
 abbrev Plainly : Role → ℕ → Type 0
-Plainly r b = (eqb b (code "C") ≡ isDeclaring r) × (eqb b (code "G") ≡ isSealing r) × (isAmong (bytes "BEFK") b ≡ isTiming r)
+Plainly r b = (eqb b (code "C") ≡ isDeclaring r) × (eqb b (code "G") ≡ isSealing r) × (isAmong (bytes "BEFK") b ≡ isTimed r)
 
 abbrev ByFamily : Role → ℕ → Family → Type 0
 ByFamily r b f = (eqb b (lineLetter f) ≡ isOf f r) × (eqb b (layoutLetter f) ≡ isTelling f r) × (isAmong (lettersBefore f) b ≡ leb (leadsTo r) (afterLayout f - 1))

@@ -13,6 +13,7 @@ pub mod Split
 pub mod Roles
 pub mod Order
 pub mod Files
+pub mod Walk
 pub mod Reads
 pub mod Writes
 pub mod Limits

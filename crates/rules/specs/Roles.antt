@@ -50,6 +50,10 @@ isPlain = elim [ role.Opens ↦ false | role.Heads ↦ false | role.Tells f ↦ 
 abbrev pub isEvent : Role → Bool
 isEvent = elim [ role.Opens ↦ false | role.Heads ↦ false | role.Tells f ↦ false | role.Columned f ↦ false | role.Declares ↦ false | role.Event ↦ true | role.Satellites ↦ false | role.Differential ↦ false | role.Seals ↦ false | role.Remark ↦ false | role.Other ↦ false | role.NoRole ↦ false ]
 
+-- "B, E, F and K lines run in time order."
+abbrev pub isTimed : Role → Bool
+isTimed = elim [ role.Opens ↦ false | role.Heads ↦ false | role.Tells f ↦ false | role.Columned f ↦ true | role.Declares ↦ false | role.Event ↦ true | role.Satellites ↦ true | role.Differential ↦ false | role.Seals ↦ false | role.Remark ↦ false | role.Other ↦ false | role.NoRole ↦ false ]
+
 abbrev pub sameFamily : Family → Family → Bool
 sameFamily family.B family.B = true
 sameFamily family.B family.K = false
