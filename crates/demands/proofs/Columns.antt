@@ -14,7 +14,6 @@ use lib.ListN.{length, getD, take, drop, length-append, length-drop, take-append
 use lib.Seq.{drop-drop, drop-at, take-at, length-take-le, drop-length}
 use lib.IntN.{pos, negℤ}
 use Rattle.rules.specs.Choice.{part, Each, given, need, on}
-use Rattle.rules.specs.Chars.{isValid}
 use Rattle.rules.specs.Listed.{keepsRule, packedOf, codeText}
 use Rattle.rules.specs.Layouts.{entriesOf, allowed, lineLength, Span, spanOf, look, columnText}
 use Rattle.rules.specs.declared.Entry.{Entry}
@@ -30,13 +29,15 @@ use Rattle.rules.proofs.Inverse.{false-true, need-inv, none-some, given-inv}
 use Rattle.trips.proofs.Texts.{clean-valid}
 use Rattle.trips.proofs.Laws.{byte-there}
 use Rattle.trips.proofs.Digits.{digits-length, digits-front, number-there, number-here}
+use Rattle.words.specs.Characters.{IsValid}
+use Rattle.words.proofs.Codes.{rule-exactly}
 use Rattle.demands.specs.Grammar.{widthOf, IsEntry, Tiles, Columns, none, column}
 use Rattle.demands.specs.Readings.{Spells, plain, minus, NumberOf, ReadsColumn, columnTexts, IsName, ReadsColumns}
 use Rattle.sound.proofs.Each.{each-map, each-both, each-join, each-cut, nothing-found, none-found}
 use Rattle.sound.proofs.Entries.{unpacked, packed-back}
 use Rattle.sound.proofs.Placed.{Coded, Sound, allowed-there}
 use Rattle.sound.proofs.Columns.{each-looked, end-of, line-end}
-use Rattle.demands.proofs.Laws.{are-valid, valid-are, nothing-given, rule-exactly}
+use Rattle.demands.proofs.Laws.{are-valid, valid-are, nothing-given}
 use Rattle.demands.proofs.LayoutLines.{told-tiles}
 
 -- ---- where a line ends
@@ -69,7 +70,7 @@ module _ (start : ℕ) (tail : List ℕ) where
   record Left (es : List Entry) (from : ℕ) (rest : List ℕ) : Type 0 where
     here : drop (from - start) tail ≡ rest
     long : from - 1 + length rest ≡ end-of es from
-    valid : Each (λ b. isValid false b ≡ true) rest
+    valid : Each (IsValid false) rest
     ruled : Each Keeps es
 
   module _ (low : 1 ≤ start) where
@@ -85,7 +86,7 @@ module _ (start : ℕ) (tail : List ℕ) where
         let t : part (e .first - start) (e .last + 1 - start) tail ≡ take (widthOf e) rest =
         ap (λ x. take (e .last + 1 - start - x) (drop x tail)) p ∙ ap (λ x. take (e .last + 1 - start - (from - start)) x) (c .here) ∙ ap (λ x. take x rest) q in
         let s = take-append-drop (widthOf e) rest in
-        let v = each-cut (λ b. isValid false b ≡ true) (take (widthOf e) rest) (drop (widthOf e) rest) (subst (Each (λ b. isValid false b ≡ true)) (sym s) (c .valid)) in
+        let v = each-cut (IsValid false) (take (widthOf e) rest) (drop (widthOf e) rest) (subst (Each (IsValid false)) (sym s) (c .valid)) in
         let i : from - start + widthOf e ≡ e .last + 1 - start = omega (arith, f .starts, f .ends) in
         let r = columns-there es (e .last + 1) (drop (widthOf e) rest) (w .2) (omega (arith, f .starts, f .ends)) (record {
           here = ap (λ x. drop x tail) (sym i) ∙ sym (drop-drop (widthOf e) (from - start) tail) ∙ ap (drop (widthOf e)) (c .here);
@@ -111,7 +112,7 @@ module _ (start : ℕ) (tail : List ℕ) where
         record {
           here = g;
           long = ap (λ x. from - 1 + x) (length-append c r) ∙ with-column (e .first) (e .last) from (length c) (length r) _ (f .starts) (f .ends) (omega arith) n (k .long);
-          valid = each-join (λ b. isValid false b ≡ true) c r v (k .valid);
+          valid = each-join (IsValid false) c r v (k .valid);
           ruled = (ap (keepsRule (e .code)) t ∙ rule-exactly (e .code) c .1 u, k .ruled);
         }
 
