@@ -18,7 +18,7 @@ use Rattle.rules.specs.Refusals.{says, refuses}
 use Rattle.rules.specs.Files.{verdict}
 use Rattle.rules.specs.Listed.{widthFits, keepsRule}
 use Rattle.rules.specs.Layouts.{isSaid, allowed}
-use Rattle.rules.specs.Reads.{fixSaid, extraSaid, headSaid, pointSaid, layoutSaid}
+use Rattle.rules.specs.Reads.{fixSaid, extraSaid, dateSaid, eventSaid, satellitesSaid, headSaid, pointSaid, layoutSaid}
 use Rattle.rules.specs.Writes.{fixText, extraText, headText, pointText, layoutText, isFix, isExtra, isHead, isPoint}
 use Rattle.rules.specs.declared.Date.{Date}
 use Rattle.rules.specs.declared.Layout.{Layout}
@@ -39,7 +39,7 @@ use Rattle.trips.proofs.Heads.{head-trip, head-good}
 use Rattle.trips.proofs.Points.{point-trip, point-good}
 use Rattle.words.specs.Codes.{Listing, Holds}
 use Rattle.words.proofs.Codes.{width-exactly, rule-exactly}
-use Rattle.demands.specs.Grammar.{IsDay, IsLayoutLine, IsBLine, IsKLine, IsHeadLine, IsPointLine, linesIn, Fits, Meets, flightOf}
+use Rattle.demands.specs.Grammar.{IsDay, IsDateLine, IsELine, IsFLine, IsLayoutLine, IsBLine, IsKLine, IsHeadLine, IsPointLine, linesIn, Fits, Meets, flightOf}
 use Rattle.demands.specs.Faults.{PassAfter, Refused}
 use Rattle.demands.specs.FieldTexts.{FieldsTold}
 use Rattle.demands.specs.Coming.{Meant}
@@ -54,6 +54,7 @@ use Rattle.demands.proofs.Laws.{day-exactly}
 use Rattle.demands.proofs.Reading as reading
 use Rattle.demands.proofs.LayoutLines.{layout-exactly, layout-line-exactly}
 use Rattle.demands.proofs.EachLine.{fix-reads, fix-read, extra-reads, extra-read, head-reads, head-read, point-reads, point-read}
+use Rattle.demands.proofs.Readers.{date-exactly, event-exactly, satellite-exactly, some-line}
 use Rattle.demands.proofs.Writers.{both-ways, trip-ways}
 use Rattle.demands.proofs.Worked as worked
 
@@ -137,6 +138,20 @@ module _ (i : Slotted) (l : List ℕ) where
 -- I lines and J lines
 pub layouts-exactly : (family : Family) (layout : Layout) (l : List ℕ) → (layoutSaid family l ≡ says layout) ↔ IsLayoutLine family layout l
 layouts-exactly = layout-line-exactly
+
+-- a layout is allowed exactly when there is such a line of it
+pub allowed-exactly : (family : Family) (i : Slotted) → (allowed (firstStart family) (i .layout) ≡ true) ↔ ((l : List ℕ) × IsLayoutLine family (i .layout) l)
+allowed-exactly = some-line
+
+-- line 2, E lines and F lines
+pub dates-exactly : (d : Date) (l : List ℕ) → (dateSaid l ≡ says d) ↔ IsDateLine d l
+dates-exactly = date-exactly
+
+pub events-exactly : (t : ℕ) (l : List ℕ) → (eventSaid l ≡ says t) ↔ IsELine t l
+events-exactly = event-exactly
+
+pub satellites-exactly : (t : ℕ) (l : List ℕ) → (satellitesSaid l ≡ says t) ↔ IsFLine t l
+satellites-exactly = satellite-exactly
 
 -- C heads and C points
 pub heads-exactly : (h : Head) (l : List ℕ) → (headSaid l ≡ says h) ↔ IsHeadLine h l

@@ -236,7 +236,7 @@ module _ (f : Family) (layout : Layout) where
   unfolding layoutSaid
   line-reads l w = let s = layout-said f layout l w in rw (eq-eqb _ _ (s .0)) (s .1)
 
-  own-line : IsTold f layout → IsLayoutLine f layout (layoutText f layout)
+  pub own-line : IsTold f layout → IsLayoutLine f layout (layoutText f layout)
   unfolding layoutText
   own-line i =
       let a = allowed-there (firstStart f) layout (i .right) (i .full) in

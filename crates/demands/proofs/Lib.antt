@@ -2,6 +2,7 @@ pub mod Laws
 pub mod LayoutLines
 pub mod Columns
 pub mod EachLine
+pub mod Readers
 pub mod Leading
 pub mod Sections
 pub mod Accepted
