@@ -7,3 +7,4 @@ pub mod Passing
 pub mod Splitting
 pub mod LineEnds
 pub mod Counted
+pub mod Presence
