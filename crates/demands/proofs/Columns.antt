@@ -229,6 +229,13 @@ name-back (a ∷ b ∷ []) w = absurd (omega (arith, w .three))
 name-back (a ∷ b ∷ c ∷ []) w = unpacked a b c (w .bytes .1 .0) (w .bytes .1 .1 .0)
 name-back (a ∷ b ∷ c ∷ d ∷ l) w = absurd (omega (arith, w .three))
 
+-- a name that no entry has
+pub none-looked : (layout : Layout) (name : List ℕ) → IsName name → Each (λ e. codeText (e .code) ≡ name → ⊥) (entriesOf layout) → look layout (packedOf name) ≡ none
+unfolding look
+none-looked layout name w h =
+    none-found (Coded (packedOf name)) (λ k e. spanOf e) (entriesOf layout) 0
+    (each-map (entriesOf layout) (λ e n. ne-eqb (e .code) (packedOf name) (λ i. n (ap codeText i ∙ name-back name w))) h)
+
 module _ (layout : Layout) (l : List ℕ) (said : entriesSaid l layout ≡ says (entriesOf layout)) where
   column-said : (name : List ℕ) (s : Span) → look layout (packedOf name) ≡ some s → columnSaid l layout name ≡ says s
   unfolding columnSaid look
@@ -244,12 +251,6 @@ module _ (layout : Layout) (l : List ℕ) (said : entriesSaid l layout ≡ says 
       let s = column-said (codeText (e .code)) (spanOf e) (ap (look layout) (packed-back (e .code)) ∙ h) in
       record { span = s; text = rw s; wide = n; number = rw s (number-of (columnText l (spanOf e)) (wholeOf (columnText l (spanOf e))) refl) }
 
-  name-absent : (name : List ℕ) → IsName name → Each (λ e. codeText (e .code) ≡ name → ⊥) (entriesOf layout) → columnSaid l layout name ≡ refuses 19 0 0
-  unfolding look
-  name-absent name w h =
-      column-absent name (none-found (Coded (packedOf name)) (λ k e. spanOf e) (entriesOf layout) 0
-      (each-map (entriesOf layout) (λ e n. ne-eqb (e .code) (packedOf name) (λ i. n (ap codeText i ∙ name-back name w))) h))
-
 pub columns-read : (f : Family) (layout : Layout) (l tail : List ℕ) → 1 ≤ firstStart f → Sound (firstStart f) layout
     → drop (firstStart f - 1) l ≡ tail → Columns (entriesOf layout) tail → entriesSaid l layout ≡ says (entriesOf layout) → ReadsColumns f layout l
 unfolding look number
@@ -260,6 +261,6 @@ columns-read f layout l tail low s cut is said =
     record {
       carried = each-map es (λ e h. column-read layout l said e (h .0) (h .1))
           (each-both es (λ e. look layout (e .code) ≡ some (spanOf e)) (λ e. length (columnText l (spanOf e)) ≡ widthOf e) (each-looked (firstStart f) layout s) (r .1));
-      absent = name-absent layout l said;
+      absent = λ name w h. column-absent layout l said name (none-looked layout name w h);
       tail = r .0 ∙ sym cut;
     }

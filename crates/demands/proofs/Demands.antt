@@ -119,8 +119,8 @@ pub no-b-after-g : {seal : Seal} {file : List ℕ} (m : Meets seal file) (before
     → getD g 0 0 ≡ code "G" → Each (λ l. getD l 0 0 ≡ code "B" → ⊥) after
 no-b-after-g = worked.no-b-after-g
 
--- ---- what can be read from an accepted file, with the table that it was checked with: its lines by number and step by step, each B and K line column by column, and the
--- declaration
+-- ---- what can be read from an accepted file, with the table that it was checked with: its lines by number and step by step; the date from line 2, the layouts from the I and the J
+-- line, and of them the lengths, columns and listed codes; each B and K line column by column, each E and F line; and the declaration with its texts
 
 pub readable : (seal : Seal) (file table : List ℕ) (f : Flight) → verdict seal file (some (length table)) ≡ says f → Readable seal file table f
 readable = reading.readable

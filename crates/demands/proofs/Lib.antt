@@ -10,6 +10,7 @@ pub mod FieldsThere
 pub mod Standing
 pub mod Faulty
 pub mod Refusing
+pub mod ByLayout
 pub mod Reading
 pub mod Writers
 pub mod Worked
