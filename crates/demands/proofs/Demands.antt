@@ -1,12 +1,12 @@
 -- Demand 2, what is claimed. Each claim is a line from the room that proves it; its words stand in specs/ (Grammar, Coming, Checks, Faults, FieldTexts, Readings,
--- BothWays), the definitions that it is about in the rules. Assumes nothing.
+-- BothWays) and in the specs/ of words, the definitions that it is about in the rules. Assumes nothing.
 --
 -- How these definitions are the library's answers: `file::check` answers `verdict seal file (some (length table))` and leaves `tableAfter seal file table` (promise FileChecked),
 -- `file::check_untabled` answers `verdict seal file none` (FileJudged); `cut::bounds` answers `boundsOf` (LineGiven), `Cursor::step` answers `stepAt` (LineStepped), the readers in `read` answer `fixSaid`, `columnSaid` and so on (FixGiven ..); the writers in
 -- `write` keep `Written` (FixWritten ..), from which `BothWays` tells what they write (proofs/Promised). By the laws `only-..` of crate laws, nothing else would keep these promises.
 use Prim.Native.Nat.{ℕ, _≤_}
 use Prim.Native.Char.{code}
-use mathlib.Core.Bool.{true}
+use mathlib.Core.Bool.{Bool, true}
 use mathlib.Core.List.{List, [], _∷_, _++_}
 use mathlib.Core.Logic.{_↔_}
 use mathlib.Core.Option.{Option, none, some}
@@ -16,6 +16,7 @@ use Rattle.rules.specs.Choice.{Each}
 use Rattle.rules.specs.Families.{firstStart}
 use Rattle.rules.specs.Refusals.{says, refuses}
 use Rattle.rules.specs.Files.{verdict}
+use Rattle.rules.specs.Chars.{isValid, isCode}
 use Rattle.rules.specs.Listed.{widthFits, keepsRule}
 use Rattle.rules.specs.Layouts.{isSaid, allowed}
 use Rattle.rules.specs.Reads.{fixSaid, extraSaid, dateSaid, eventSaid, satellitesSaid, headSaid, pointSaid, layoutSaid}
@@ -37,7 +38,9 @@ use Rattle.trips.proofs.Fixes.{fix-trip, fix-good}
 use Rattle.trips.proofs.Extras.{extra-trip, extra-good}
 use Rattle.trips.proofs.Heads.{head-trip, head-good}
 use Rattle.trips.proofs.Points.{point-trip, point-good}
+use Rattle.words.specs.Characters.{IsValid, IsCode}
 use Rattle.words.specs.Codes.{Listing, Holds}
+use Rattle.words.proofs.Characters.{valid-exactly, code-exactly}
 use Rattle.words.proofs.Codes.{width-exactly, rule-exactly}
 use Rattle.demands.specs.Grammar.{IsDay, IsDateLine, IsELine, IsFLine, IsLayoutLine, IsBLine, IsKLine, IsHeadLine, IsPointLine, linesIn, Fits, Meets, flightOf}
 use Rattle.demands.specs.Faults.{PassAfter, Refused}
@@ -91,7 +94,14 @@ fields-told = fields-there.fields-told
 pub lines-meant : (ls : List (List ℕ)) → PassAfter [] ls → Meant ls
 lines-meant = meant
 
--- a date; the width of a code's column (12), and its text (13)
+-- a character (8), a code character; a date; the width of a code's column (12), and its text (13). The table of listed codes and the limits of values stand in
+-- words/proofs/Exactly
+pub characters-meant : (inH : Bool) (b : ℕ) → (isValid inH b ≡ true) ↔ IsValid inH b
+characters-meant = valid-exactly
+
+pub codes-meant : (b : ℕ) → (isCode b ≡ true) ↔ IsCode b
+codes-meant = code-exactly
+
 pub dates-meant : (d : Date) → (isDate d ≡ true) ↔ IsDay d
 dates-meant = day-exactly
 

@@ -1,5 +1,5 @@
 -- Document 01, 'Lines' and 'Fields': the letters of each role, and what it means that a field could be read, apart from how it is read: the bytes there are the text
--- of a value within its limits.
+-- of a value within its limits, which words has in document 01's words.
 use Prim.Native.Nat.{ℕ, _≤_, _<_, _^_}
 use Prim.Native.Char.{code}
 use mathlib.Core.Bool.{Bool, true}
@@ -52,7 +52,7 @@ pub record Field {A : Type 0} (read : List ℕ → ℕ → Option A) (text : A �
   pub reads : (l : List ℕ) (at : ℕ) (v : A) → (read l at ≡ some v) ↔ ((within v ≡ true) × Stood l at (text v))
   pub there : (l : List ℕ) (at : ℕ) → (isThere (read l at) ≡ true) ↔ ((v : A) × (within v ≡ true) × Stood l at (text v))
 
--- the role of a line by its first byte, and each field that a check of 9 reads; the pairs of an F line are tested by `isCode` itself
+-- the role of a line by its first byte, and each field that a check of 9 reads; the pairs of an F line are tested by `isCode` itself (`codes-meant`)
 pub record FieldsTold : Type 0 where
   pub role : (b : ℕ) → Letter (roleOf (kindOf b)) b
   -- "Time: HHMMSS, 00 to 23, 00 to 59, 00 to 59, read as seconds of the day."

@@ -87,12 +87,12 @@ pub record IsHLine (l : List ℕ) : Type 0 where
   pub source : (getD l (byte 2) 0 ≡ code "F") ⊎ (getD l (byte 2) 0 ≡ code "O")
   pub subject : CodesAt l (byte 3) 3
 
--- how many bytes a column has
+-- how many bytes a column has, the first and the last among them
 abbrev pub widthOf : Entry → ℕ
 widthOf e = e .last - e .first + 1
 
--- "start SS, finish FF and a code CCC of 3 code characters"; "FF is not below SS"; "Listed codes, .. with least and most width"; "An unlisted code may have any
--- width"
+-- "start SS, finish FF and a code CCC of 3 code characters", FF in two digits; "FF is not below SS"; "Listed codes, .. with least and most width"; "An unlisted code may have
+-- any width"
 pub record IsEntry (start : ℕ) (e : Entry) : Type 0 where
   pub starts : e .first ≡ start
   pub ends : e .first ≤ e .last
@@ -167,8 +167,8 @@ pub record IsFLine (t : ℕ) (l : List ℕ) : Type 0 where
   pub even : length pairs % 2 ≡ 0
   pub codes : Each IsCode pairs
 
--- The columns of a line, one behind the other, each of its entry's bytes from SS to FF: "A line of that kind ends at the last FF". Valid characters, and the rule of a
--- listed code.
+-- The columns of a line, one behind the other, each as many bytes as from its entry's SS to its FF, and none behind the last: "A line of that kind ends at the last FF". Each
+-- holds valid characters, and that of a listed code keeps its rule.
 pub data Columns : List Entry → List ℕ → Type 0 where
   none : Columns [] []
   column : {e : Entry} {es : List Entry} {t : List ℕ} (c : List ℕ)
@@ -179,21 +179,21 @@ pub data Columns : List Entry → List ℕ → Type 0 where
       → Columns (e ∷ es) (c ++ t)
 
 -- "B: time 2 to 7; latitude DDMMmmm and N or S, 8 to 15; longitude DDDMMmmm and E or W, 16 to 24; A or V, 25; pressure altitude 26 to 30; GNSS altitude 31 to 35;
--- columns from 36."; "B .. exactly what [its] layout gives"
+-- columns from 36."; "B and K exactly what their layout gives"
 pub record IsBLine (layout : Layout) (f : Fix) (l : List ℕ) : Type 0 where
   pub tail : List ℕ
   pub text : l ≡ fixText f tail
   pub fields : IsFix f
   pub columns : Columns (entriesOf layout) tail
 
--- "K: time 2 to 7, columns from 8."; "K .. exactly what [its] layout gives"
+-- "K: time 2 to 7, columns from 8."; "B and K exactly what their layout gives"
 pub record IsKLine (layout : Layout) (t : ℕ) (l : List ℕ) : Type 0 where
   pub tail : List ℕ
   pub text : l ≡ extraText t tail
   pub time : IsTime t
   pub columns : Columns (entriesOf layout) tail
 
--- a line of a family, by its layout, and its time
+-- a B line or a K line, by its layout, and its time
 abbrev pub IsColumned : Family → Layout → ℕ → List ℕ → Type 0
 IsColumned family.B layout t l = (f : Fix) × (f .time ≡ t) × IsBLine layout f l
 IsColumned family.K layout t l = IsKLine layout t l
@@ -249,13 +249,13 @@ pub data Untimed (l : List ℕ) : Type 0 where
   remark : IsLLine l → Untimed l
   other : IsOtherLine l → Untimed l
 
--- "D, E, F, B, K, L and other" in any order, and their times in the order of the lines
+-- "C, D, E, F, B, K, L and other", all but C, in any order; and their times in the order of the lines
 pub data Items (layouts : Layouts) : List (List ℕ) → List ℕ → Type 0 where
   done : Items layouts [] []
   timed : {l : List ℕ} {ls : List (List ℕ)} {t : ℕ} {ts : List ℕ} → Timed layouts t l → Items layouts ls ts → Items layouts (l ∷ ls) (t ∷ ts)
   untimed : {l : List ℕ} {ls : List (List ℕ)} {ts : List ℕ} → Untimed l → Items layouts ls ts → Items layouts (l ∷ ls) ts
 
--- "At most one declaration (h), begun before the first B: a C head, then at once its point lines, as many as its turn points plus 4"
+-- "At most one declaration (h), begun before the first B: a C head, then at once its point lines, as many as its turn points plus 4 (take-off, start, finish, landing)."
 pub data Body (layouts : Layouts) : List (List ℕ) → List ℕ → Type 0 where
   undeclared : {ls : List (List ℕ)} {ts : List ℕ} → Items layouts ls ts → Body layouts ls ts
   declared : {ts us : List ℕ} (before : List (List ℕ)) (head : List ℕ) (points after : List (List ℕ)) (h : Head)
@@ -287,7 +287,7 @@ abbrev pub SealedBy : Seal → List (List ℕ) → Type 0
 SealedBy seal.Strict gs = 1 ≤ length gs
 
 -- "Line 1 is A, line 2 is H, then further H lines, then at most one I, then at most one J. After these come C, D, E, F, B, K, L and other, with no further A, H,
--- I, J." "Then one or more G lines. After the first G only G or L; after an L that follows a G, only L."
+-- I, J." "Then one or more G lines. After the first G only G or L; after an L that follows a G, only L." How many G lines are needed, the seal says.
 pub record Keeps (seal : Seal) (p : Parts) (date : Date) (layouts : Layouts) (times : List ℕ) : Type 0 where
   pub recorder : IsALine (p .recorder)
   pub day : IsDateLine date (p .day)
