@@ -1,12 +1,12 @@
 -- Demand 2, what is claimed. Each claim is a line from the room that proves it; its words stand in specs/ (Grammar, Coming, Checks, Faults, FieldTexts, Readings,
--- BothWays, ReadersRefuse), the definitions that it is about in the rules. Assumes nothing.
+-- BothWays, ReadersRefuse) and in the specs/ of words, the definitions that it is about in the rules. Assumes nothing.
 --
 -- How these definitions are the library's answers: `file::check` answers `verdict seal file (some (length table))` and leaves `tableAfter seal file table` (promise FileChecked),
 -- `file::check_untabled` answers `verdict seal file none` (FileJudged); `cut::bounds` answers `boundsOf` (LineGiven), `Cursor::step` answers `stepAt` (LineStepped), the readers in `read` answer `fixSaid`, `columnSaid` and so on (FixGiven ..); the writers in
 -- `write` keep `Written` (FixWritten ..), from which `BothWays` tells what they write (proofs/Promised). By the laws `only-..` of crate laws, nothing else would keep these promises.
 use Prim.Native.Nat.{ℕ, _≤_}
 use Prim.Native.Char.{code}
-use mathlib.Core.Bool.{true}
+use mathlib.Core.Bool.{Bool, true}
 use mathlib.Core.List.{List, [], _∷_, _++_}
 use mathlib.Core.Logic.{_↔_}
 use mathlib.Core.Option.{Option, none, some}
@@ -16,9 +16,10 @@ use Rattle.rules.specs.Choice.{Each}
 use Rattle.rules.specs.Families.{firstStart}
 use Rattle.rules.specs.Refusals.{says, refuses}
 use Rattle.rules.specs.Files.{verdict}
+use Rattle.rules.specs.Chars.{isValid, isCode}
 use Rattle.rules.specs.Listed.{widthFits, keepsRule}
 use Rattle.rules.specs.Layouts.{isSaid, allowed}
-use Rattle.rules.specs.Reads.{fixSaid, extraSaid, headSaid, pointSaid, layoutSaid}
+use Rattle.rules.specs.Reads.{fixSaid, extraSaid, dateSaid, eventSaid, satellitesSaid, headSaid, pointSaid, layoutSaid}
 use Rattle.rules.specs.Writes.{fixText, extraText, headText, pointText, layoutText, isFix, isExtra, isHead, isPoint}
 use Rattle.rules.specs.declared.Date.{Date}
 use Rattle.rules.specs.declared.Layout.{Layout}
@@ -37,7 +38,11 @@ use Rattle.trips.proofs.Fixes.{fix-trip, fix-good}
 use Rattle.trips.proofs.Extras.{extra-trip, extra-good}
 use Rattle.trips.proofs.Heads.{head-trip, head-good}
 use Rattle.trips.proofs.Points.{point-trip, point-good}
-use Rattle.demands.specs.Grammar.{IsDay, Listing, Holds, IsLayoutLine, IsBLine, IsKLine, IsHeadLine, IsPointLine, linesIn, Fits, Meets, flightOf}
+use Rattle.words.specs.Characters.{IsValid, IsCode}
+use Rattle.words.specs.Codes.{Listing, Holds}
+use Rattle.words.proofs.Characters.{valid-exactly, code-exactly}
+use Rattle.words.proofs.Codes.{width-exactly, rule-exactly}
+use Rattle.demands.specs.Grammar.{IsDay, IsDateLine, IsELine, IsFLine, IsLayoutLine, IsBLine, IsKLine, IsHeadLine, IsPointLine, linesIn, Fits, Meets, flightOf}
 use Rattle.demands.specs.Faults.{PassAfter, Refused}
 use Rattle.demands.specs.FieldTexts.{FieldsTold}
 use Rattle.demands.specs.Coming.{Meant}
@@ -49,10 +54,11 @@ use Rattle.demands.proofs.Accepted as acceptance
 use Rattle.demands.proofs.Refusing as refusing
 use Rattle.demands.proofs.FieldsThere as fields-there
 use Rattle.demands.proofs.Refusing.{meant}
-use Rattle.demands.proofs.Laws.{day-exactly, width-exactly, rule-exactly}
+use Rattle.demands.proofs.Laws.{day-exactly}
 use Rattle.demands.proofs.Reading as reading
 use Rattle.demands.proofs.LayoutLines.{layout-exactly, layout-line-exactly}
 use Rattle.demands.proofs.EachLine.{fix-reads, fix-read, extra-reads, extra-read, head-reads, head-read, point-reads, point-read}
+use Rattle.demands.proofs.Readers.{date-exactly, event-exactly, satellite-exactly, some-line}
 use Rattle.demands.proofs.Writers.{both-ways, trip-ways}
 use Rattle.demands.proofs.ReadersRefuse as readers
 use Rattle.demands.proofs.Worked as worked
@@ -90,14 +96,21 @@ fields-told = fields-there.fields-told
 pub lines-meant : (ls : List (List ℕ)) → PassAfter [] ls → Meant ls
 lines-meant = meant
 
--- a date; the width of a code's column (12), and its text (13)
+-- a character (8), a code character; a date; the width of a code's column (12), and its text (13). The table of listed codes and the limits of values stand in
+-- words/proofs/Exactly
+pub characters-meant : (inH : Bool) (b : ℕ) → (isValid inH b ≡ true) ↔ IsValid inH b
+characters-meant = valid-exactly
+
+pub codes-meant : (b : ℕ) → (isCode b ≡ true) ↔ IsCode b
+codes-meant = code-exactly
+
 pub dates-meant : (d : Date) → (isDate d ≡ true) ↔ IsDay d
 dates-meant = day-exactly
 
-pub widths-meant : (x w : ℕ) → (widthFits x w ≡ true) ↔ Listing x (λ r. (r .least ≤ w) × (w ≤ r .most))
+pub widths-meant : (x w : ℕ) → (widthFits x w ≡ true) ↔ Listing x (λ p. (p .least ≤ w) × (w ≤ p .most))
 widths-meant = width-exactly
 
-pub texts-meant : (x : ℕ) (t : List ℕ) → (keepsRule x t ≡ true) ↔ Listing x (λ r. Holds (r .sign) t)
+pub texts-meant : (x : ℕ) (t : List ℕ) → (keepsRule x t ≡ true) ↔ Listing x (λ p. Holds (p .name) t)
 texts-meant = rule-exactly
 
 -- ---- the grammar by itself
@@ -118,8 +131,8 @@ pub no-b-after-g : {seal : Seal} {file : List ℕ} (m : Meets seal file) (before
     → getD g 0 0 ≡ code "G" → Each (λ l. getD l 0 0 ≡ code "B" → ⊥) after
 no-b-after-g = worked.no-b-after-g
 
--- ---- what can be read from an accepted file, with the table that it was checked with: its lines by number and step by step, each B and K line column by column, and the
--- declaration
+-- ---- what can be read from an accepted file, with the table that it was checked with: its lines by number and step by step; the date from line 2, the layouts from the I and the J
+-- line, and of them the lengths, columns and listed codes; each B and K line column by column, each E and F line; and the declaration with its texts
 
 pub readable : (seal : Seal) (file table : List ℕ) (f : Flight) → verdict seal file (some (length table)) ≡ says f → Readable seal file table f
 readable = reading.readable
@@ -137,6 +150,20 @@ module _ (i : Slotted) (l : List ℕ) where
 -- I lines and J lines
 pub layouts-exactly : (family : Family) (layout : Layout) (l : List ℕ) → (layoutSaid family l ≡ says layout) ↔ IsLayoutLine family layout l
 layouts-exactly = layout-line-exactly
+
+-- a layout is allowed exactly when there is such a line of it
+pub allowed-exactly : (family : Family) (i : Slotted) → (allowed (firstStart family) (i .layout) ≡ true) ↔ ((l : List ℕ) × IsLayoutLine family (i .layout) l)
+allowed-exactly = some-line
+
+-- line 2, E lines and F lines
+pub dates-exactly : (d : Date) (l : List ℕ) → (dateSaid l ≡ says d) ↔ IsDateLine d l
+dates-exactly = date-exactly
+
+pub events-exactly : (t : ℕ) (l : List ℕ) → (eventSaid l ≡ says t) ↔ IsELine t l
+events-exactly = event-exactly
+
+pub satellites-exactly : (t : ℕ) (l : List ℕ) → (satellitesSaid l ≡ says t) ↔ IsFLine t l
+satellites-exactly = satellite-exactly
 
 -- C heads and C points
 pub heads-exactly : (h : Head) (l : List ℕ) → (headSaid l ≡ says h) ↔ IsHeadLine h l

@@ -281,7 +281,7 @@ ends-same [] start = refl
 ends-same (e ∷ es) start = let n : e .last + 1 - 1 ≡ e .last = omega arith in ends-same es (e .last + 1) ∙ ap (λ x. endsAt x es) n
 
 -- the length that a layout gives is where its last column ends
-length-laid : (f : Family) (es : List Entry) → lineLength (firstStart f) (laid es) ≡ sizeOf f es
+pub length-laid : (f : Family) (es : List Entry) → lineLength (firstStart f) (laid es) ≡ sizeOf f es
 length-laid family.B es = line-end 36 es ∙ ends-same es 36
 length-laid family.K es = line-end 8 es ∙ ends-same es 8
 

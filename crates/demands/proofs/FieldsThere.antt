@@ -1,22 +1,19 @@
 -- Each field could be read exactly where the text of a value within its limits stands. From the laws of each field both ways. Assumes nothing.
-use Prim.Native.Nat.{ℕ, zero, suc, _+_, _≤_, _^_}
+use Prim.Native.Nat.{ℕ, _+_, _≤_, _^_}
 use Prim.Native.Char.{code}
-use mathlib.Core.Bool.{Bool, true, false, _||_, or-true}
-use mathlib.Core.List.{List, [], _∷_, _++_}
-use mathlib.Core.Logic.{_↔_, _⊎_, inl, inr}
+use mathlib.Core.Bool.{Bool, true}
+use mathlib.Core.List.{List, [], _∷_}
+use mathlib.Core.Logic.{_↔_}
 use mathlib.Core.Option.{Option, none, some}
-use mathlib.Core.Path.{_≡_, refl, _∙_, ap}
+use mathlib.Core.Path.{_≡_, refl, ap}
 use native.Mathlib.Omega.{arith}
-use borrow.Author.Tests.{lt-ltb, ltb-true, eqb-true, eq-eqb}
-use lib.Dec.{eqb, ltb}
+use borrow.Author.Tests.{lt-ltb, ltb-true}
+use lib.Dec.{ltb}
 use lib.ListN.{length, drop}
-use Rattle.rules.specs.Choice.{leads, Each}
-use Rattle.rules.specs.Chars.{isCode, codesAt}
 use Rattle.rules.specs.Numbers.{numberAt, digitsOf}
 use Rattle.rules.specs.Listed.{codeAt, codeText, isCodeWord}
 use Rattle.rules.specs.Lines.{isDateMark}
-use Rattle.rules.specs.Fields.{isEither}
-use Rattle.rules.proofs.Inverse.{false-true, and-inv}
+use Rattle.rules.proofs.Inverse.{false-true}
 use Rattle.trips.proofs.Digits.{number-there, number-here}
 use Rattle.trips.proofs.Trip.{Trip}
 use Rattle.trips.proofs.Times.{time-trip}
@@ -25,8 +22,10 @@ use Rattle.trips.proofs.Plans.{planned-trip}
 use Rattle.trips.proofs.Positions.{latitude-trip, longitude-trip}
 use Rattle.trips.proofs.Altitudes.{altitude-trip}
 use Rattle.sound.proofs.Entries.{code-there, code-here}
+use Rattle.words.proofs.Characters.{codes-exactly}
+use Rattle.words.proofs.Values.{either-exactly}
 use Rattle.demands.specs.Checks.{isThere}
-use Rattle.demands.specs.FieldTexts.{Stood, Field, Codes, FieldsTold}
+use Rattle.demands.specs.FieldTexts.{Stood, Field, FieldsTold}
 use Rattle.demands.proofs.EachLine.{mark-there}
 use Rattle.demands.proofs.Leading.{letter}
 
@@ -67,32 +66,6 @@ word-field =
     (r .1, record { rest = drop (at + 3) l; bytes = r .0 }))
     (λ l at v w. code-here l at v (w .1 .rest) (w .0) (w .1 .bytes))
 
--- ---- code characters
-
--- the first n of a list
-front-there : (n : ℕ) (l : List ℕ) → leads isCode n l ≡ true → (text rest : List ℕ) × Codes n text × (l ≡ text ++ rest)
-unfolding leads
-front-there zero l e = ([], l, record { count = refl; each = tt }, refl)
-front-there (suc n) [] e = absurd (false-true e)
-front-there (suc n) (b ∷ l) e =
-    let a = and-inv (isCode b) (leads isCode n l) e in
-    let r = front-there n l (a .1) in
-    (b ∷ r .0, r .1, record { count = ap suc (r .2 .count); each = (a .0, r .2 .each) }, ap (λ x. b ∷ x) (r .3))
-
-front-here : (n : ℕ) (t r : List ℕ) → length t ≡ n → Each (λ b. isCode b ≡ true) t → leads isCode n (t ++ r) ≡ true
-unfolding leads
-front-here zero [] r e h = refl
-front-here zero (b ∷ t) r e h = absurd (omega arith)
-front-here (suc n) [] r e h = absurd (omega arith)
-front-here (suc n) (b ∷ t) r e h = rw (h .0) (front-here n t r (omega arith) (h .1))
-
-codes-field : (l : List ℕ) (at n : ℕ) → (codesAt l at n ≡ true) ↔ ((t : List ℕ) × Codes n t × Stood l at t)
-unfolding codesAt
-codes-field l at n = (
-  λ e. let f = front-there n (drop at l) e in (f .0, f .2, record { rest = f .1; bytes = f .3 }),
-  λ w. ap (leads isCode n) (w .2 .bytes) ∙ front-here n (w .0) (w .2 .rest) (w .1 .count) (w .1 .each),
-)
-
 -- ---- the date line's mark
 
 mark-field : (l : List ℕ) → (isDateMark l ≡ true) ↔ Stood l 1 (code "F" ∷ code "D" ∷ code "T" ∷ code "E" ∷ [])
@@ -102,21 +75,6 @@ mark-field l = (λ e. record { rest = drop 5 l; bytes = mark-there l e }, in-aga
     in-again : (l : List ℕ) → Stood l 1 (70 ∷ 68 ∷ 84 ∷ 69 ∷ []) → isDateMark l ≡ true
     in-again [] w = let n = ap length (w .bytes) in absurd (omega arith)
     in-again (x ∷ t) w = ap (λ y. isDateMark (x ∷ y)) (w .bytes)
-
--- ---- one of two letters
-
-either-field : (x a b : ℕ) → (isEither x a b ≡ true) ↔ ((x ≡ a) ⊎ (x ≡ b))
-unfolding isEither
-either-field x a b = (out (eqb x a) (eqb x b) refl refl, back)
-  where
-    out : (s t : Bool) → eqb x a ≡ s → eqb x b ≡ t → (s || t) ≡ true → (x ≡ a) ⊎ (x ≡ b)
-    out true t p q e = inl (eqb-true x a p)
-    out false true p q e = inr (eqb-true x b q)
-    out false false p q e = absurd (false-true e)
-
-    back : (x ≡ a) ⊎ (x ≡ b) → (eqb x a || eqb x b) ≡ true
-    back (inl h) = rw (eq-eqb x a h)
-    back (inr h) = rw (eq-eqb x b h) (or-true (eqb x a))
 
 -- ---- all of them
 
@@ -131,7 +89,7 @@ fields-told = record {
   altitude = trip-field _ _ _ 5 altitude-trip;
   number = number-field;
   word = word-field;
-  codes = codes-field;
-  either = either-field;
+  codes = codes-exactly;
+  either = either-exactly;
   mark = mark-field;
 }

@@ -65,7 +65,7 @@ fits-so none n h = refl
 fits-so (some most) n h = le-leb n most h
 
 -- a test that each of them passes, and one that each fails
-pub all-pass : (test : Family → Bool) → (test family.B && test family.K) ≡ true → (f : Family) → test f ≡ true
+all-pass : (test : Family → Bool) → (test family.B && test family.K) ≡ true → (f : Family) → test f ≡ true
 all-pass test e = let a = and-inv (test family.B) (test family.K) e in every (λ f. test f ≡ true) (a .0) (a .1)
 
 pub none-pass : (test : Family → Bool) → (not (test family.B) && not (test family.K)) ≡ true → (f : Family) → test f ≡ false
@@ -92,10 +92,6 @@ is-same family.K = every (λ g. sameFamily g family.K ≡ true → g ≡ family.
 
 pub put-others : (f : Family) (i : Layout) (ls : Layouts) (g : Family) → sameFamily g f ≡ false → layoutOf g (withLayout f i ls) ≡ layoutOf g ls
 put-others f i ls = put-by (λ g x. sameFamily g f ≡ false → x ≡ layoutOf g ls) f i ls (λ n. absurd (false-true (sym n ∙ same-family f))) (λ g n m. refl)
-
-pub same-letter : (f g : Family) → lineLetter f ≡ lineLetter g → f ≡ g
-same-letter family.B = every (λ g. lineLetter family.B ≡ lineLetter g → family.B ≡ g) (λ e. refl) (λ e. absurd (omega arith))
-same-letter family.K = every (λ g. lineLetter family.K ≡ lineLetter g → family.K ≡ g) (λ e. absurd (omega arith)) (λ e. refl)
 
 -- ---- the role of a letter
 

@@ -25,11 +25,11 @@ use Rattle.rules.proofs.Inverse.{refuses-says}
 use Rattle.laws.proofs.Counted.{goodIn, table-length, entry-put, entry-kept}
 use Rattle.demands.specs.Grammar.{linesIn, Fits, Meets, flightOf}
 use Rattle.demands.specs.Faults.{Before, Refused, empty, too-long, line-end, in-line, table-full, ends-early}
-use Rattle.demands.specs.Readings.{total}
-use Rattle.demands.specs.Left.{OneAnswer, linesBefore, Entered, FileLeaves, WriteLeaves, NoValue}
+use Rattle.demands.specs.Left.{OneAnswer, linesBefore, FileLeaves, WriteLeaves, NoValue}
+use Rattle.demands.specs.Readings.{Entered}
 use Rattle.demands.proofs.Accepted.{lines-cut}
 use Rattle.demands.proofs.Sections.{before, lines-joined}
-use Rattle.demands.proofs.Reading.{offset-is}
+use Rattle.demands.proofs.Reading.{entered}
 use Rattle.demands.proofs.Writers.{Answer, bad, full, wrote, answer}
 use Rattle.demands.proofs.Demands.{accepted-as, refused-first}
 
@@ -52,26 +52,17 @@ one-answer seal file room = record {
 -- ---- the table
 
 module _ (seal : Seal) (file table : List ℕ) where
-  -- the good lines have their entries, whatever comes behind them
-  entered : (ls : List (List ℕ)) (k : Lines) → linesOf file ≡ before ls k → goodIn seal file table ≡ length ls → length ls ≤ length table → Entered ls table (tableAfter seal file table)
-  entered ls k e g h = record {
-    entries = λ n i. entry-put seal file table n 0 (rw g i) ∙ ap (λ x. getD (offsets 0 x) n 0) e ∙ offset-is k ls 0 n i ∙ zero-add (total (take n ls));
-    unchanged = λ n i. entry-kept seal file table n 0 (rw g i);
-    long = table-length seal file table;
-    room = h;
-  }
-
   -- where the file is refused, they are the lines before the faulty one
   good-before : {n l b : ℕ} → Refused seal file (some (length table)) n l b → goodIn seal file table ≡ l - 1
   unfolding goodLines
   good-before {n} {l} {b} w = ap goodLines (refused-first seal file (some (length table)) n l b .1 w)
 
   led : (lines : List (List ℕ)) (rest : List ℕ) → Before file (some (length table)) lines rest → goodIn seal file table ≡ length lines + 1 - 1 → Entered lines table (tableAfter seal file table)
-  led lines rest w g = entered lines (linesOf rest) (ap linesOf (w .bytes) ∙ lines-joined lines rest (w .texts)) (g ∙ omega arith) (w .fits)
+  led lines rest w g = entered seal file table lines (linesOf rest) (ap linesOf (w .bytes) ∙ lines-joined lines rest (w .texts)) (g ∙ omega arith) (w .fits)
 
   refused-entered : {n l b : ℕ} (w : Refused seal file (some (length table)) n l b) → goodIn seal file table ≡ l - 1 → Entered (linesBefore w) table (tableAfter seal file table)
-  refused-entered (empty e) g = entered [] (linesOf file) refl g (omega arith)
-  refused-entered (too-long h) g = entered [] (linesOf file) refl g (omega arith)
+  refused-entered (empty e) g = entered seal file table [] (linesOf file) refl g (omega arith)
+  refused-entered (too-long h) g = entered seal file table [] (linesOf file) refl g (omega arith)
   refused-entered (line-end lines rest n w e) g = led lines rest w g
   refused-entered (in-line lines l rest n b w t f) g = led lines _ w g
   refused-entered (table-full lines l rest w t p r) g = led lines _ w g

@@ -2,6 +2,7 @@ pub mod Laws
 pub mod LayoutLines
 pub mod Columns
 pub mod EachLine
+pub mod Readers
 pub mod Leading
 pub mod Sections
 pub mod Accepted
@@ -9,6 +10,7 @@ pub mod FieldsThere
 pub mod Standing
 pub mod Faulty
 pub mod Refusing
+pub mod ByLayout
 pub mod Reading
 pub mod Writers
 pub mod Worked

@@ -1,5 +1,5 @@
 -- Document 01, 'Lines' and 'Fields': the letters of each role, and what it means that a field could be read, apart from how it is read: the bytes there are the text
--- of a value within its limits.
+-- of a value within its limits, which words has in document 01's words.
 use Prim.Native.Nat.{ℕ, _≤_, _<_, _^_}
 use Prim.Native.Char.{code}
 use mathlib.Core.Bool.{Bool, true}
@@ -8,9 +8,9 @@ use mathlib.Core.Logic.{_⊎_, _↔_}
 use mathlib.Core.Option.{Option, some}
 use mathlib.Core.Path.{_≡_}
 use lib.Dec.{ltb}
-use lib.ListN.{length, drop}
-use Rattle.rules.specs.Choice.{byte, Each}
-use Rattle.rules.specs.Chars.{isCode, codesAt}
+use lib.ListN.{drop}
+use Rattle.rules.specs.Choice.{byte}
+use Rattle.rules.specs.Chars.{codesAt}
 use Rattle.rules.specs.Numbers.{numberAt, digitsOf}
 use Rattle.rules.specs.Fields.{timeAt, timeText, dateAt, dateText, latitudeAt, latitudeText, longitudeAt, longitudeText, altitudeAt, altitudeText, isEither}
 use Rattle.rules.specs.Degrees.{isLatitude, isLongitude}
@@ -22,6 +22,7 @@ use Rattle.rules.specs.declared.Family.the-variants as family
 use Rattle.rules.specs.declared.Role.{Role}
 use Rattle.rules.specs.declared.Role.the-variants as role
 use Rattle.rules.specs.Limits.{isTime, isDate, isPlanned, isAltitude}
+use Rattle.words.specs.Characters.{CodesAt}
 use Rattle.demands.specs.Checks.{isThere}
 
 -- "The first byte, A to Z, is the kind. M to Z are 'other' and carried (h)."
@@ -51,12 +52,7 @@ pub record Field {A : Type 0} (read : List ℕ → ℕ → Option A) (text : A �
   pub reads : (l : List ℕ) (at : ℕ) (v : A) → (read l at ≡ some v) ↔ ((within v ≡ true) × Stood l at (text v))
   pub there : (l : List ℕ) (at : ℕ) → (isThere (read l at) ≡ true) ↔ ((v : A) × (within v ≡ true) × Stood l at (text v))
 
--- so many code characters
-pub record Codes (n : ℕ) (t : List ℕ) : Type 0 where
-  pub count : length t ≡ n
-  pub each : Each (λ b. isCode b ≡ true) t
-
--- the role of a line by its first byte, and each field that a check of 9 reads; the pairs of an F line are tested by `isCode` itself
+-- the role of a line by its first byte, and each field that a check of 9 reads; the pairs of an F line are tested by `isCode` itself (`codes-meant`)
 pub record FieldsTold : Type 0 where
   pub role : (b : ℕ) → Letter (roleOf (kindOf b)) b
   -- "Time: HHMMSS, 00 to 23, 00 to 59, 00 to 59, read as seconds of the day."
@@ -75,7 +71,7 @@ pub record FieldsTold : Type 0 where
   -- "a code CCC of 3 code characters"
   pub word : Field codeAt codeText isCodeWord
   -- "'Code' characters are A to Z and 0 to 9."
-  pub codes : (l : List ℕ) (at n : ℕ) → (codesAt l at n ≡ true) ↔ ((t : List ℕ) × Codes n t × Stood l at t)
+  pub codes : (l : List ℕ) (at n : ℕ) → (codesAt l at n ≡ true) ↔ CodesAt l at n
   -- "F or O", "1 or 2", "A or V"
   pub either : (x a b : ℕ) → (isEither x a b ≡ true) ↔ ((x ≡ a) ⊎ (x ≡ b))
   -- "FDTE at 2 to 5 as one field"

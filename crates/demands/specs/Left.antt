@@ -20,7 +20,7 @@ use Rattle.rules.specs.declared.Checked.{Checked}
 use Rattle.rules.specs.declared.Wrote.{Wrote}
 use Rattle.demands.specs.Grammar.{linesIn, Fits, Meets, flightOf}
 use Rattle.demands.specs.Faults.{Refused, empty, too-long, line-end, in-line, table-full, ends-early}
-use Rattle.demands.specs.Readings.{total}
+use Rattle.demands.specs.Readings.{Entered}
 
 -- ---- "The answer is the first refusal, or: the date, the I and J layouts, the count of lines, of B lines and of K lines"
 
@@ -41,13 +41,6 @@ linesBefore (in-line lines l rest n b w t f) = lines
 linesBefore (table-full lines l rest w t p r) = lines
 -- 16: "all lines"
 linesBefore (ends-early lines w e) = lines
-
--- the lent table afterwards: "for each line .. the offset of its first byte", as many bytes as the lines before it have with their CR LF; the rest as lent; as many entries
-pub record Entered (lines : List (List ℕ)) (table after : List ℕ) : Type 0 where
-  pub entries : (n : ℕ) → n < length lines → getD after n 0 ≡ total (take n lines)
-  pub unchanged : (n : ℕ) → length lines ≤ n → getD after n 0 ≡ getD table n 0
-  pub long : length after ≡ length table
-  pub room : length lines ≤ length table
 
 -- what the check answers and leaves
 pub record FileLeaves (seal : Seal) (file table : List ℕ) (r : Checked) (after : List ℕ) : Type 0 where

@@ -8,3 +8,4 @@ pub mod Splitting
 pub mod LineEnds
 pub mod Counted
 pub mod Walking
+pub mod Presence
