@@ -24,7 +24,7 @@ use Rattle.rules.specs.declared.PresenceRead.{PresenceRead}
 use Rattle.rules.specs.declared.Reason.the-variants.{BadValue}
 use Rattle.rules.specs.declared.Signed.{Signed}
 use Rattle.rules.specs.declared.TimeRead.{TimeRead}
-use Rattle.known.specs.Known.{layoutFamilyOf}
+use Rattle.rules.specs.Families.{layoutFamilyOf}
 use Rattle.given.specs.declared.ColumnAt.{ColumnAt}
 use Rattle.given.specs.declared.ColumnAt.the-variants as columnAt
 

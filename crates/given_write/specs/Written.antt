@@ -13,7 +13,7 @@ use Rattle.rules.specs.declared.Family.the-variants as family
 use Rattle.rules.specs.declared.Fix.{Fix}
 use Rattle.rules.specs.declared.Reason.the-variants.{BadValue}
 use Rattle.rules.specs.declared.Wrote.{Wrote}
-use Rattle.known.specs.Known.{layoutFamilyOf}
+use Rattle.rules.specs.Families.{layoutFamilyOf}
 use Rattle.given.specs.Given.{orBadValue, layoutBy}
 
 -- what is said of a text that is to be written, and the output afterwards

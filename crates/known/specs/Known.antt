@@ -1,14 +1,13 @@
 -- What is said of a line of a family by a layout that is not tested: where the layout is allowed, what the readers of the line say. The promises of this crate.
 use Prim.Native.Nat.{ℕ}
 use Prim.Native.Char.{code}
-use mathlib.Core.Bool.{Bool, false, cond}
+use mathlib.Core.Bool.{Bool, false}
 use mathlib.Core.List.{List}
 use mathlib.Core.Option.{Option, none, some}
 use mathlib.Core.Path.{_≡_}
-use lib.Dec.{eqb}
 use lib.ListN.{getD}
 use Rattle.rules.specs.Choice.{given}
-use Rattle.rules.specs.Families.{firstStart, layoutLetter, familyOf}
+use Rattle.rules.specs.Families.{firstStart, familyOf, layoutFamilyOf}
 use Rattle.rules.specs.Layouts.{Span, allowed, look, columnText, columnTold}
 use Rattle.rules.specs.Lines.{bLine, kLine, columnedLine}
 use Rattle.rules.specs.Listed.{packedOf}
@@ -31,10 +30,6 @@ use Rattle.known.specs.declared.FamilyRead.the-variants as familyRead
 unfoldable pub familyTold : FamilyRead → Option Family
 familyTold (familyRead.Of f) = some f
 familyTold familyRead.NoFamily = none
-
--- the family whose layout a line tells, by the line's first byte
-unfoldable pub layoutFamilyOf : ℕ → Option Family
-layoutFamilyOf b = cond (eqb b (layoutLetter family.B)) (some family.B) (cond (eqb b (layoutLetter family.K)) (some family.K) none)
 
 -- "17 BAD_VALUE: .. layout .. given is not allowed": for the family that a line is of; none is where it is of no family
 unfoldable pub allowedFor : List ℕ → Layout → Bool

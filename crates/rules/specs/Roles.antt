@@ -43,8 +43,8 @@ abbrev pub isFront : Role → Bool
 isFront = elim [ role.Opens ↦ true | role.Heads ↦ true | role.Tells f ↦ false | role.Columned f ↦ false | role.Declares ↦ false | role.Event ↦ false | role.Satellites ↦ false | role.Differential ↦ false | role.Seals ↦ false | role.Remark ↦ false | role.Other ↦ false | role.NoRole ↦ false ]
 
 -- a line after the layout lines that has no columns
-abbrev pub isPlain : Role → Bool
-isPlain = elim [ role.Opens ↦ false | role.Heads ↦ false | role.Tells f ↦ false | role.Columned f ↦ false | role.Declares ↦ true | role.Event ↦ true | role.Satellites ↦ true | role.Differential ↦ true | role.Seals ↦ true | role.Remark ↦ true | role.Other ↦ true | role.NoRole ↦ false ]
+abbrev pub isBare : Role → Bool
+isBare = elim [ role.Opens ↦ false | role.Heads ↦ false | role.Tells f ↦ false | role.Columned f ↦ false | role.Declares ↦ true | role.Event ↦ true | role.Satellites ↦ true | role.Differential ↦ true | role.Seals ↦ true | role.Remark ↦ true | role.Other ↦ true | role.NoRole ↦ false ]
 
 -- an E line
 abbrev pub isEvent : Role → Bool
