@@ -6,7 +6,7 @@ use mathlib.Core.Path.{_≡_}
 use lib.Dec.{eqb, leb}
 use lib.ListN.{length, getD}
 use Rattle.rules.specs.Choice.{given, need}
-use Rattle.rules.specs.Families.{familyOf}
+use Rattle.rules.specs.Families.{familyOf, layoutFamilyOf}
 use Rattle.rules.specs.Layouts.{Span, LayoutTold, emptyLayout, unused, presenceSaid, presenceTold, columnTold}
 use Rattle.rules.specs.Reads.{fixSaid, extraSaid, layoutSaid, columnSaid, numberSaid, fixTold, timeReadTold, numberReadTold}
 use Rattle.rules.specs.Refusals.{Said, says, refuses, no, refusal, andThen}
@@ -24,7 +24,6 @@ use Rattle.rules.specs.declared.PresenceRead.{PresenceRead}
 use Rattle.rules.specs.declared.Reason.the-variants.{BadValue}
 use Rattle.rules.specs.declared.Signed.{Signed}
 use Rattle.rules.specs.declared.TimeRead.{TimeRead}
-use Rattle.rules.specs.Families.{layoutFamilyOf}
 use Rattle.given.specs.declared.ColumnAt.{ColumnAt}
 use Rattle.given.specs.declared.ColumnAt.the-variants as columnAt
 
