@@ -14,6 +14,7 @@ use lib.ListN.{length, getD, take, drop}
 use Rattle.rules.specs.Choice.{bytes, Each}
 use Rattle.rules.specs.Families.{firstStart, lineLetter, layoutLetter, familyOf, layoutOf}
 use Rattle.rules.specs.Refusals.{says}
+use Rattle.rules.specs.Degrees.{degreesOf}
 use Rattle.rules.specs.Layouts.{emptyLayout, entriesOf}
 use Rattle.rules.specs.Split.{Lines, end, linesOf, offsets}
 use Rattle.rules.specs.Reads.{dateSaid, entriesSaid, headRest, pointRest}
@@ -23,6 +24,7 @@ use Rattle.rules.specs.declared.Layout.{Layout}
 use Rattle.rules.specs.declared.Family.{Family}
 use Rattle.rules.specs.declared.Family.the-variants as family
 use Rattle.rules.specs.declared.Layouts.{Layouts}
+use Rattle.rules.specs.declared.Position.{Position}
 use Rattle.rules.specs.declared.Fix.{Fix}
 use Rattle.rules.specs.declared.Head.{Head}
 use Rattle.rules.specs.declared.Seal.{Seal}
@@ -35,10 +37,12 @@ use Rattle.trips.proofs.Fixes.{fix-trip}
 use Rattle.trips.proofs.Extras.{extra-trip}
 use Rattle.trips.proofs.Heads.{head-trip}
 use Rattle.trips.proofs.Points.{point-trip}
+use Rattle.words.specs.Values.{IsLatitude, IsLongitude}
+use Rattle.words.proofs.Values.{latitude-exactly, longitude-exactly}
 use Rattle.demands.specs.Grammar.{IsDateLine, IsLayoutLine, IsHeadLine, IsPointLine, IsELine, IsFLine, Columns, IsBLine, IsKLine, IsColumned, IsGLine, IsLLine, AtMostOne, absent, given, Timed, Untimed, differential, remark, other, Items, done, timed, untimed, Body, undeclared, Parts, linesIn, Keeps, Meets}
 use Rattle.demands.specs.Grammar as grammar
 use Rattle.demands.specs.Coming.{isAmong}
-use Rattle.demands.specs.Readings.{Entered, ReadsFix, ReadsExtra, ReadsColumns, ReadsValue, ReadsLayout, ReadsPresence, ReadsLine, ReadsHead, ReadsPoint, NoC, ReadsDeclaration, nowhere, declared, total, Steps, Readable}
+use Rattle.demands.specs.Readings.{Entered, OnMap, ReadsFix, ReadsExtra, ReadsColumns, ReadsValue, ReadsLayout, ReadsPresence, ReadsLine, ReadsHead, ReadsPoint, NoC, ReadsDeclaration, nowhere, declared, total, Steps, Readable}
 use Rattle.sound.proofs.Each.{each-map, each-join, each-cut}
 use Rattle.demands.proofs.EachLine.{e-said, f-said, start-low, fix-reads, extra-reads, columned-letter, columned-said, head-reads, point-reads, head-said, point-said}
 use Rattle.demands.proofs.Readers.{date-exactly, event-exactly, satellite-exactly}
@@ -88,12 +92,18 @@ line-columns f layout t l tail i w d c =
     let k = columned-letter f layout t l w in
     columns-read f layout l tail (start-low f) i d c (rw (k, every (λ f. familyOf (lineLetter f) ≡ some f) refl refl f, i .right, columned-said f layout t l i w))
 
+-- positions within their limits
+on-map : (lat lon : Position) → IsLatitude lat → IsLongitude lon → OnMap lat lon
+unfolding degreesOf
+on-map lat lon p q = rw (latitude-exactly lat .1 p, longitude-exactly lon .1 q)
+
 -- a B line, and a K line
 reads-fix : (layout : Layout) (f : Fix) (l : List ℕ) → IsTold family.B layout → IsBLine layout f l → ReadsFix layout l
 reads-fix layout f l i w = record {
   fix = f;
   is = w;
   reads = fix-reads layout i f l w;
+  map = on-map (f .lat) (f .lon) (w .fields .lat) (w .fields .lon);
   columns = line-columns family.B layout (f .time) l (w .tail) i (f, refl, w) (ap (drop 35) (w .text) ∙ fix-trip layout .behind f (w .tail)) (w .columns);
 }
 
@@ -117,7 +127,7 @@ reads-point : (l : List ℕ) → IsPointLine l → ReadsPoint l
 unfolding pointRest
 reads-point l w =
     let r = point-reads l w in
-    record { is = w; reads = r; text = rw r (ap (drop 18) (w .text) ∙ point-trip .behind (w .point) (w .rest)) }
+    record { is = w; reads = r; map = on-map (w .point .lat) (w .point .lon) (w .lat) (w .lon); text = rw r (ap (drop 18) (w .text) ∙ point-trip .behind (w .point) (w .rest)) }
 
 -- ---- lines that are none of these
 
