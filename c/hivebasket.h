@@ -141,7 +141,7 @@ uint32_t hive_column_number(const uint8_t *line, size_t line_length,
                             uint64_t *answer, size_t answer_length,
                             int64_t *number, size_t number_length);
 
-/* Column n, counted from 1, of an I or J line. 17 for another kind; then 7 to 12 with the byte; then 17 where n is 0 or past the line's columns.
+/* Column n, counted from 1, of an I or J line. 17 where n is 0 or over 13, and for another kind; then 7 to 12 with the byte; then 17 where n is past the line's columns.
        2, 3, 4 the code  5 first byte  6 last byte, in a B or K line, counted from 1 */
 enum { HIVE_CODE = 2, HIVE_FIRST = 5, HIVE_LAST = 6 };
 uint32_t hive_column_at(const uint8_t *layout, size_t layout_length,
