@@ -92,7 +92,7 @@ uint32_t hive_line(const uint8_t *file, size_t file_length,
                    uint64_t *answer, size_t answer_length);
 
 /* The line at a reading place, which is 0 for the first line and then what the step before gave as next. 17 where the place is past the end, or bytes remain and no CR LF
-   comes after it. Where no line is left the call is good, and all values are 0.
+   comes after it. Where no line is left the call is good, the next place is the place given, and the other values are 0.
        2 start  3 length  4 next place  5 found: 1 for a line, 0 where none is left */
 enum { HIVE_NEXT_PLACE = 4, HIVE_FOUND = 5 };
 uint32_t hive_step(const uint8_t *file, size_t file_length,

@@ -116,7 +116,7 @@ pub fn by_stepping(tally: &mut Tally, random: &mut Random, file: &[u8]) -> Held<
         let answer = reading::step(file, place);
         let values = |found: &Option<(usize, usize)>| match found {
             Some(found) => [found.0 as u64, (found.1 - found.0) as u64, found.1 as u64 + 2, 1],
-            None => [0; 4],
+            None => [0, 0, place as u64, 0],
         };
         tally.same("hive_step", &place, raw.number, raw, told(&answer, values))?;
         Ok::<_, String>(answer)
