@@ -100,6 +100,9 @@ static void lines(void) {
     say("column at 3", hive_column_at(TEXT(I), 3, answer, HIVE_ANSWER));
     say("column at 0", hive_column_at(TEXT(J), 0, answer, HIVE_ANSWER));
     say("column of a bad line", hive_column_at(TEXT("I023638FXA4041SIU"), 1, answer, HIVE_ANSWER));
+    say("column 13 of a bad line", hive_column_at(TEXT("I023638FXA4041SIU"), 13, answer, HIVE_ANSWER));
+    say("column 14 of a bad line", hive_column_at(TEXT("I023638FXA4041SIU"), 14, answer, HIVE_ANSWER));
+    say("column 0 of a bad line", hive_column_at(TEXT("I023638FXA4041SIU"), 0, answer, HIVE_ANSWER));
     say("presence", hive_presence(TEXT(I), answer, HIVE_ANSWER));
     say("presence of none", hive_presence(NULL, 0, answer, HIVE_ANSWER));
     say("presence of a J line", hive_presence(TEXT(J), answer, HIVE_ANSWER));

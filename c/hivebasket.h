@@ -92,7 +92,7 @@ uint32_t hive_line(const uint8_t *file, size_t file_length,
                    uint64_t *answer, size_t answer_length);
 
 /* The line at a reading place, which is 0 for the first line and then what the step before gave as next. 17 where the place is past the end, or bytes remain and no CR LF
-   comes after it. Where no line is left the call is good, and all values are 0.
+   comes after it. Where no line is left the call is good, the next place is the place given, and the other values are 0.
        2 start  3 length  4 next place  5 found: 1 for a line, 0 where none is left */
 enum { HIVE_NEXT_PLACE = 4, HIVE_FOUND = 5 };
 uint32_t hive_step(const uint8_t *file, size_t file_length,
@@ -141,7 +141,7 @@ uint32_t hive_column_number(const uint8_t *line, size_t line_length,
                             uint64_t *answer, size_t answer_length,
                             int64_t *number, size_t number_length);
 
-/* Column n, counted from 1, of an I or J line. 17 for another kind; then 7 to 12 with the byte; then 17 where n is 0 or past the line's columns.
+/* Column n, counted from 1, of an I or J line. 17 where n is 0 or over 13, and for another kind; then 7 to 12 with the byte; then 17 where n is past the line's columns.
        2, 3, 4 the code  5 first byte  6 last byte, in a B or K line, counted from 1 */
 enum { HIVE_CODE = 2, HIVE_FIRST = 5, HIVE_LAST = 6 };
 uint32_t hive_column_at(const uint8_t *layout, size_t layout_length,

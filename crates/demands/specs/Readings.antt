@@ -187,9 +187,9 @@ pub record Entered (lines : List (List ℕ)) (table after : List ℕ) : Type 0 w
 
 -- "A reading place over the lines .. comes back at each step with the next line, or with the news that none is left"
 unfoldable pub Steps : List ℕ → ℕ → List (List ℕ) → Type 0
-Steps file at [] = stepAt file at ≡ says none
+Steps file at [] = stepAt file at ≡ says (record { found = none; next = at })
 Steps file at (l ∷ ls) =
-    (stepAt file at ≡ says (some (record { from = at; to = at + length l; next = at + length l + 2 })))
+    (stepAt file at ≡ says (record { found = some (record { from = at; to = at + length l }); next = at + length l + 2 }))
     × (part at (at + length l) file ≡ l)
     × Steps file (at + length l + 2) ls
 

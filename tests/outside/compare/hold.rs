@@ -116,7 +116,7 @@ pub fn by_stepping(tally: &mut Tally, random: &mut Random, file: &[u8]) -> Held<
         let answer = reading::step(file, place);
         let values = |found: &Option<(usize, usize)>| match found {
             Some(found) => [found.0 as u64, (found.1 - found.0) as u64, found.1 as u64 + 2, 1],
-            None => [0; 4],
+            None => [0, 0, place as u64, 0],
         };
         tally.same("hive_step", &place, raw.number, raw, told(&answer, values))?;
         Ok::<_, String>(answer)
@@ -237,11 +237,8 @@ fn columns(tally: &mut Tally, random: &mut Random, line: &[u8], given: &[u8], la
 
 /// An I or J line: each of its columns by its place, places that it has not, and the word of an I line.
 fn layout(tally: &mut Tally, random: &mut Random, line: &[u8]) -> Held<()> {
-    let family = if line.first() == Some(&b'J') { Family::Extras } else { Family::Fixes };
-    let answer = reading::read_layout(line, family);
-    let count = answer.as_ref().map_or(0, |y| y.entries.len());
-    for n in (0..=count + 1).chain([usize::MAX]) {
-        let entry = answer.as_ref().map_err(|r| *r).and_then(|y| y.entries.get(n.wrapping_sub(1)).ok_or(Refusal::of(BAD_VALUE)));
+    for n in (0..=14).chain([usize::MAX]) {
+        let entry = reading::column_given(line, n);
         let raw = library::column_at(line, n);
         let values = told(&entry, |e| [e.code[0].into(), e.code[1].into(), e.code[2].into(), e.first as u64, e.last as u64]);
         tally.same("hive_column_at", &(line, n), raw.number, raw, values)?;

@@ -1,8 +1,8 @@
--- `faulty::ends::line_start` meets its contract. Assumes nothing.
+-- `faulty::line_start` meets its contract: the lines that are left lead to the line asked for. Assumes nothing.
 use borrow.Author.Needs.{needs}
-use Rattle.faulty.proofs.Places.{Walked, walk-start, walk-on, walk-none, walk-end}
-use Rattle.faulty.proofs.ends.line_start.Statement.{statement}
-use Rattle.faulty.proofs.ends.line_start.Tie as tie
+use Rattle.faulty.proofs.Places.{Walked, walk-start, walk-end, fits, walk-on, walk-none}
+use Rattle.faulty.proofs.line_start.Statement.{statement}
+use Rattle.faulty.proofs.line_start.Tie as tie
 
 abbrev Inv-loop : tie.InvT-loop
 Inv-loop file lines at₀ left₀ at left = Walked file lines at left
@@ -17,8 +17,11 @@ line-start-spec =
     Inv-loop
     μ-loop
     (λ c. walk-start _ _)
-    (λ c. search (walk-none, needs))
     (λ c κs. search needs)
+    (λ c. search needs)
+    (λ c. search needs)
+    (λ c. search (walk-none, needs))
+    (λ c. search (fits, needs))
     (λ c. search needs)
     (λ c. search needs)
     (λ c. search (walk-on, needs))
