@@ -40,9 +40,9 @@ none-behind k at e end l q = refl
 none-behind k at e (broken n) l q = refl
 none-behind k at e (line t ls) l q = let z : _≡_ {A = ℕ} 0 1 = cc in absurd (omega arith)
 
-none-left : (k : ℕ) (l : List ℕ) (i : ℕ) → length l ≤ i → textBehind k (linesOf (drop i l)) (drop i l) ≡ []
+no-text : (k : ℕ) (l : List ℕ) (i : ℕ) → length l ≤ i → textBehind k (linesOf (drop i l)) (drop i l) ≡ []
 unfolding textBehind linesOf
-none-left k l i h = rw (drop-of-length-le l h)
+no-text k l i h = rw (drop-of-length-le l h)
 
 -- how the line at a place ends
 module _ (f : List ℕ) (at e : ℕ) (r : Ended) (q : r ≡ endedAt at (linesOf (drop at f))) where
@@ -69,7 +69,7 @@ module _ (f : List ℕ) (at e : ℕ) (r : Ended) (q : r ≡ endedAt at (linesOf 
     pub walk-none : r ≡ ended.Broken e → LineStartGiven f lines (length f)
     walk-none g = record {
       within = omega arith;
-      same = one-less ∙ none-behind (left - 1) at e (linesOf (drop at f)) (drop at f) (sym q ∙ g) ∙ sym (none-left 0 f (length f) (omega arith));
+      same = one-less ∙ none-behind (left - 1) at e (linesOf (drop at f)) (drop at f) (sym q ∙ g) ∙ sym (no-text 0 f (length f) (omega arith));
     }
 
 -- ---- the text of the line at a place
