@@ -3,7 +3,7 @@ ghost use mathlib.Core.Bool.{true};
 ghost use mathlib.Core.Path.{_≡_};
 ghost use lib.ListN.{drop};
 ghost use Rattle.rules.specs.Families.{firstStart};
-ghost use Rattle.rules.specs.Choice.{byte};
+ghost use Rattle.rules.specs.Choice.{byte, part};
 ghost use Rattle.rules.specs.Fields.{timeTold};
 ghost use Rattle.rules.specs.Lines.{fixFields};
 ghost use Rattle.plain.specs.Plain.{isMild, every};
@@ -47,13 +47,14 @@ pub fn pattern(layout: Layout) -> [u8; 39]
     p
 }
 
-fn keeps(rule: u8, text: &[u8]) -> bool
-    ensures { λ r. ⌜ r ≡ keepsAs rule (now (text .entry)) ⌝ }
+// Whether the column of a line from its first to its last byte holds what it must. Any text will do where there is no rule, so that it is not looked at.
+fn keeps(line: &[u8], first: u8, last: u8, rule: u8) -> bool
+    ensures { λ r. ⌜ r ≡ keepsAs rule (part (byte first) last (now (line .entry))) ⌝ }
 {
     if rule == 0 {
         return true;
     }
-    plain::keeps_sign(rule == 2, text)
+    plain::keeps_sign(rule == 2, column::text_of(line, first, last))
 }
 
 // Whether every column of a line holds what the pattern says.
@@ -67,7 +68,7 @@ fn keeps_pattern(line: &[u8], pattern: &[u8]) -> bool
         let first = pattern[at];
         let last = pattern[at + 1];
         let rule = pattern[at + 2];
-        if !keeps(rule, column::text_of(line, first, last)) {
+        if !keeps(line, first, last, rule) {
             return false;
         }
         i += 1;
