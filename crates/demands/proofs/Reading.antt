@@ -12,11 +12,10 @@ use borrow.Author.Tests.{ne-eqb, eqb-false}
 use lib.Dec.{eqb}
 use lib.ListN.{length, getD, take, drop}
 use Rattle.rules.specs.Choice.{bytes, Each}
-use Rattle.rules.specs.Families.{firstStart, lineLetter, layoutLetter, familyOf, layoutOf}
+use Rattle.rules.specs.Families.{firstStart, lineLetter, layoutLetter, layoutOf}
 use Rattle.rules.specs.Refusals.{says}
 use Rattle.rules.specs.Layouts.{entriesOf}
 use Rattle.rules.specs.Split.{end, linesOf, offsets}
-use Rattle.rules.specs.Reads.{entriesSaid}
 use Rattle.rules.specs.Files.{verdict, goodLines}
 use Rattle.rules.specs.declared.Date.{Date}
 use Rattle.rules.specs.declared.Layout.{Layout}
@@ -29,6 +28,7 @@ use Rattle.rules.proofs.Inverse.{false-true}
 use Rattle.laws.proofs.Splitting.{textsOf, steps, lengths-total}
 use Rattle.laws.proofs.Splitting as splitting
 use Rattle.laws.proofs.Counted.{accepted-whole, goodIn, table-length, entry-put, entry-kept, line-by-number}
+use Rattle.trips.proofs.Columned.{entries-said}
 use Rattle.trips.proofs.Fixes.{fix-trip}
 use Rattle.trips.proofs.Extras.{extra-trip}
 use Rattle.demands.specs.Grammar.{Columns, IsColumned, IsGLine, IsLLine, AtMostOne, absent, given, Timed, Untimed, differential, remark, other, Items, done, timed, untimed, Body, undeclared, Parts, linesIn, Keeps, Meets}
@@ -36,9 +36,9 @@ use Rattle.demands.specs.Grammar as grammar
 use Rattle.demands.specs.Coming.{isAmong}
 use Rattle.demands.specs.Readings.{ReadsFix, ReadsExtra, ReadsColumns, ReadsLine, NoC, ReadsDeclaration, nowhere, declared, total, Steps, Readable}
 use Rattle.sound.proofs.Each.{each-map, each-join}
-use Rattle.demands.proofs.EachLine.{e-said, f-said, start-low, fix-reads, extra-reads, columned-letter, columned-said, head-reads, point-reads, head-said, point-said}
+use Rattle.demands.proofs.EachLine.{e-said, f-said, start-low, fix-reads, extra-reads, columned-letter, columned-fields, head-reads, point-reads, head-said, point-said}
 use Rattle.demands.proofs.LayoutLines.{IsTold, layout-said, told}
-use Rattle.demands.proofs.Leading.{every, told-of, same-letter, all-pass, none-pass}
+use Rattle.demands.proofs.Leading.{told-of, same-letter, all-pass, none-pass}
 use Rattle.demands.proofs.Sections.{before}
 use Rattle.demands.proofs.Accepted.{lines-cut, accepted-as}
 use Rattle.demands.proofs.Columns.{columns-read}
@@ -75,10 +75,9 @@ total-is (l ∷ ls) = ap (λ n. length l + 2 + n) (total-is ls)
 -- the columns of a line of a family that passes its checks
 line-columns : (f : Family) (layout : Layout) (t : ℕ) (l tail : List ℕ) → IsTold f layout → IsColumned f layout t l → drop (firstStart f - 1) l ≡ tail → Columns (entriesOf layout) tail
     → ReadsColumns f layout l
-unfolding entriesSaid familyOf
 line-columns f layout t l tail i w d c =
-    let k = columned-letter f layout t l w in
-    columns-read f layout l tail (start-low f) i d c (rw (k, every (λ f. familyOf (lineLetter f) ≡ some f) refl refl f, i .right, columned-said f layout t l i w))
+    let r = columned-fields f layout t l i w in
+    columns-read f layout l tail (start-low f) i d c (entries-said f l layout (r .0) (r .1))
 
 -- a line of a family, by its layout
 abbrev ReadsColumned : Family → Layout → List ℕ → Type 0

@@ -16,6 +16,7 @@ use Rattle.rules.specs.Fields.{timeText, dateText, isEither}
 use Rattle.rules.specs.Numbers.{digitsOf}
 use Rattle.rules.specs.Listed.{isCodeWord, listed}
 use Rattle.rules.specs.Layouts.{unused, emptyLayout, entriesOf}
+use Rattle.rules.specs.Fixes.{fieldsOf}
 use Rattle.rules.specs.Writes.{fixText, extraText, entryTexts, headText, pointText}
 use Rattle.rules.specs.declared.Date.{Date}
 use Rattle.rules.specs.declared.Entry.{Entry}
@@ -193,7 +194,7 @@ pub data Columns : List Entry → List ℕ → Type 0 where
 pub record IsBLine (layout : Layout) (f : Fix) (l : List ℕ) : Type 0 where
   pub tail : List ℕ
   pub text : l ≡ fixText f tail
-  pub fields : goodFixFields f ≡ true
+  pub fields : goodFixFields (fieldsOf f) ≡ true
   pub columns : Columns (entriesOf layout) tail
 
 -- "K: time 2 to 7, columns from 8."; "K .. exactly what [its] layout gives"
@@ -205,7 +206,7 @@ pub record IsKLine (layout : Layout) (t : ℕ) (l : List ℕ) : Type 0 where
 
 -- a line of a family, by its layout, and its time
 abbrev pub IsColumned : Family → Layout → ℕ → List ℕ → Type 0
-IsColumned family.B layout t l = (f : Fix) × (f .time ≡ t) × IsBLine layout f l
+IsColumned family.B layout t l = (f : Fix) × (fieldsOf f .time ≡ t) × IsBLine layout f l
 IsColumned family.K layout t l = IsKLine layout t l
 
 -- "L 1 to 99"
