@@ -16,7 +16,7 @@ use Rattle.rules.specs.Lines.{fixFields}
 use Rattle.rules.specs.Listing.{columnsShown, lineShown}
 use Rattle.rules.specs.declared.Entry.{Entry}
 use Rattle.rules.specs.declared.Layout.{Layout}
-use Rattle.rules.specs.declared.Fix.{Fix}
+use Rattle.rules.specs.declared.FixFields.{FixFields}
 use Rattle.show.proofs.Laws.{fix-room, column-room}
 use Rattle.show.proofs.Callers.{column-spelt}
 use Rattle.rules.proofs.Inverse.{and-inv}
@@ -74,7 +74,7 @@ pub printed-room : (passed : ℕ) (layout : Layout) (l : List ℕ) → allowed 3
 unfolding printed lineShown
 printed-room passed layout l ok = by (eqb (getD l 0 0) (code "B")) (fixFields l)
   where
-    by : (t : Bool) (s : Said Fix) → length (need t [] λ _. lineShown (passed + 1) layout l s) ≤ 4096
+    by : (t : Bool) (s : Said FixFields) → length (need t [] λ _. lineShown (passed + 1) layout l s) ≤ 4096
     by false s = omega arith
     by true (refuses n k b) = omega arith
     by true (says f) =

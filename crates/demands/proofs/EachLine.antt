@@ -16,17 +16,19 @@ use Rattle.rules.specs.Choice.{on, Each, need}
 use Rattle.rules.specs.Refusals.{says}
 use Rattle.rules.specs.Chars.{isValid, isCode, codesAt}
 use Rattle.rules.specs.Fields.{timeAt, timeText, dateAt, dateText, isEither}
-use Rattle.rules.specs.Lines.{shaped, aLine, isDateMark, dateLine, hLine, dLine, eLine, badPair, fLine, lLine, gLine, otherLine, headLine, pointLine, fixFields, shapedBy, bLine, kLine, columnedLine}
+use Rattle.rules.specs.Lines.{shaped, aLine, isDateMark, dateLine, hLine, dLine, eLine, badPair, fLine, lLine, gLine, otherLine, headLine, pointLine, FieldsIn, timeIn, columnedLine}
 use Rattle.rules.specs.declared.Date.{Date}
 use Rattle.rules.specs.Degrees.{isLatitude, isLongitude}
 use Rattle.rules.specs.Limits.{isTime, isDate, isClean, goodTail, goodFixFields, goodFix, goodExtra, goodHeadFields, goodHead, goodPoint}
 use Rattle.rules.specs.Families.{firstStart, lineLetter}
-use Rattle.rules.specs.Layouts.{entriesOf, allowed, columns}
-use Rattle.rules.specs.Reads.{fixSaid, extraSaid, headSaid, pointSaid}
-use Rattle.rules.specs.Writes.{fixText, extraText}
+use Rattle.rules.specs.Layouts.{entriesOf}
+use Rattle.rules.specs.Reads.{fieldsSaid, fixSaid, extraSaid, headSaid, pointSaid}
+use Rattle.rules.specs.Fixes.{fixOf, fieldsOf}
+use Rattle.rules.specs.Writes.{fieldsText, fixText, extraText}
 use Rattle.rules.specs.declared.Layout.{Layout}
 use Rattle.rules.specs.declared.Family.{Family}
 use Rattle.rules.specs.declared.Family.the-variants as family
+use Rattle.rules.specs.declared.FixFields.{FixFields}
 use Rattle.rules.specs.declared.Fix.{Fix}
 use Rattle.rules.specs.declared.Head.{Head}
 use Rattle.rules.specs.declared.Point.{Point}
@@ -36,8 +38,10 @@ use Rattle.trips.proofs.Times.{time-trip}
 use Rattle.trips.proofs.Dates.{date-trip}
 use Rattle.trips.proofs.Texts.{clean-valid}
 use Rattle.trips.proofs.LineTrip.{line-limits}
-use Rattle.trips.proofs.Fixes.{fix-trip, fields-there}
-use Rattle.trips.proofs.Extras.{extra-trip}
+use Rattle.rules.proofs.Fixes.{fields-of-fix}
+use Rattle.trips.proofs.Columned.{line-timed, timed-line, value-said, said-by, by-said}
+use Rattle.trips.proofs.Fixes.{fix-front, fix-fields, fix-trip}
+use Rattle.trips.proofs.Extras.{extra-front, extra-trip}
 use Rattle.trips.proofs.Heads.{head-trip, head-within}
 use Rattle.trips.proofs.Heads as heads
 use Rattle.trips.proofs.Points.{point-trip}
@@ -269,7 +273,7 @@ limits f layout t fields tail =
 pub fix-reads : (layout : Layout) → IsTold family.B layout → (f : Fix) (l : List ℕ) → IsBLine layout f l → fixSaid l layout ≡ says f
 unfolding goodFix
 fix-reads layout t f l w =
-    ap (λ x. fixSaid x layout) (w .text) ∙ fix-trip layout .here f (w .tail) (limits family.B layout t (goodFixFields f) (w .tail) .1 (fix-exactly f .1 (w .fields), w .columns))
+    ap (λ x. fixSaid x layout) (w .text) ∙ fix-trip layout .here f (w .tail) (limits family.B layout t (goodFixFields (fieldsOf f)) (w .tail) .1 (fix-exactly (fieldsOf f) .1 (w .fields), w .columns))
 
 pub extra-reads : (layout : Layout) → IsTold family.K layout → (t : ℕ) (l : List ℕ) → IsKLine layout t l → extraSaid l layout ≡ says t
 unfolding goodExtra
@@ -279,8 +283,8 @@ extra-reads layout i t l w =
 pub fix-read : (layout : Layout) → IsTold family.B layout → (f : Fix) (l : List ℕ) → fixSaid l layout ≡ says f → IsBLine layout f l
 unfolding goodFix
 fix-read layout t f l e =
-    let g = limits family.B layout t (goodFixFields f) (drop 35 l) .0 (line-limits (fix-trip layout) l f e) in
-    record { tail = drop 35 l; text = fix-trip layout .there l f e; fields = fix-exactly f .0 (g .0); columns = g .1 }
+    let g = limits family.B layout t (goodFixFields (fieldsOf f)) (drop 35 l) .0 (line-limits (fix-trip layout) l f e) in
+    record { tail = drop 35 l; text = fix-trip layout .there l f e; fields = fix-exactly (fieldsOf f) .0 (g .0); columns = g .1 }
 
 pub extra-read : (layout : Layout) → IsTold family.K layout → (t : ℕ) (l : List ℕ) → extraSaid l layout ≡ says t → IsKLine layout t l
 unfolding goodExtra
@@ -351,23 +355,28 @@ point-read p l e =
 -- ---- a line as the check reads it
 
 pub columned-letter : (f : Family) (layout : Layout) (t : ℕ) (l : List ℕ) → IsColumned f layout t l → getD l 0 0 ≡ lineLetter f
-unfolding fixText extraText
+unfolding fieldsText fixText extraText
 columned-letter family.B layout t l w = ap (λ x. getD x 0 0) (w .2 .text)
 columned-letter family.K layout t l w = ap (λ x. getD x 0 0) (w .text)
 
 pub columned-there : (f : Family) (layout : Layout) (t : ℕ) (l : List ℕ) → IsTold f layout → getD l 0 0 ≡ lineLetter f → columnedLine f layout l ≡ says t → IsColumned f layout t l
-unfolding columnedLine fixSaid extraSaid
-columned-there family.B layout t l i k e = let r = then-inv (bLine layout l) t _ e in (r .0, cc, fix-read layout i (r .0) l (rw (eq-eqb _ _ k, i .right) (r .1)))
-columned-there family.K layout t l i k e = extra-read layout i t l (rw (eq-eqb _ _ k, i .right) e)
+unfolding fixSaid extraSaid columnedLine
+columned-there family.B layout t l i k e =
+    let r = timed-line family.B layout l t e in
+    let said = said-by family.B l layout (r .0) k (i .right) (r .1) in
+    (fixOf (r .0), ap (λ (x : FixFields). x .time) (fields-of-fix (r .0)) ∙ r .2, fix-read layout i (fixOf (r .0)) l (value-said family.B l layout (r .0) said))
+columned-there family.K layout t l i k e = extra-read layout i t l (said-by family.K l layout t k (i .right) e)
+
+-- what it spells before its columns
+pub columned-fields : (f : Family) (layout : Layout) (t : ℕ) (l : List ℕ) → IsTold f layout → IsColumned f layout t l → (v : FieldsIn f) × (fieldsSaid f l layout ≡ says v) × (timeIn f v ≡ t)
+unfolding extraSaid
+columned-fields family.B layout t l i w = (fieldsOf (w .0), fix-fields l layout (w .0) (fix-reads layout i (w .0) l (w .2)), w .1)
+columned-fields family.K layout t l i w = (t, extra-reads layout i t l w, refl)
 
 pub columned-said : (f : Family) (layout : Layout) (t : ℕ) (l : List ℕ) → IsTold f layout → IsColumned f layout t l → columnedLine f layout l ≡ says t
-unfolding columnedLine fixSaid extraSaid
-columned-said family.B layout t l i w =
-    let a = need-inv (eqb (getD l 0 0) (code "B")) _ (says (w .0)) _ refuses-says (fix-reads layout i (w .0) l (w .2)) in
-    rw (need-inv (allowed 36 layout) _ (says (w .0)) _ refuses-says (a .1) .1) (ap says (w .1))
-columned-said family.K layout t l i w =
-    let a = need-inv (eqb (getD l 0 0) (code "K")) _ (says t) _ refuses-says (extra-reads layout i t l w) in
-    need-inv (allowed 8 layout) _ (says t) _ refuses-says (a .1) .1
+columned-said f layout t l i w =
+    let r = columned-fields f layout t l i w in
+    line-timed f layout l (r .0) (by-said f l layout (r .0) (r .1) .2) ∙ ap says (r .2)
 
 pub head-there : (h : Head) (l : List ℕ) → getD l 0 0 ≡ code "C" → headLine l ≡ says h → IsHeadLine h l
 unfolding headSaid

@@ -12,12 +12,12 @@ use borrow.Author.Tests.{ne-eqb, eqb-false, ltb-true, leb-true}
 use lib.Dec.{eqb, ltb}
 use lib.ListN.{length, getD, take, drop}
 use Rattle.rules.specs.Choice.{bytes, Each}
-use Rattle.rules.specs.Families.{firstStart, lineLetter, layoutLetter, familyOf, layoutOf}
+use Rattle.rules.specs.Families.{firstStart, lineLetter, layoutLetter, layoutOf}
 use Rattle.rules.specs.Refusals.{says}
 use Rattle.rules.specs.Degrees.{degreesOf}
 use Rattle.rules.specs.Layouts.{emptyLayout, entriesOf}
 use Rattle.rules.specs.Split.{Lines, end, linesOf, offsets}
-use Rattle.rules.specs.Reads.{dateSaid, entriesSaid, headRest, pointRest}
+use Rattle.rules.specs.Reads.{dateSaid, headRest, pointRest}
 use Rattle.rules.specs.Files.{verdict, goodLines, tableAfter}
 use Rattle.rules.specs.declared.Date.{Date}
 use Rattle.rules.specs.declared.Layout.{Layout}
@@ -33,6 +33,7 @@ use Rattle.rules.proofs.Inverse.{false-true, and-inv}
 use Rattle.laws.proofs.Splitting.{textsOf, steps, lengths-total}
 use Rattle.laws.proofs.Splitting as splitting
 use Rattle.laws.proofs.Counted.{accepted-whole, goodIn, textOf, offsetOf, Numbered, table-length, entry-put, entry-kept, line-by-number}
+use Rattle.trips.proofs.Columned.{entries-said}
 use Rattle.trips.proofs.Fixes.{fix-trip}
 use Rattle.trips.proofs.Extras.{extra-trip}
 use Rattle.trips.proofs.Heads.{head-trip}
@@ -44,7 +45,7 @@ use Rattle.demands.specs.Grammar as grammar
 use Rattle.demands.specs.Coming.{isAmong}
 use Rattle.demands.specs.Readings.{Entered, OnMap, ReadsFix, ReadsExtra, ReadsColumns, ReadsValue, ReadsLayout, ReadsPresence, ReadsLine, ReadsHead, ReadsPoint, NoC, ReadsDeclaration, nowhere, declared, total, Steps, Readable}
 use Rattle.sound.proofs.Each.{each-map, each-join, each-cut}
-use Rattle.demands.proofs.EachLine.{e-said, f-said, start-low, fix-reads, extra-reads, columned-letter, columned-said, head-reads, point-reads, head-said, point-said}
+use Rattle.demands.proofs.EachLine.{e-said, f-said, start-low, fix-reads, extra-reads, columned-letter, columned-fields, head-reads, point-reads, head-said, point-said}
 use Rattle.demands.proofs.Readers.{date-exactly, event-exactly, satellite-exactly}
 use Rattle.demands.proofs.ByLayout.{presence-reads}
 use Rattle.demands.proofs.ByLayout as by-layout
@@ -87,10 +88,9 @@ total-is (l ∷ ls) = ap (λ n. length l + 2 + n) (total-is ls)
 -- the columns of a line of a family that passes its checks
 line-columns : (f : Family) (layout : Layout) (t : ℕ) (l tail : List ℕ) → IsTold f layout → IsColumned f layout t l → drop (firstStart f - 1) l ≡ tail → Columns (entriesOf layout) tail
     → ReadsColumns f layout l
-unfolding entriesSaid familyOf
 line-columns f layout t l tail i w d c =
-    let k = columned-letter f layout t l w in
-    columns-read f layout l tail (start-low f) i d c (rw (k, every (λ f. familyOf (lineLetter f) ≡ some f) refl refl f, i .right, columned-said f layout t l i w))
+    let r = columned-fields f layout t l i w in
+    columns-read f layout l tail (start-low f) i d c (entries-said f l layout (r .0) (r .1))
 
 -- positions within their limits
 on-map : (lat lon : Position) → IsLatitude lat → IsLongitude lon → OnMap lat lon

@@ -16,6 +16,7 @@ use Rattle.rules.specs.Fields.{timeText, dateText}
 use Rattle.rules.specs.Numbers.{digitsOf}
 use Rattle.rules.specs.Listed.{codeText}
 use Rattle.rules.specs.Layouts.{unused, emptyLayout, entriesOf}
+use Rattle.rules.specs.Fixes.{fieldsOf}
 use Rattle.rules.specs.Writes.{fixText, extraText, entryTexts, headText, pointText}
 use Rattle.rules.specs.declared.Date.{Date}
 use Rattle.rules.specs.declared.Entry.{Entry}
@@ -183,7 +184,7 @@ pub data Columns : List Entry → List ℕ → Type 0 where
 pub record IsBLine (layout : Layout) (f : Fix) (l : List ℕ) : Type 0 where
   pub tail : List ℕ
   pub text : l ≡ fixText f tail
-  pub fields : IsFix f
+  pub fields : IsFix (fieldsOf f)
   pub columns : Columns (entriesOf layout) tail
 
 -- "K: time 2 to 7, columns from 8."; "B and K exactly what their layout gives"
@@ -195,7 +196,7 @@ pub record IsKLine (layout : Layout) (t : ℕ) (l : List ℕ) : Type 0 where
 
 -- a B line or a K line, by its layout, and its time
 abbrev pub IsColumned : Family → Layout → ℕ → List ℕ → Type 0
-IsColumned family.B layout t l = (f : Fix) × (f .time ≡ t) × IsBLine layout f l
+IsColumned family.B layout t l = (f : Fix) × (fieldsOf f .time ≡ t) × IsBLine layout f l
 IsColumned family.K layout t l = IsKLine layout t l
 
 -- "L 1 to 99"

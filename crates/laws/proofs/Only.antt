@@ -19,7 +19,7 @@ use Rattle.rules.specs.declared.Head.{Head}
 use Rattle.rules.specs.declared.Point.{Point}
 use Rattle.rules.specs.declared.Flight.{Flight}
 use Rattle.rules.specs.declared.Seal.{Seal}
-use Rattle.laws.proofs.Told.{OneToOne, altitude-one, column-one, date-one, day-one, degrees-one, digits-one, fix-one, found-one, head-one, length-one, line-one, outcome-one, position-one, point-one, presence-one, time-one, timed-one, value-one, whole-one, wrote-one}
+use Rattle.laws.proofs.Told.{OneToOne, altitude-one, column-one, date-one, day-one, degrees-one, digits-one, fix-fields-one, fix-one, found-one, head-one, length-one, line-one, outcome-one, position-one, point-one, presence-one, time-one, timed-one, value-one, whole-one, wrote-one}
 
 -- ---- what is claimed
 
@@ -182,7 +182,7 @@ pub only-satellites-checked : (l : List ℕ) → Only (SatellitesChecked l)
 only-satellites-checked l = alike timed-one
 
 pub only-fix-checked : (l : List ℕ) (layout : Layout) → Only (FixChecked l layout)
-only-fix-checked l layout = alike fix-one
+only-fix-checked l layout = alike fix-fields-one
 
 pub only-extra-checked : (l : List ℕ) (layout : Layout) → Only (ExtraChecked l layout)
 only-extra-checked l layout = alike timed-one

@@ -10,7 +10,7 @@ use Rattle.rules.specs.Fields.{timeTold, dayTold, positionTold, altitudeTold}
 use Rattle.rules.specs.Degrees.{degreesTold}
 use Rattle.rules.specs.Layouts.{lengthTold, presenceTold, columnTold}
 use Rattle.rules.specs.Split.{lineTold}
-use Rattle.rules.specs.Reads.{fixTold, timeReadTold, dateReadTold, headTold, pointTold, numberReadTold}
+use Rattle.rules.specs.Reads.{fixFieldsTold, fixTold, timeReadTold, dateReadTold, headTold, pointTold, numberReadTold}
 use Rattle.rules.specs.Writes.{wroteTold}
 use Rattle.rules.specs.Promises.{foundTold}
 use Rattle.rules.specs.declared.Reason.{Reason}
@@ -29,6 +29,7 @@ use Rattle.rules.specs.declared.LengthRead.the-variants as lengthRead
 use Rattle.rules.specs.declared.PresenceRead.the-variants as presenceRead
 use Rattle.rules.specs.declared.ColumnRead.the-variants as columnRead
 use Rattle.rules.specs.declared.NumberRead.the-variants as numberRead
+use Rattle.rules.specs.declared.FixFieldsRead.the-variants as fixFieldsRead
 use Rattle.rules.specs.declared.FixRead.the-variants as fixRead
 use Rattle.rules.specs.declared.TimeRead.the-variants as timeRead
 use Rattle.rules.specs.declared.DateRead.the-variants as dateRead
@@ -130,6 +131,10 @@ presence-one = by-back (answerOf presenceRead.Carries presenceRead.Refused) (eli
 pub column-one : OneToOne columnTold
 unfolding columnTold
 column-one = by-back (answerOf (λ s. columnRead.Between (s .first) (s .last)) columnRead.Refused) (elim [ columnRead.Between a e ↦ refl | columnRead.Refused r ↦ ap columnRead.Refused (refusal-back r) ])
+
+pub fix-fields-one : OneToOne fixFieldsTold
+unfolding fixFieldsTold
+fix-fields-one = by-back (answerOf fixFieldsRead.Is fixFieldsRead.Refused) (elim [ fixFieldsRead.Is v ↦ refl | fixFieldsRead.Refused r ↦ ap fixFieldsRead.Refused (refusal-back r) ])
 
 pub fix-one : OneToOne fixTold
 unfolding fixTold

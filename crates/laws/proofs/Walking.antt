@@ -20,7 +20,7 @@ use Rattle.rules.specs.Roles.{isTimed}
 use Rattle.rules.specs.Walk.{Walk, setOut, timeOn, dayAfter, walkedBy, walked}
 use Rattle.rules.specs.declared.Family.{Family}
 use Rattle.rules.specs.declared.Family.the-variants as family
-use Rattle.rules.specs.declared.Fix.{Fix}
+use Rattle.rules.specs.declared.FixFields.{FixFields}
 use Rattle.rules.specs.declared.Layout.{Layout}
 use Rattle.rules.specs.declared.Role.{Role}
 use Rattle.rules.specs.declared.State.{State}
@@ -31,7 +31,7 @@ use Rattle.laws.proofs.Counted.{judged-more}
 
 -- ---- the time of a line that passes stands at 2 to 7
 
-fix-time : (l : List ℕ) (f : Fix) → fixFields l ≡ says f → timeAt l 1 ≡ some (f .time)
+fix-time : (l : List ℕ) (f : FixFields) → fixFields l ≡ says f → timeAt l 1 ≡ some (f .time)
 unfolding fixFields on
 fix-time l f e =
     let t = given-inv (timeAt l 1) _ (says f) _ refuses-says e in

@@ -1,7 +1,7 @@
 // Lists a file on standard output: its counts, each fix and its columns; or why it is refused. What is printed is made by `pages`, `block` and `show`, and written here.
 use libc::STDOUT_FILENO;
 use rules::Entry;
-use rules::Fix;
+use rules::FixFields;
 use rules::Flight;
 use rules::Layout;
 use rules::Refusal;
@@ -21,7 +21,7 @@ fn print_ok(flight: Flight) {
 }
 
 // FIX, a line's number and the values of its fix.
-pub fn print_fix(line: u32, f: Fix) {
+pub fn print_fix(line: u32, f: FixFields) {
     let mut out = [0u8; 288];
     let n = show::fix(line, f, &mut out);
     io::write_all(STDOUT_FILENO, &out[..n]);

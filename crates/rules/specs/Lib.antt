@@ -9,6 +9,7 @@ pub mod Listed
 pub mod Families
 pub mod Layouts
 pub mod Lines
+pub mod Fixes
 pub mod Split
 pub mod Roles
 pub mod Order

@@ -17,7 +17,7 @@ use Rattle.rules.specs.Layouts.{lineLength, unused}
 use Rattle.rules.specs.Listing.{decimal, shown, shownLetter, shownMetres, lf, refusedText, okText, fixShown, columnShown}
 use Rattle.rules.specs.declared.Entry.{Entry}
 use Rattle.rules.specs.declared.Layout.{Layout}
-use Rattle.rules.specs.declared.Fix.{Fix}
+use Rattle.rules.specs.declared.FixFields.{FixFields}
 use Rattle.rules.specs.declared.Flight.{Flight}
 use Rattle.pieces.specs.Buffer.{PiecePut}
 use Rattle.pieces.proofs.Laws.{number-room}
@@ -102,14 +102,14 @@ ok-parts f = sym (regrouped (bytes "OK") (f .lines) (f .counts .b) (f .counts .k
 grouped : (w a b c d rest : List ℕ) → w ++ (a ++ (b ++ ((c ++ d) ++ rest))) ≡ (w ++ (a ++ (b ++ c))) ++ (d ++ rest)
 grouped w a b c d rest = simp append-assoc
 
-pub places-parts : (n : ℕ) (f : Fix) → fixPlaces n f ≡ counted (bytes "FIX") n (f .time) (f .lat .count) ++ (shownLetter (f .lat .letter) ++ positionShown (f .lon))
+pub places-parts : (n : ℕ) (f : FixFields) → fixPlaces n f ≡ counted (bytes "FIX") n (f .time) (f .lat .count) ++ (shownLetter (f .lat .letter) ++ positionShown (f .lon))
 unfolding fixPlaces positionShown counted bytes
 places-parts n f = grouped (bytes "FIX") (shown n) (shown (f .time)) (shown (f .lat .count)) (shownLetter (f .lat .letter)) (positionShown (f .lon))
 
 regroup : (w a b c d e f rest : List ℕ) → w ++ (a ++ (b ++ (c ++ (d ++ (e ++ (f ++ rest)))))) ≡ (w ++ (a ++ (b ++ ((c ++ d) ++ (e ++ f))))) ++ rest
 regroup w a b c d e f rest = simp append-assoc
 
-pub fix-parts : (n : ℕ) (f : Fix) → fixShown n f ≡ fixPlaces n f ++ fixHeights f
+pub fix-parts : (n : ℕ) (f : FixFields) → fixShown n f ≡ fixPlaces n f ++ fixHeights f
 unfolding fixShown fixPlaces fixHeights positionShown bytes
 fix-parts n f =
     regroup (bytes "FIX") (shown n) (shown (f .time)) (shown (f .lat .count)) (shownLetter (f .lat .letter)) (shown (f .lon .count)) (shownLetter (f .lon .letter)) (fixHeights f)
@@ -130,7 +130,7 @@ ok-room f =
     simp length-append
     (omega (arith, number-room (f .lines), number-room (f .counts .b), number-room (f .counts .k), number-room (lineLength 36 (f .layouts .b)), number-room (lineLength 8 (f .layouts .k))))
 
-pub fix-room : (n : ℕ) (f : Fix) → length (fixShown n f) ≤ 288
+pub fix-room : (n : ℕ) (f : FixFields) → length (fixShown n f) ≤ 288
 unfolding fixShown bytes
 fix-room n f =
     simp length-append

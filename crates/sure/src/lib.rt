@@ -9,7 +9,7 @@ ghost use Rattle.rules.specs.Lines.{fixFields};
 ghost use Rattle.plain.specs.Plain.{isMild, every};
 ghost use Rattle.sure.specs.Sure.{ruleOf, keepsAs, keepsPattern, timeOf, fieldsTime, isOpen, isEasy, cleanTime, patternTime, PatternGiven, SureTold};
 use rules::Family;
-use rules::FixRead;
+use rules::FixFieldsRead;
 use rules::Layout;
 use rules::Time;
 
@@ -94,8 +94,8 @@ fn fix_time(line: &[u8]) -> Time
         return field::time_at(line, 1);
     }
     match fix::fix_fields(line) {
-        FixRead::Is(f) => Time::Secs(f.time),
-        FixRead::Refused(_) => Time::NoTime,
+        FixFieldsRead::Is(f) => Time::Secs(f.time),
+        FixFieldsRead::Refused(_) => Time::NoTime,
     }
 }
 

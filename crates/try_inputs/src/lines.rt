@@ -65,7 +65,7 @@ fn print_point(line: &[u8]) {
 fn print_fix(line: &[u8], layout: Layout) {
     match read::fix(line, layout) {
         FixRead::Is(f) => {
-            lister::print_fix(0, f);
+            lister::print_fix(0, limits::fields_of(f));
             lister::print_columns(line, layout);
         }
         FixRead::Refused(why) => lister::print_refusal(why),

@@ -17,14 +17,15 @@ use Rattle.rules.specs.declared.Role.{Role}
 use Rattle.rules.specs.declared.Role.the-variants as role
 use Rattle.rules.specs.declared.Flight.{Flight}
 use Rattle.rules.specs.declared.State.{State}
-use Rattle.rules.proofs.Inverse.{none-some, false-true, need-inv, then-inv}
+use Rattle.rules.proofs.Inverse.{none-some, false-true, need-inv}
 use Rattle.laws.proofs.Passing.{roleIn, Leaves, opens, date, header, layout, columned, head, point, event, satellites, differential, seals, remark, other, judged, judged-so}
+use Rattle.trips.proofs.Columned.{line-timed, timed-line, said-by, by-said}
 use Rattle.sound.proofs.Placed.{Sound}
 use Rattle.wider.specs.Wider.{WiderLine}
-use Rattle.wider.specs.Before.{saidOf, AsBefore}
+use Rattle.wider.specs.Before.{AsBefore}
 use Rattle.wider.proofs.Lists.{Pairs}
 use Rattle.wider.proofs.Families.{columned-role, Beside, one, apart, beside}
-use Rattle.wider.proofs.OneLine.{reading, says-same, as-before}
+use Rattle.wider.proofs.OneLine.{says-same, as-before}
 
 -- ---- the state of the new file
 
@@ -115,12 +116,11 @@ module _ (f : Family) (old new : Layouts) (t t′ : List ℕ) (so : Sound (first
       → Leaves t′ (wide new n m) (role.Columned f) (wide new n after) × (after .flight .layouts ≡ m .flight .layouts) × (getD t′ 0 0 ≡ lineLetter f)
       × AsBefore f (layoutOf f old) (layoutOf f new) t t′
   columned-left n m after p (columned g x e o) =
-      let r = reading g in
-      let v = then-inv (saidOf g t (layoutOf g old)) x _ (sym (r .timed t (layoutOf g old) k (so .right)) ∙ rw (← p) e) in
-      let again = says-same g (layoutOf g old) (layoutOf g new) t t′ (v .0) so′ w (v .1) in
-      let k′ = r .begins t′ (layoutOf g new) (v .0) again in
-      let e′ : columnedLine g (layoutOf g new) t′ ≡ says x = r .timed t′ (layoutOf g new) k′ (so′ .right) ∙ rw again (v .2) in
-      (columned g x e′ o, refl, k′, as-before g (layoutOf g old) (layoutOf g new) t t′ (v .0) so′ w (v .1))
+      let v = timed-line g (layoutOf g old) t x (rw (← p) e) in
+      let said = said-by g t (layoutOf g old) (v .0) k (so .right) (v .1) in
+      let again = by-said g t′ (layoutOf g new) (v .0) (says-same g (layoutOf g old) (layoutOf g new) t t′ (v .0) so′ w said) in
+      let e′ : columnedLine g (layoutOf g new) t′ ≡ says x = line-timed g (layoutOf g new) t′ (v .0) (again .2) ∙ ap says (v .2) in
+      (columned g x e′ o, refl, again .0, as-before g (layoutOf g old) (layoutOf g new) t t′ (v .0) so′ w said)
 
   pairs-with : AsBefore f (layoutOf f old) (layoutOf f new) t t′ → (g : Family) → Beside f g → (xs ys : List (List ℕ)) → Paired old new g xs ys
       → Paired old new g (cond (sameFamily g f) (t ∷ xs) xs) (cond (sameFamily g f) (t′ ∷ ys) ys)

@@ -17,7 +17,7 @@ use Rattle.rules.specs.Layouts.{emptyLayout, lineLength}
 use Rattle.rules.specs.declared.Family.the-variants as family
 use Rattle.rules.specs.declared.Position.{Position}
 use Rattle.rules.specs.declared.Height.{Height}
-use Rattle.rules.specs.declared.Fix.{Fix}
+use Rattle.rules.specs.declared.FixFields.{FixFields}
 use Rattle.words.specs.Characters.{IsValid, IsDigit, IsCode, CodesAt}
 use Rattle.words.specs.Codes.{rows, Listing, Holds, SameRows}
 use Rattle.words.specs.Values.{IsTime, IsLatitude, IsLongitude, IsAltitude, IsFix}
@@ -73,7 +73,7 @@ altitude-exactly = values.altitude-exactly
 pub either-exactly : (x a b : ℕ) → (isEither x a b ≡ true) ↔ ((x ≡ a) ⊎ (x ≡ b))
 either-exactly = values.either-exactly
 
-pub fix-exactly : (f : Fix) → (goodFixFields f ≡ true) ↔ IsFix f
+pub fix-exactly : (f : FixFields) → (goodFixFields f ≡ true) ↔ IsFix f
 fix-exactly = values.fix-exactly
 
 -- ---- the two families of lines with columns

@@ -12,7 +12,7 @@ use Rattle.rules.specs.Degrees.{isPosition, isLatitude, isLongitude}
 use Rattle.rules.specs.Limits.{isTime, isMetres, isAltitude, goodFixFields}
 use Rattle.rules.specs.declared.Position.{Position}
 use Rattle.rules.specs.declared.Height.{Height}
-use Rattle.rules.specs.declared.Fix.{Fix}
+use Rattle.rules.specs.declared.FixFields.{FixFields}
 use Rattle.rules.proofs.Inverse.{false-true, and-inv, need-inv}
 use Rattle.words.specs.Values.{IsTime, IsLatitude, IsLongitude, IsAltitude, plain, minus, IsFix}
 
@@ -69,7 +69,7 @@ altitude-exactly h = (there (h .metres) refl, here)
 
 -- ---- the fields of a fix
 
-pub fix-exactly : (f : Fix) → (goodFixFields f ≡ true) ↔ IsFix f
+pub fix-exactly : (f : FixFields) → (goodFixFields f ≡ true) ↔ IsFix f
 unfolding goodFixFields
 fix-exactly f = (there, here)
   where

@@ -6,7 +6,7 @@ use mathlib.Core.Path.{_≡_}
 use lib.IntN.{pos, negℤ}
 use Rattle.rules.specs.declared.Position.{Position}
 use Rattle.rules.specs.declared.Height.{Height}
-use Rattle.rules.specs.declared.Fix.{Fix}
+use Rattle.rules.specs.declared.FixFields.{FixFields}
 
 -- "Time: HHMMSS, 00 to 23, 00 to 59, 00 to 59, read as seconds of the day.": of 24 hours
 abbrev pub IsTime : ℕ → Type 0
@@ -28,7 +28,7 @@ pub data IsAltitude (h : Height) : Type 0 where
   minus : (n : ℕ) → h .metres ≡ negℤ (pos n) → 1 ≤ n → n ≤ 9999 → IsAltitude h
 
 -- "B: time ..; latitude ..; longitude ..; A or V ..; pressure altitude ..; GNSS altitude .."
-pub record IsFix (f : Fix) : Type 0 where
+pub record IsFix (f : FixFields) : Type 0 where
   pub time : IsTime (f .time)
   pub lat : IsLatitude (f .lat)
   pub lon : IsLongitude (f .lon)

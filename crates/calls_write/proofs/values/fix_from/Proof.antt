@@ -1,12 +1,12 @@
--- `values::fix_of` meets its contract. Assumes nothing.
+-- `values::fix_from` meets its contract. Assumes nothing.
 use borrow.Author.Needs.{needs}
 use mir.Syntax.{w32}
 use mir.ValLaws.{toZ-ofZ}
-use Rattle.calls_write.proofs.values.fix_of.Statement.{statement}
-use Rattle.calls_write.proofs.values.fix_of.Tie as tie
+use Rattle.calls_write.proofs.values.fix_from.Statement.{statement}
+use Rattle.calls_write.proofs.values.fix_from.Tie as tie
 
-pub fix-of-spec : {M : Type 1} → statement M
-fix-of-spec =
+pub fix-from-spec : {M : Type 1} → statement M
+fix-from-spec =
     tie.close
     (tie.spec
     (λ c κs. search needs)
