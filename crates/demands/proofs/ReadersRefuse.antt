@@ -16,7 +16,8 @@ use Rattle.rules.specs.Numbers.{wholeOf}
 use Rattle.rules.specs.Listed.{packedOf, codeText}
 use Rattle.rules.specs.Layouts.{Span, spanOf, entriesOf, allowed, lookIn, look, columnText, lengthSaid, lookSaid, presenceSaid}
 use Rattle.rules.specs.Lines.{bLine, kLine, columnedLine}
-use Rattle.rules.specs.Reads.{fixSaid, extraSaid, eventSaid, satellitesSaid, dateSaid, layoutSaid, headSaid, pointSaid, entriesSaid, columnSaid, numberSaid}
+use Rattle.rules.specs.Fixes.{fixOf}
+use Rattle.rules.specs.Reads.{fieldsSaid, fixSaid, extraSaid, eventSaid, satellitesSaid, dateSaid, layoutSaid, headSaid, pointSaid, entriesSaid, columnSaid, numberSaid}
 use Rattle.rules.specs.declared.Signed.{Signed}
 use Rattle.rules.specs.declared.Entry.{Entry}
 use Rattle.rules.specs.declared.Layout.{Layout}
@@ -75,7 +76,7 @@ module _ (i : Slotted) (l : List ℕ) where
 
   fix-first : Agrees (fixSaid l (i .layout)) (columnedReader family.B (i .layout) l)
   unfolding fixSaid number
-  fix-first = agree-need 17 0 (eqb (getD l 0 0) 66) _ _ λ k. by-layout family.B (λ x. bLine x l) (λ es. fix-agrees es l)
+  fix-first = agree-last (fieldsSaid family.B l (i .layout)) fixOf _ (agree-need 17 0 (eqb (getD l 0 0) 66) _ _ λ k. by-layout family.B (λ x. bLine x l) (λ es. fix-agrees es l))
 
   extra-first : Agrees (extraSaid l (i .layout)) (columnedReader family.K (i .layout) l)
   unfolding extraSaid number

@@ -18,6 +18,7 @@ use Rattle.rules.specs.Degrees.{degreesOf}
 use Rattle.rules.specs.Layouts.{emptyLayout, entriesOf}
 use Rattle.rules.specs.Split.{Lines, end, linesOf, offsets}
 use Rattle.rules.specs.Reads.{dateSaid, headRest, pointRest}
+use Rattle.rules.specs.Fixes.{fieldsOf}
 use Rattle.rules.specs.Files.{verdict, goodLines, tableAfter}
 use Rattle.rules.specs.declared.Date.{Date}
 use Rattle.rules.specs.declared.Layout.{Layout}
@@ -99,6 +100,7 @@ on-map lat lon p q = rw (latitude-exactly lat .1 p, longitude-exactly lon .1 q)
 
 -- a B line, and a K line
 reads-fix : (layout : Layout) (f : Fix) (l : List ℕ) → IsTold family.B layout → IsBLine layout f l → ReadsFix layout l
+unfolding fieldsOf
 reads-fix layout f l i w = record {
   fix = f;
   is = w;

@@ -21,6 +21,7 @@ use Rattle.rules.specs.declared.Seal.{Seal}
 use Rattle.rules.specs.declared.Seal.the-variants as seal
 use Rattle.rules.proofs.Computed.{everything, fileOf}
 use Rattle.rules.proofs.Damaged.{fiveLines, fiveLayout}
+use Rattle.rules.specs.Fixes.{fieldsOf}
 use Rattle.rules.specs.Limits.{isAltitude, goodFixFields}
 use Rattle.trips.proofs.Texts.{areValid}
 use Rattle.words.proofs.Characters.{codes-exactly, word-exactly}
@@ -105,7 +106,7 @@ five-meet = record {
       record {
         tail = bytes "01208";
         text = refl;
-        fields = fix-exactly theFix .0 refl;
+        fields = fix-exactly (fieldsOf theFix) .0 refl;
         columns = column (bytes "012") refl (are-valid (bytes "012") refl) (rule-exactly 0x465841 (bytes "012") .0 refl)
             (column (bytes "08") refl (are-valid (bytes "08") refl) (rule-exactly 0x534955 (bytes "08") .0 refl) none);
       },
