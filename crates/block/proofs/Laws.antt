@@ -1,14 +1,13 @@
 -- Each way out of a function that puts a line is that line put; and a block that fills line by line is at each line a part of its page. Assumes nothing.
-use Prim.Native.Nat.{ℕ, zero, suc, _+_, _-_, _≤_, _<_}
+use Prim.Native.Nat.{ℕ, suc, _+_, _-_, _≤_, _<_}
 use mathlib.Core.Bool.{Bool, true, false, not, cond}
 use mathlib.Core.List.{List, [], _∷_, _++_, append-assoc, append-nil}
 use mathlib.Core.Path.{_≡_, refl, sym, ap, _∙_}
-use native.Mathlib.Nat.{add-zero}
 use native.Mathlib.Numerals.{add-one}
 use native.Mathlib.Omega.{arith}
 use borrow.Author.Tests.{le-leb, lt-leb, lt-ltb, le-ltb, eq-eqb, ne-eqb, ltb-false, not-true, not-false}
 use Prim.Native.Char.{code}
-use lib.Dec.{leb, ltb, eqb}
+use lib.Dec.{ltb}
 use lib.ListN.{length, getD, take, drop, length-append, take-append-drop}
 use lib.Seq.{take-all, length-take-le, getD-take, take-suc, take-at, drop-at, drop-drop, sets-eq, length-sets}
 use Rattle.rules.specs.Choice.{part}
@@ -22,12 +21,13 @@ use Rattle.rules.specs.declared.Layout.{Layout}
 use Rattle.rules.specs.declared.FixFields.{FixFields}
 use Rattle.rules.specs.declared.FixFieldsRead.{FixFieldsRead}
 use Rattle.rules.specs.declared.FixFieldsRead.the-variants as fixFieldsRead
-use Rattle.pieces.specs.Buffer.{Shown, PiecePut}
+use Rattle.pieces.specs.Buffer.{PiecePut}
 use Rattle.pieces.proofs.Laws.{then, nothing}
 use Rattle.show.specs.Lines.{columnLine}
+use Rattle.basics.proofs.Laws.{take-most}
 use Rattle.block.specs.Blocks.{endOf, textAt, printed, columnLines, Leaf, leaf, before, printedAt, leafFrom, leafAt, LeafPut, LinesFilled, Filled}
 use Rattle.block.specs.declared.Page.{Page}
-use Rattle.block.proofs.Spelt.{take-most, lines-shown, printed-room}
+use Rattle.block.proofs.Spelt.{lines-shown, printed-room}
 
 -- ---- where a line stands
 

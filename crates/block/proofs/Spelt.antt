@@ -1,12 +1,12 @@
 -- The entries of a layout that is allowed are 13 at most, each spelt, so that each is shown and a line's text has room in 4,096 bytes. Assumes nothing.
-use Prim.Native.Nat.{ℕ, zero, suc, _+_, _*_, _≤_, _<_}
+use Prim.Native.Nat.{ℕ, _+_, _*_, _≤_, _<_}
 use mathlib.Core.Bool.{Bool, true, false, _&&_}
 use mathlib.Core.List.{List, [], _∷_, _++_}
 use mathlib.Core.Path.{_≡_, refl, ap₂}
 use native.Mathlib.Omega.{arith}
 use borrow.Author.Tests.{leb-true}
 use lib.Dec.{leb, eqb}
-use lib.ListN.{length, getD, take, length-append}
+use lib.ListN.{length, getD, length-append}
 use Prim.Native.Char.{code}
 use Rattle.rules.specs.Choice.{need}
 use Rattle.rules.specs.Refusals.{Said, says, refuses}
@@ -17,15 +17,11 @@ use Rattle.rules.specs.Listing.{columnsShown, lineShown}
 use Rattle.rules.specs.declared.Entry.{Entry}
 use Rattle.rules.specs.declared.Layout.{Layout}
 use Rattle.rules.specs.declared.FixFields.{FixFields}
+use Rattle.basics.proofs.Laws.{take-most}
 use Rattle.show.proofs.Laws.{fix-room, column-room}
 use Rattle.show.proofs.Callers.{column-spelt}
 use Rattle.rules.proofs.Inverse.{and-inv}
 use Rattle.block.specs.Blocks.{columnLines, printed}
-
-pub take-most : {A : Type 0} (n : ℕ) (l : List A) → length (take n l) ≤ n
-take-most zero l = omega arith
-take-most (suc n) [] = omega arith
-take-most (suc n) (x ∷ l) = omega (arith, take-most n l)
 
 abbrev AllSpelt : List Entry → Type 0
 AllSpelt [] = Unit {0}

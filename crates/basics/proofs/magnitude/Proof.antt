@@ -1,4 +1,4 @@
--- `show::values::magnitude` meets its contract: `back` takes the machine's bits away, and `turned` and `one-more` are the laws on what is left. Assumes nothing.
+-- `basics::magnitude` meets its contract: `back` takes the machine's bits away, and `turned` and `one-more` are the laws on what is left. Assumes nothing.
 use mathlib.Core.Bool.{false}
 use mathlib.Core.Path.{_≡_, sym, ap, _∙_, subst}
 use native.Mathlib.Nat.{lt-of-le-of-lt}
@@ -9,9 +9,9 @@ use lib.Signed.{mag, nonNeg, leZ, natAbs-le}
 use mir.Syntax.{w32}
 use mir.Val.{toZ, ofZ}
 use mir.ValLaws.{toZ-ofZ}
-use Rattle.show.proofs.Laws.{turned, one-more, zero-below}
-use Rattle.show.proofs.values.magnitude.Statement.{statement}
-use Rattle.show.proofs.values.magnitude.Tie as tie
+use Rattle.basics.proofs.Laws.{turned, one-more, zero-below}
+use Rattle.basics.proofs.magnitude.Statement.{statement}
+use Rattle.basics.proofs.magnitude.Tie as tie
 
 back : (c : tie.After-struct-told) → toZ w32 (ofZ w32 (c .before .args .h .metres)) ≡ c .before .args .h .metres
 back c = toZ-ofZ w32 (c .before .args .h .metres) (record { sfits = c .struct-told .given .0 .1 })
@@ -46,4 +46,5 @@ returns-2 : tie.Need-returns-2
 returns-2 c = rw (less c) (one-more (c .before .before .args .h .metres) (minus c))
 
 pub magnitude-spec : {M : Type 1} → statement M
-magnitude-spec = tie.close (tie.spec cast-result returns sub-result cast-result-2 add-result returns-2)
+magnitude-spec =
+    tie.close (tie.spec cast-result returns sub-result cast-result-2 add-result returns-2)

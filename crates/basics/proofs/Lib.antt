@@ -1,0 +1,3 @@
+-- What the proofs share, and laws for those above.
+pub mod Laws
+pub mod Only
