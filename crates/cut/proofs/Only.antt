@@ -5,8 +5,8 @@ use mathlib.Core.Option.{Option, none, some}
 use mathlib.Core.Path.{refl, sym, ap, _∙_}
 use Rattle.rules.specs.Split.{Bounds, Stepped}
 use Rattle.rules.specs.declared.Reason.{Reason}
-use Rattle.laws.proofs.Only.{Only, same, alike}
-use Rattle.laws.proofs.Told.{OneToOne, by-back, answerOf, refusal-back}
+use Rattle.only.proofs.Only.{Only, same, alike}
+use Rattle.only.proofs.Told.{OneToOne, by-back, answerOf, refusal-back}
 use Rattle.cut.specs.Steps.{stepTold, LineStepped, AtFirst, UnplacedGiven, LineEnded}
 use Rattle.cut.specs.declared.Cursor.{Cursor}
 use Rattle.cut.specs.declared.Step.{Step}

@@ -19,7 +19,7 @@ use Rattle.rules.specs.declared.Layout.{Layout}
 use Rattle.rules.specs.declared.Family.{Family}
 use Rattle.rules.specs.declared.Family.the-variants as family
 use Rattle.rules.proofs.Inverse.{none-some}
-use Rattle.laws.proofs.Presence.{set-bits, count-bits}
+use Rattle.basics.proofs.Presence.{set-bits, count-bits}
 use Rattle.sound.proofs.Each.{each-map}
 use Rattle.sound.proofs.Entries.{packed-back}
 use Rattle.sound.proofs.Placed.{Coded, allowed-there, carries-none}

@@ -7,8 +7,8 @@ use Rattle.rules.specs.Layouts.{Span}
 use Rattle.rules.specs.declared.Entry.{Entry}
 use Rattle.rules.specs.declared.Layout.{Layout}
 use Rattle.rules.specs.declared.Family.{Family}
-use Rattle.laws.proofs.Only.{Only, same, alike}
-use Rattle.laws.proofs.Told.{OneToOne, by-back, answerOf, refusal-back, column-one}
+use Rattle.only.proofs.Only.{Only, same, alike}
+use Rattle.only.proofs.Told.{OneToOne, by-back, answerOf, refusal-back, column-one}
 use Rattle.entry.specs.Parts.{spotTold, SpotFound, CarriesTest, ColumnFound, entryTold, EntryPlaced, EntryGiven, StartGiven}
 use Rattle.entry.specs.declared.Spot.{Spot}
 use Rattle.entry.specs.declared.Spot.the-variants as spot

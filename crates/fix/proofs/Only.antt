@@ -2,8 +2,8 @@
 use Prim.Native.Nat.{ℕ}
 use mathlib.Core.List.{List}
 use Rattle.rules.specs.declared.Class.{Class}
-use Rattle.laws.proofs.Only.{Only, same, alike}
-use Rattle.laws.proofs.Told.{fix-fields-one}
+use Rattle.only.proofs.Only.{Only, same, alike}
+use Rattle.only.proofs.Told.{fix-fields-one}
 use Rattle.fix.specs.Parts.{FormGiven, FieldsGiven}
 
 pub only-form-given : (c : Class) (first : ℕ) → Only (FormGiven c first)

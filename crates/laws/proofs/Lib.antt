@@ -1,5 +1,3 @@
-pub mod Told
-pub mod Only
 pub mod Worked
 pub mod Settled
 pub mod Chains
@@ -8,4 +6,3 @@ pub mod Splitting
 pub mod LineEnds
 pub mod Counted
 pub mod Walking
-pub mod Presence

@@ -19,7 +19,7 @@ use Rattle.rules.specs.declared.Reason.the-variants.{Tile, Twice, Width}
 use Rattle.rules.specs.declared.Listed.{Listed}
 use Rattle.rules.specs.declared.Entry.{Entry}
 use Rattle.rules.specs.declared.Layout.{Layout}
-use Rattle.laws.proofs.Presence.{set-bits, count-bits}
+use Rattle.basics.proofs.Presence.{set-bits, count-bits}
 use Rattle.layout.proofs.Common.{member, distinct, common, swap, distinct-snoc, scan-member}
 
 abbrev codesOf : List Entry → List ℕ

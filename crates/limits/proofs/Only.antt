@@ -5,7 +5,7 @@ use Rattle.rules.specs.declared.Layout.{Layout}
 use Rattle.rules.specs.declared.Fix.{Fix}
 use Rattle.rules.specs.declared.Head.{Head}
 use Rattle.rules.specs.declared.Point.{Point}
-use Rattle.laws.proofs.Only.{Only, same}
+use Rattle.only.proofs.Only.{Only, same}
 use Rattle.limits.specs.Tests.{PointTest, HeadTest, FieldsSpelt, FixTest, ExtraTest}
 
 pub only-point-test : (p : Point) (rest : List ℕ) → Only (PointTest p rest)

@@ -2,7 +2,7 @@
 use Prim.Native.Nat.{ℕ}
 use mathlib.Core.Bool.{Bool}
 use mathlib.Core.List.{List}
-use Rattle.laws.proofs.Only.{Only, same}
+use Rattle.only.proofs.Only.{Only, same}
 use Rattle.plain.specs.Plain.{PlainTest, MildTest, DigitsTest, SignTest}
 
 pub only-plain-test : (l : List ℕ) → Only (PlainTest l)

@@ -4,8 +4,8 @@ use mathlib.Core.Bool.{Bool}
 use mathlib.Core.List.{List}
 use mathlib.Core.Path.{_≡_}
 use Rattle.rules.specs.declared.State.{State}
-use Rattle.laws.proofs.Only.{OnlyBoth, same, alike}
-use Rattle.laws.proofs.Told.{outcome-one}
+use Rattle.only.proofs.Only.{OnlyBoth, same, alike}
+use Rattle.only.proofs.Told.{outcome-one}
 use Rattle.turn.specs.Turns.{TurnTaken}
 
 pub only-turn-taken : (file : List ℕ) (lent : Bool) (table : List ℕ) (at : ℕ) (st : State) → OnlyBoth (TurnTaken file lent table at st)

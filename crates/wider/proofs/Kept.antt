@@ -23,7 +23,7 @@ use Rattle.rules.proofs.Inverse.{none-some, false-true, given-inv}
 use Rattle.laws.proofs.Splitting.{textsOf}
 use Rattle.laws.proofs.Passing.{roleIn}
 use Rattle.laws.proofs.Counted.{one, tally}
-use Rattle.laws.proofs.Presence.{set-bits, count-bits}
+use Rattle.basics.proofs.Presence.{set-bits, count-bits}
 use Rattle.wider.specs.Wider.{Extends, widthIn, AfterLayouts, done, same, columned, LayoutLines, all, without, changed, put, Wider, front, from}
 use Rattle.wider.specs.Before.{linesWith, linesOfFamily, addedFrom, addedIn, MoreBits, putInto, putIn}
 use Rattle.sound.proofs.Placed.{Sound}

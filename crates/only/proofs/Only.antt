@@ -19,7 +19,7 @@ use Rattle.rules.specs.declared.Head.{Head}
 use Rattle.rules.specs.declared.Point.{Point}
 use Rattle.rules.specs.declared.Flight.{Flight}
 use Rattle.rules.specs.declared.Seal.{Seal}
-use Rattle.laws.proofs.Told.{OneToOne, altitude-one, column-one, date-one, day-one, degrees-one, digits-one, fix-fields-one, fix-one, found-one, head-one, length-one, line-one, outcome-one, position-one, point-one, presence-one, time-one, timed-one, value-one, whole-one, wrote-one}
+use Rattle.only.proofs.Told.{OneToOne, altitude-one, column-one, date-one, day-one, degrees-one, digits-one, fix-fields-one, fix-one, found-one, head-one, length-one, line-one, outcome-one, position-one, point-one, presence-one, time-one, timed-one, value-one, whole-one, wrote-one}
 
 -- ---- what is claimed
 
