@@ -1,0 +1,32 @@
+-- `igc::on_each` meets its contract: the words left grow fewer. Assumes nothing.
+use borrow.Author.Needs.{needs}
+use Prim.Native.Nat.{_-_}
+use Rattle.igc.proofs.on_each.Statement.{statement}
+use Rattle.igc.proofs.on_each.Tie as tie
+
+abbrev Inv-loop : tie.InvT-loop
+Inv-loop verb first n dashes several input₀ table₀ status₀ i₀ input table status i = Unit {0}
+
+abbrev μ-loop : tie.MeasureT-loop
+μ-loop verb first n dashes several input₀ table₀ status₀ i₀ input table status i = n - i
+
+pub on-each-spec : {M : Type 1} → statement M
+on-each-spec =
+    tie.close
+    (tie.spec
+    Inv-loop
+    μ-loop
+    (λ c. search needs)
+    (λ c κs. search needs)
+    (λ c κs. search needs)
+    (λ c κs. search needs)
+    (λ c κs. search needs)
+    (λ c. search needs)
+    (λ c. search needs)
+    (λ c. search needs)
+    (λ c. search needs)
+    (λ c. search needs)
+    (λ c. search needs)
+    (λ c. search needs)
+    (λ c. search needs)
+    (λ c. search needs))
