@@ -1,6 +1,6 @@
 -- `igc::first_option` meets its contract: the words left grow fewer. Assumes nothing.
-use borrow.Author.Needs.{needs}
 use Prim.Native.Nat.{_-_}
+use borrow.Author.Needs.{needs}
 use Rattle.igc.proofs.first_option.Statement.{statement}
 use Rattle.igc.proofs.first_option.Tie as tie
 
