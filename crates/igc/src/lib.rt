@@ -1,4 +1,5 @@
-// The program igc as one exported function: its words, and what they ask for, file by file. C's `main` lends the memory and returns the status (c/igc.c).
+// Checks or lists the IGC files that its words name: igc check FILE..., igc list FILE.... It is one exported function;
+// C's `main` lends the memory and returns the status (c/igc.c).
 mod files;
 mod output;
 
