@@ -41,7 +41,9 @@ fn print(answer: Wrote, out: &[u8]) {
             io::print_decimal(STDOUT_FILENO, place as u64);
             io::write_all(STDOUT_FILENO, b"\n");
         }
-        Wrote::Refused(why) => lister::print_refusal(why),
+        Wrote::Refused(why) => {
+            lister::print_refusal(why);
+        }
     }
     io::write_all(STDOUT_FILENO, out);
     io::write_all(STDOUT_FILENO, b"\n");
