@@ -73,7 +73,7 @@ fn check(name: &[u8], file: &[u8], table: &mut [u32]) -> Fate {
 }
 
 // The verb list: the listing of an accepted file, or why it is refused. Its name stands before it where there are several, so that one file alone gives just what the listing gives.
-pub fn list_named(name: &[u8], several: bool, input: &mut [u8], table: &mut [u32]) -> Fate {
+pub(crate) fn list_named(name: &[u8], several: bool, input: &mut [u8], table: &mut [u32]) -> Fate {
     if several {
         if !print_heading(name) {
             return fate_of(false, Fate::Unwritten);
@@ -88,7 +88,7 @@ pub fn list_named(name: &[u8], several: bool, input: &mut [u8], table: &mut [u32
 }
 
 // The verb check: one line of an accepted file, or why it is refused, with its name before it.
-pub fn check_named(name: &[u8], input: &mut [u8], table: &mut [u32]) -> Fate {
+pub(crate) fn check_named(name: &[u8], input: &mut [u8], table: &mut [u32]) -> Fate {
     let got = read_named(name, input);
     if !got.whole {
         return Fate::Unread;
