@@ -57,7 +57,8 @@ enum {
     HIVE_BAD_VALUE = 17,
     HIVE_NO_ROOM = 18,
     HIVE_ABSENT = 19,
-    HIVE_NOT_NUMBER = 20
+    HIVE_NOT_NUMBER = 20,
+    HIVE_INPUT_OVER = 21 /* of the listing program alone */
 };
 
 /* Places in every answer. */
@@ -239,6 +240,23 @@ uint32_t hive_write_point(uint64_t latitude, uint8_t latitude_letter,
                           size_t place,
                           uint8_t *out, size_t out_length,
                           uint64_t *answer, size_t answer_length);
+
+/* ---- a refusal in words, at the start of a lent text; the bytes behind the words stay. 17 where no refusal has the number, then 18 where the text is shorter than the
+   words; a refused call changes no byte of the text.
+       2 how many bytes the words have: a name at most HIVE_NAME, an explanation at most HIVE_EXPLANATION */
+enum { HIVE_WORDS_LENGTH = 2, HIVE_NAME = 10, HIVE_EXPLANATION = 400 };
+
+/* The name of a refusal number, as FORM for 9. */
+uint32_t hive_name(uint32_t number,
+                   uint8_t *text, size_t text_length,
+                   uint64_t *answer, size_t answer_length);
+
+/* A refusal of a file explained, as igc prints it: the number and its name, the line and the byte where they are not 0, and when the number is given; below it, where a line
+   is named, up to 80 bytes of its text, and a caret under the byte where one is named. Each line ends with LF. Any number, line and byte may be given. */
+uint32_t hive_explain(const uint8_t *file, size_t file_length,
+                      uint32_t number, uint32_t line, uint32_t byte,
+                      uint8_t *text, size_t text_length,
+                      uint64_t *answer, size_t answer_length);
 
 #ifdef __cplusplus
 }

@@ -25,7 +25,9 @@ fn print(answer: Wrote, out: &[u8]) {
         Wrote::Next(_) => {
             io::write_all(STDOUT_FILENO, b"WROTE\n");
         }
-        Wrote::Refused(why) => lister::print_refusal(why),
+        Wrote::Refused(why) => {
+            lister::print_refusal(why);
+        }
     }
     io::write_all(STDOUT_FILENO, out);
     io::write_all(STDOUT_FILENO, b"\n");

@@ -8,6 +8,7 @@ use rules::Kind;
 use rules::Layout;
 use rules::Outcome;
 use rules::PointRead;
+use rules::Refusal;
 use rules::TimeRead;
 
 // The layouts of B and K lines that the lines so far have told.
@@ -27,38 +28,43 @@ fn pass() {
     io::write_all(STDOUT_FILENO, b"PASS\n");
 }
 
+// What is lost of the output is missed where it is compared with what it must be.
+fn print_refusal(why: Refusal) {
+    lister::print_refusal(why);
+}
+
 fn print_outcome(outcome: Outcome) {
     match outcome {
         Outcome::Accepted => pass(),
-        Outcome::Refused(why) => lister::print_refusal(why),
+        Outcome::Refused(why) => print_refusal(why),
     }
 }
 
 fn print_time(read: TimeRead) {
     match read {
         TimeRead::Secs(_) => pass(),
-        TimeRead::Refused(why) => lister::print_refusal(why),
+        TimeRead::Refused(why) => print_refusal(why),
     }
 }
 
 fn print_date(line: &[u8]) {
     match read::date(line) {
         DateRead::On(_) => pass(),
-        DateRead::Refused(why) => lister::print_refusal(why),
+        DateRead::Refused(why) => print_refusal(why),
     }
 }
 
 fn print_head(line: &[u8]) {
     match read::head(line) {
         HeadRead::Is(_) => pass(),
-        HeadRead::Refused(why) => lister::print_refusal(why),
+        HeadRead::Refused(why) => print_refusal(why),
     }
 }
 
 fn print_point(line: &[u8]) {
     match read::point(line) {
         PointRead::Is(_) => pass(),
-        PointRead::Refused(why) => lister::print_refusal(why),
+        PointRead::Refused(why) => print_refusal(why),
     }
 }
 
@@ -68,7 +74,7 @@ fn print_fix(line: &[u8], layout: Layout) {
             lister::print_fix(0, limits::fields_of(f));
             lister::print_columns(line, layout);
         }
-        FixRead::Refused(why) => lister::print_refusal(why),
+        FixRead::Refused(why) => print_refusal(why),
     }
 }
 

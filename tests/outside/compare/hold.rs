@@ -6,7 +6,7 @@ use std::fmt::Debug;
 use crate::library::{self, ANSWER, FixValues, HeadValues, Told};
 use outside::files::random::Random;
 use outside::reading::layouts::FAMILIES;
-use outside::reading::refusals::BAD_VALUE;
+use outside::reading::refusals::{BAD_VALUE, NO_ROOM};
 use outside::reading::{self, Answer, Date, Family, Fix, Head, Layout, Point, Position, Refusal};
 
 pub type Held<T> = Result<T, String>;
@@ -83,6 +83,41 @@ pub fn check(tally: &mut Tally, file: &[u8], entries: usize) -> Held<(Answer<rea
         tally.same(name, &"its table", raw.number, first.map(|n| (n, ours[n])), first.map(|n| (n, theirs[n])))?;
     }
     Ok((answer, theirs))
+}
+
+/// What the library must tell of words that are put into a text of so many dots, and the text afterwards: 17 where there are none, then 18 where they have no room.
+fn put(words: Option<&str>, size: usize) -> (Told, Vec<u8>) {
+    let mut text = vec![b'.'; size];
+    let answer = match words {
+        None => Err(Refusal::of(BAD_VALUE)),
+        Some(words) if size < words.len() => Err(Refusal::of(NO_ROOM)),
+        Some(words) => {
+            text[..words.len()].copy_from_slice(words.as_bytes());
+            Ok(words.len() as u64)
+        }
+    };
+    (told(&answer, |&n| [n]), text)
+}
+
+/// The file's refusal in words, and another one, which the check did not give: into a text that has room, one that has just room, and one that is a byte short.
+pub fn in_words(tally: &mut Tally, random: &mut Random, file: &[u8], answer: &Answer<reading::Accepted>) -> Held<()> {
+    let met = answer.as_ref().err().copied().unwrap_or(Refusal::of(16));
+    let other = Refusal { number: random.below(24) as u32, line: random.below(9) as u64, byte: random.below(300) as u64 };
+    for r in [met, other] {
+        let words = reading::explained(file, &r);
+        let length = words.as_deref().map_or(0, str::len);
+        for size in [400, length, length.saturating_sub(1)] {
+            let mut text = vec![b'.'; size];
+            let raw = library::explain(file, r.number, r.line as u32, r.byte as u32, &mut text);
+            tally.same("hive_explain", &(r, size), raw.number, (raw, text), put(words.as_deref(), size))?;
+        }
+        for size in [10, 4] {
+            let mut text = vec![b'.'; size];
+            let raw = library::name(r.number, &mut text);
+            tally.same("hive_name", &(r.number, size), raw.number, (raw, text), put(reading::name(r.number), size))?;
+        }
+    }
+    Ok(())
 }
 
 fn bounds(found: &(usize, usize)) -> [u64; 2] {

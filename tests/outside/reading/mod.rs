@@ -4,6 +4,7 @@
 
 pub mod characters;
 pub mod degrees;
+pub mod explained;
 pub mod fields;
 pub mod file;
 pub mod given;
@@ -16,6 +17,7 @@ pub mod refusals;
 pub mod writers;
 
 pub use degrees::degrees;
+pub use explained::{explained, name};
 pub use fields::{Date, Position};
 pub use file::{Accepted, LIMIT, check};
 pub use given::{column_given, layout_given, write_layout_given};
