@@ -3,7 +3,7 @@ use mathlib.Core.Option.{some}
 use mathlib.Core.Path.{_≡_, refl}
 use Rattle.rules.specs.Refusals.{number}
 use Rattle.rules.specs.declared.Reason.{Reason}
-use Rattle.rules.specs.declared.Reason.the-variants.{Empty, TooLong, LineEnd, EmptyLine, Kind, Order, Length, Character, Form, Tile, Twice, Width, Column, Back, TableFull, EndsEarly, BadValue, NoRoom, Absent, NotNumber, InputOver}
+use Rattle.rules.specs.declared.Reason.the-variants.{Empty, TooLong, LineEnd, EmptyLine, Kind, Order, Length, Character, Form, Tile, Twice, Width, Column, Back, TableFull, EndsEarly, BadValue, NoRoom, Absent, NotNumber, InputOver, Time, Position, Altitude, Date}
 use Rattle.calls_explain.specs.Reasons.{reasonOf}
 
 pub reason-of-number : (r : Reason) → reasonOf (number r) ≡ some r
@@ -29,3 +29,7 @@ reason-of-number NoRoom = refl
 reason-of-number Absent = refl
 reason-of-number NotNumber = refl
 reason-of-number InputOver = refl
+reason-of-number Time = refl
+reason-of-number Position = refl
+reason-of-number Altitude = refl
+reason-of-number Date = refl
