@@ -57,10 +57,12 @@ abbrev pub ValueOf : Family → Type 0
 ValueOf family.B = Fix
 ValueOf family.K = ℕ
 
+-- the value, from what the bytes spell
 abbrev pub valueFrom : (f : Family) → FieldsIn f → ValueOf f
 valueFrom family.B v = fixOf v
 valueFrom family.K t = t
 
+-- the value of a line of a family with its layout
 abbrev pub saidOf : (f : Family) → List ℕ → Layout → Said (ValueOf f)
 saidOf family.B l layout = andThen (fieldsSaid family.B l layout) λ f. says (fixOf f)
 saidOf family.K l layout = fieldsSaid family.K l layout
