@@ -140,7 +140,7 @@ day-never-falls l w = by (timeOn l)
 -- ---- days counted
 
 -- the day behind these lines
-unfoldable dayBehind : Walk → List String → ℕ
+unfoldable pub dayBehind : Walk → List String → ℕ
 dayBehind w [] = w .day
 dayBehind w (t ∷ ts) = dayBehind (walked (bytes t) w) ts
 
