@@ -47,7 +47,7 @@ use Rattle.demands.specs.Faults.{PassAfter, Refused}
 use Rattle.demands.specs.FieldTexts.{FieldsTold}
 use Rattle.demands.specs.Coming.{Meant}
 use Rattle.demands.specs.Readings.{Readable}
-use Rattle.demands.specs.ReadersRefuse.{ReadersRefuse, NamesMeant}
+use Rattle.demands.specs.ReadersRefuse.{ReadersRefuse, NamesMeant, EndingsMeant}
 use Rattle.demands.specs.BothWays.{Slotted, ReadsAs, BothWays}
 use Rattle.demands.proofs.Leading.{fits-there, fits-so}
 use Rattle.demands.proofs.Accepted as acceptance
@@ -202,3 +202,7 @@ readers-refuse-first = readers.readers-refuse
 -- what 19 and 20 test, apart from how
 pub names-meant : NamesMeant
 names-meant = readers.names-meant
+
+-- what 17 tests of a line by its number and of a reading place: where CR LF stands
+pub endings-meant : EndingsMeant
+endings-meant = readers.endings-meant
