@@ -42,11 +42,11 @@ use Rattle.words.specs.Characters.{IsValid, IsCode}
 use Rattle.words.specs.Codes.{Listing, Holds}
 use Rattle.words.proofs.Characters.{valid-exactly, code-exactly}
 use Rattle.words.proofs.Codes.{width-exactly, rule-exactly}
-use Rattle.demands.specs.Grammar.{IsDay, IsDateLine, IsELine, IsFLine, IsLayoutLine, IsBLine, IsKLine, IsHeadLine, IsPointLine, linesIn, Fits, Meets, flightOf}
+use Rattle.demands.specs.Grammar.{IsDay, IsDateLine, IsELine, IsFLine, IsLayoutLine, IsBLine, IsKLine, IsColumned, IsHeadLine, IsPointLine, linesIn, Fits, Meets, flightOf}
 use Rattle.demands.specs.Faults.{PassAfter, Refused}
 use Rattle.demands.specs.FieldTexts.{FieldsTold}
 use Rattle.demands.specs.Coming.{Meant}
-use Rattle.demands.specs.Readings.{Readable}
+use Rattle.demands.specs.Readings.{ReadsColumns, Readable}
 use Rattle.demands.specs.ReadersRefuse.{ReadersRefuse, NamesMeant, EndingsMeant}
 use Rattle.demands.specs.BothWays.{Slotted, ReadsAs, BothWays}
 use Rattle.demands.proofs.Leading.{fits-there, fits-so}
@@ -146,6 +146,10 @@ module _ (i : Slotted) (l : List ℕ) where
 
   pub extras-exactly : allowed 8 (i .layout) ≡ true → (t : ℕ) → (extraSaid l (i .layout) ≡ says t) ↔ IsKLine (i .layout) t l
   extras-exactly g t = (extra-read (i .layout) (record { right = g; full = i .slots }) t l, extra-reads (i .layout) (record { right = g; full = i .slots }) t l)
+
+-- and the columns of such a line: the text and the number of each code that the layout carries, 19 for every other code
+pub columns-exactly : (family : Family) (i : Slotted) → allowed (firstStart family) (i .layout) ≡ true → (t : ℕ) (l : List ℕ) → IsColumned family (i .layout) t l → ReadsColumns family (i .layout) l
+columns-exactly family i g t l w = reading.line-columns family (i .layout) t l (record { right = g; full = i .slots }) w
 
 -- I lines and J lines
 pub layouts-exactly : (family : Family) (layout : Layout) (l : List ℕ) → (layoutSaid family l ≡ says layout) ↔ IsLayoutLine family layout l

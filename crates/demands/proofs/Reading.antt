@@ -86,12 +86,18 @@ total-is (l ∷ ls) = ap (λ n. length l + 2 + n) (total-is ls)
 
 -- ---- lines with columns
 
--- the columns of a line of a family that passes its checks
-line-columns : (f : Family) (layout : Layout) (t : ℕ) (l tail : List ℕ) → IsTold f layout → IsColumned f layout t l → drop (firstStart f - 1) l ≡ tail → Columns (entriesOf layout) tail
+-- the columns of a line that stand in its tail
+tail-columns : (f : Family) (layout : Layout) (t : ℕ) (l tail : List ℕ) → IsTold f layout → IsColumned f layout t l → drop (firstStart f - 1) l ≡ tail → Columns (entriesOf layout) tail
     → ReadsColumns f layout l
-line-columns f layout t l tail i w d c =
+tail-columns f layout t l tail i w d c =
     let r = columned-fields f layout t l i w in
     columns-read f layout l tail (start-low f) i d c (entries-said f l layout (r .0) (r .1))
+
+-- the columns of a line that is, by the grammar, one of the family
+pub line-columns : (f : Family) (layout : Layout) (t : ℕ) (l : List ℕ) → IsTold f layout → IsColumned f layout t l → ReadsColumns f layout l
+line-columns family.B layout t l i w =
+    tail-columns family.B layout t l (w .2 .tail) i w (ap (drop 35) (w .2 .text) ∙ fix-trip layout .behind (w .0) (w .2 .tail)) (w .2 .columns)
+line-columns family.K layout t l i w = tail-columns family.K layout t l (w .tail) i w (ap (drop 7) (w .text) ∙ extra-trip layout .behind t (w .tail)) (w .columns)
 
 -- positions within their limits
 on-map : (lat lon : Position) → IsLatitude lat → IsLongitude lon → OnMap lat lon
@@ -106,7 +112,7 @@ reads-fix layout f l i w = record {
   is = w;
   reads = fix-reads layout i f l w;
   map = on-map (f .lat) (f .lon) (w .fields .lat) (w .fields .lon);
-  columns = line-columns family.B layout (f .time) l (w .tail) i (f, refl, w) (ap (drop 35) (w .text) ∙ fix-trip layout .behind f (w .tail)) (w .columns);
+  columns = line-columns family.B layout (f .time) l i (f, refl, w);
 }
 
 reads-extra : (layout : Layout) (t : ℕ) (l : List ℕ) → IsTold family.K layout → IsKLine layout t l → ReadsExtra layout l
@@ -114,7 +120,7 @@ reads-extra layout t l i w = record {
   time = t;
   is = w;
   reads = extra-reads layout i t l w;
-  columns = line-columns family.K layout t l (w .tail) i w (ap (drop 7) (w .text) ∙ extra-trip layout .behind t (w .tail)) (w .columns);
+  columns = line-columns family.K layout t l i w;
 }
 
 -- ---- a head and its points, with the texts behind their fields
