@@ -18,6 +18,7 @@ use Rattle.rules.specs.Refusals.{says, refuses}
 use Rattle.rules.specs.Files.{verdict}
 use Rattle.rules.specs.Chars.{isValid, isCode}
 use Rattle.rules.specs.Listed.{widthFits, keepsRule}
+use Rattle.rules.specs.Degrees.{degreesOf}
 use Rattle.rules.specs.Layouts.{isSaid, allowed}
 use Rattle.rules.specs.Reads.{fixSaid, extraSaid, dateSaid, eventSaid, satellitesSaid, headSaid, pointSaid, layoutSaid}
 use Rattle.rules.specs.Writes.{fixText, extraText, headText, pointText, layoutText, isFix, isExtra, isHead, isPoint}
@@ -27,6 +28,8 @@ use Rattle.rules.specs.declared.Family.{Family}
 use Rattle.rules.specs.declared.Fix.{Fix}
 use Rattle.rules.specs.declared.Head.{Head}
 use Rattle.rules.specs.declared.Point.{Point}
+use Rattle.rules.specs.declared.Position.{Position}
+use Rattle.rules.specs.declared.Degrees.{Degrees}
 use Rattle.rules.specs.declared.Flight.{Flight}
 use Rattle.rules.specs.declared.Seal.{Seal}
 use Rattle.rules.specs.declared.Seal.the-variants as seal
@@ -46,7 +49,7 @@ use Rattle.demands.specs.Grammar.{IsDay, IsDateLine, IsELine, IsFLine, I
 use Rattle.demands.specs.Faults.{PassAfter, Refused}
 use Rattle.demands.specs.FieldTexts.{FieldsTold}
 use Rattle.demands.specs.Coming.{Meant}
-use Rattle.demands.specs.Readings.{ReadsColumns, Readable}
+use Rattle.demands.specs.Readings.{ReadsColumns, OnMap, Readable}
 use Rattle.demands.specs.ReadersRefuse.{ReadersRefuse, NamesMeant, EndingsMeant}
 use Rattle.demands.specs.BothWays.{Slotted, ReadsAs, BothWays}
 use Rattle.demands.proofs.Leading.{fits-there, fits-so}
@@ -58,7 +61,7 @@ use Rattle.demands.proofs.Laws.{day-exactly}
 use Rattle.demands.proofs.Reading as reading
 use Rattle.demands.proofs.LayoutLines.{layout-exactly, layout-line-exactly}
 use Rattle.demands.proofs.EachLine.{fix-reads, fix-read, extra-reads, extra-read, head-reads, head-read, point-reads, point-read}
-use Rattle.demands.proofs.Readers.{date-exactly, event-exactly, satellite-exactly, some-line}
+use Rattle.demands.proofs.Readers.{date-exactly, event-exactly, satellite-exactly, map-exactly, some-line}
 use Rattle.demands.proofs.Writers.{both-ways, trip-ways}
 use Rattle.demands.proofs.ReadersRefuse as readers
 use Rattle.demands.proofs.Worked as worked
@@ -175,6 +178,10 @@ heads-exactly h l = (head-read h l, head-reads h l)
 
 pub points-exactly : (p : Point) (l : List ℕ) → (pointSaid l ≡ says p) ↔ ((w : IsPointLine l) × (w .point ≡ p))
 points-exactly p l = (point-read p l, λ w. point-reads l (w .0) ∙ ap says (w .1))
+
+-- two positions on the map
+pub degrees-exactly : (lat lon : Position) (d : Degrees) → (degreesOf lat lon ≡ says d) ↔ OnMap lat lon d
+degrees-exactly = map-exactly
 
 -- ---- lines read and written: of each kind `read-then-write`, `write-then-read` and `bad-value-exactly` (specs/BothWays); 35, 7, 25 and 18 bytes stand before the columns or
 -- the text

@@ -14,7 +14,6 @@ use lib.ListN.{length, getD, take, drop}
 use Rattle.rules.specs.Choice.{bytes, Each}
 use Rattle.rules.specs.Families.{firstStart, lineLetter, layoutLetter, layoutOf}
 use Rattle.rules.specs.Refusals.{says}
-use Rattle.rules.specs.Degrees.{degreesOf}
 use Rattle.rules.specs.Layouts.{emptyLayout, entriesOf}
 use Rattle.rules.specs.Split.{Lines, end, linesOf, offsets}
 use Rattle.rules.specs.Reads.{dateSaid, headRest, pointRest}
@@ -25,7 +24,6 @@ use Rattle.rules.specs.declared.Layout.{Layout}
 use Rattle.rules.specs.declared.Family.{Family}
 use Rattle.rules.specs.declared.Family.the-variants as family
 use Rattle.rules.specs.declared.Layouts.{Layouts}
-use Rattle.rules.specs.declared.Position.{Position}
 use Rattle.rules.specs.declared.Fix.{Fix}
 use Rattle.rules.specs.declared.Head.{Head}
 use Rattle.rules.specs.declared.Seal.{Seal}
@@ -39,15 +37,13 @@ use Rattle.trips.proofs.Fixes.{fix-trip}
 use Rattle.trips.proofs.Extras.{extra-trip}
 use Rattle.trips.proofs.Heads.{head-trip}
 use Rattle.trips.proofs.Points.{point-trip}
-use Rattle.words.specs.Values.{IsLatitude, IsLongitude}
-use Rattle.words.proofs.Values.{latitude-exactly, longitude-exactly}
 use Rattle.demands.specs.Grammar.{IsDateLine, IsLayoutLine, IsHeadLine, IsPointLine, IsELine, IsFLine, Columns, IsBLine, IsKLine, IsColumned, IsGLine, IsLLine, AtMostOne, absent, given, Timed, Untimed, differential, remark, other, Items, done, timed, untimed, Body, undeclared, Parts, linesIn, Keeps, Meets}
 use Rattle.demands.specs.Grammar as grammar
 use Rattle.demands.specs.Coming.{isAmong}
-use Rattle.demands.specs.Readings.{Entered, OnMap, ReadsFix, ReadsExtra, ReadsColumns, ReadsValue, ReadsLayout, ReadsPresence, ReadsLine, ReadsHead, ReadsPoint, NoC, ReadsDeclaration, nowhere, declared, total, Steps, Readable}
+use Rattle.demands.specs.Readings.{Entered, ReadsFix, ReadsExtra, ReadsColumns, ReadsValue, ReadsLayout, ReadsPresence, ReadsLine, ReadsHead, ReadsPoint, NoC, ReadsDeclaration, nowhere, declared, total, Steps, Readable}
 use Rattle.sound.proofs.Each.{each-map, each-join, each-cut}
 use Rattle.demands.proofs.EachLine.{e-said, f-said, start-low, fix-reads, extra-reads, columned-letter, columned-fields, head-reads, point-reads, head-said, point-said}
-use Rattle.demands.proofs.Readers.{date-exactly, event-exactly, satellite-exactly}
+use Rattle.demands.proofs.Readers.{date-exactly, event-exactly, satellite-exactly, on-map}
 use Rattle.demands.proofs.ByLayout.{presence-reads}
 use Rattle.demands.proofs.ByLayout as by-layout
 use Rattle.demands.proofs.LayoutLines.{IsTold, layout-said, layout-line-exactly, told}
@@ -98,11 +94,6 @@ pub line-columns : (f : Family) (layout : Layout) (t : ℕ) (l : List ℕ) → I
 line-columns family.B layout t l i w =
     tail-columns family.B layout t l (w .2 .tail) i w (ap (drop 35) (w .2 .text) ∙ fix-trip layout .behind (w .0) (w .2 .tail)) (w .2 .columns)
 line-columns family.K layout t l i w = tail-columns family.K layout t l (w .tail) i w (ap (drop 7) (w .text) ∙ extra-trip layout .behind t (w .tail)) (w .columns)
-
--- positions within their limits
-on-map : (lat lon : Position) → IsLatitude lat → IsLongitude lon → OnMap lat lon
-unfolding degreesOf
-on-map lat lon p q = rw (latitude-exactly lat .1 p, longitude-exactly lon .1 q)
 
 -- a B line, and a K line
 reads-fix : (layout : Layout) (f : Fix) (l : List ℕ) → IsTold family.B layout → IsBLine layout f l → ReadsFix layout l

@@ -6,11 +6,12 @@ use mathlib.Core.Bool.{Bool, true}
 use mathlib.Core.List.{List}
 use mathlib.Core.Logic.{_↔_, _⊎_}
 use mathlib.Core.Path.{_≡_, refl}
+use lib.Ieee.{Float}
 use Rattle.rules.specs.Choice.{Each}
 use Rattle.rules.specs.Chars.{isValid, isDigit, isCode, codesAt}
 use Rattle.rules.specs.Listed.{codeText, isCodeWord, listed, widthFits, keepsRule}
 use Rattle.rules.specs.Fields.{isEither}
-use Rattle.rules.specs.Degrees.{isLatitude, isLongitude}
+use Rattle.rules.specs.Degrees.{angle, isLatitude, isLongitude}
 use Rattle.rules.specs.Limits.{isTime, isAltitude, goodFixFields}
 use Rattle.rules.specs.Families.{firstStart, lineLetter, layoutLetter}
 use Rattle.rules.specs.Layouts.{emptyLayout, lineLength}
@@ -20,7 +21,7 @@ use Rattle.rules.specs.declared.Height.{Height}
 use Rattle.rules.specs.declared.FixFields.{FixFields}
 use Rattle.words.specs.Characters.{IsValid, IsDigit, IsCode, CodesAt}
 use Rattle.words.specs.Codes.{rows, Listing, Holds, SameRows}
-use Rattle.words.specs.Values.{IsTime, IsLatitude, IsLongitude, IsAltitude, IsFix}
+use Rattle.words.specs.Values.{IsTime, IsLatitude, IsLongitude, IsAngle, IsAltitude, IsFix}
 use Rattle.words.proofs.Characters as characters
 use Rattle.words.proofs.Codes as codes
 use Rattle.words.proofs.Values as values
@@ -75,6 +76,11 @@ either-exactly = values.either-exactly
 
 pub fix-exactly : (f : FixFields) → (goodFixFields f ≡ true) ↔ IsFix f
 fix-exactly = values.fix-exactly
+
+-- ---- degrees for the map
+
+pub angle-exactly : (p : Position) (x : Float) → (angle p ≡ x) ↔ IsAngle p x
+angle-exactly = values.angle-exactly
 
 -- ---- the two families of lines with columns
 
