@@ -13,12 +13,14 @@ use Rattle.rules.specs.Listed.{codeText, isCodeWord, listed, widthFits, keepsRu
 use Rattle.rules.specs.Fields.{isEither}
 use Rattle.rules.specs.Degrees.{angle, isLatitude, isLongitude}
 use Rattle.rules.specs.Limits.{isTime, isAltitude, goodFixFields}
+use Rattle.rules.specs.Fixes.{fieldsOf}
 use Rattle.rules.specs.Families.{firstStart, lineLetter, layoutLetter}
 use Rattle.rules.specs.Layouts.{emptyLayout, lineLength}
 use Rattle.rules.specs.declared.Family.the-variants as family
 use Rattle.rules.specs.declared.Position.{Position}
 use Rattle.rules.specs.declared.Height.{Height}
 use Rattle.rules.specs.declared.FixFields.{FixFields}
+use Rattle.rules.specs.declared.Fix.{Fix}
 use Rattle.words.specs.Characters.{IsValid, IsDigit, IsCode, CodesAt}
 use Rattle.words.specs.Codes.{rows, Listing, Holds, SameRows}
 use Rattle.words.specs.Values.{IsTime, IsLatitude, IsLongitude, IsAngle, IsAltitude, IsFix}
@@ -76,6 +78,17 @@ either-exactly = values.either-exactly
 
 pub fix-exactly : (f : FixFields) → (goodFixFields f ≡ true) ↔ IsFix f
 fix-exactly = values.fix-exactly
+
+-- a fix has what its line spells, field by field
+pub fix-fields-exactly : (f : Fix)
+    → (fieldsOf f .time ≡ f .time)
+    × (fieldsOf f .lat ≡ f .lat)
+    × (fieldsOf f .lon ≡ f .lon)
+    × (fieldsOf f .validity ≡ f .validity)
+    × (fieldsOf f .pressure ≡ f .pressure)
+    × (fieldsOf f .gnss ≡ f .gnss)
+unfolding fieldsOf
+fix-fields-exactly f = (refl, refl, refl, refl, refl, refl)
 
 -- ---- degrees for the map
 
