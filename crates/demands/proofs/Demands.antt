@@ -42,7 +42,7 @@ use Rattle.trips.proofs.Extras.{extra-trip, extra-good}
 use Rattle.trips.proofs.Heads.{head-trip, head-good}
 use Rattle.trips.proofs.Points.{point-trip, point-good}
 use Rattle.words.specs.Characters.{IsValid, IsCode}
-use Rattle.words.specs.Codes.{Listing, Holds}
+use Rattle.words.specs.Codes.{RowSays, Holds}
 use Rattle.words.proofs.Characters.{valid-exactly, code-exactly}
 use Rattle.words.proofs.Codes.{width-exactly, rule-exactly}
 use Rattle.demands.specs.Grammar.{IsDay, IsDateLine, IsELine, IsFLine, IsLayoutLine, IsBLine, IsKLine, IsColumned, IsHeadLine, IsPointLine, linesIn, Fits, Meets, flightOf}
@@ -110,10 +110,10 @@ codes-meant = code-exactly
 pub dates-meant : (d : Date) → (isDate d ≡ true) ↔ IsDay d
 dates-meant = day-exactly
 
-pub widths-meant : (x w : ℕ) → (widthFits x w ≡ true) ↔ Listing x (λ p. (p .least ≤ w) × (w ≤ p .most))
+pub widths-meant : (x w : ℕ) → (widthFits x w ≡ true) ↔ RowSays x (λ p. (p .least ≤ w) × (w ≤ p .most))
 widths-meant = width-exactly
 
-pub texts-meant : (x : ℕ) (t : List ℕ) → (keepsRule x t ≡ true) ↔ Listing x (λ p. Holds (p .name) t)
+pub texts-meant : (x : ℕ) (t : List ℕ) → (keepsRule x t ≡ true) ↔ RowSays x (λ p. Holds (p .name) t)
 texts-meant = rule-exactly
 
 -- ---- the grammar by itself

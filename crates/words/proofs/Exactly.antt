@@ -22,8 +22,8 @@ use Rattle.rules.specs.declared.Height.{Height}
 use Rattle.rules.specs.declared.FixFields.{FixFields}
 use Rattle.rules.specs.declared.Fix.{Fix}
 use Rattle.words.specs.Characters.{IsValid, IsDigit, IsCode, CodesAt}
-use Rattle.words.specs.Codes.{rows, Listing, Holds, SameRows}
-use Rattle.words.specs.Values.{IsTime, IsLatitude, IsLongitude, IsAngle, IsAltitude, IsFix}
+use Rattle.words.specs.Codes.{rows, RowSays, Holds, SameRows}
+use Rattle.words.specs.Values.{IsTime, IsLatitude, IsLongitude, IsAngle, IsAltitude, IsFixFields}
 use Rattle.words.proofs.Characters as characters
 use Rattle.words.proofs.Codes as codes
 use Rattle.words.proofs.Values as values
@@ -53,10 +53,10 @@ pub listed-exactly : SameRows listed rows
 listed-exactly = codes.listed-exactly
 
 -- "12 WIDTH: listed code, wrong width", and "13 COLUMN: listed column against its rule"
-pub width-exactly : (x w : ℕ) → (widthFits x w ≡ true) ↔ Listing x (λ p. (p .least ≤ w) × (w ≤ p .most))
+pub width-exactly : (x w : ℕ) → (widthFits x w ≡ true) ↔ RowSays x (λ p. (p .least ≤ w) × (w ≤ p .most))
 width-exactly = codes.width-exactly
 
-pub rule-exactly : (x : ℕ) (t : List ℕ) → (keepsRule x t ≡ true) ↔ Listing x (λ p. Holds (p .name) t)
+pub rule-exactly : (x : ℕ) (t : List ℕ) → (keepsRule x t ≡ true) ↔ RowSays x (λ p. Holds (p .name) t)
 rule-exactly = codes.rule-exactly
 
 -- ---- how far a value goes
@@ -76,7 +76,7 @@ altitude-exactly = values.altitude-exactly
 pub either-exactly : (x a b : ℕ) → (isEither x a b ≡ true) ↔ ((x ≡ a) ⊎ (x ≡ b))
 either-exactly = values.either-exactly
 
-pub fix-exactly : (f : FixFields) → (goodFixFields f ≡ true) ↔ IsFix f
+pub fix-exactly : (f : FixFields) → (goodFixFields f ≡ true) ↔ IsFixFields f
 fix-exactly = values.fix-exactly
 
 -- a fix has what its line spells, field by field

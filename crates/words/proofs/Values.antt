@@ -16,7 +16,7 @@ use Rattle.rules.specs.declared.Position.{Position}
 use Rattle.rules.specs.declared.Height.{Height}
 use Rattle.rules.specs.declared.FixFields.{FixFields}
 use Rattle.rules.proofs.Inverse.{false-true, and-inv, need-inv}
-use Rattle.words.specs.Values.{IsTime, IsLatitude, IsLongitude, IsAngle, nought, negated, as-it-is, over60000, IsAltitude, plain, minus, IsFix}
+use Rattle.words.specs.Values.{IsTime, IsLatitude, IsLongitude, IsAngle, nought, negated, as-it-is, over60000, IsAltitude, plain, minus, IsFixFields}
 
 -- ---- one of two letters
 
@@ -109,11 +109,11 @@ altitude-exactly h = (there (h .metres) refl, here)
 
 -- ---- the fields of a fix
 
-pub fix-exactly : (f : FixFields) → (goodFixFields f ≡ true) ↔ IsFix f
+pub fix-exactly : (f : FixFields) → (goodFixFields f ≡ true) ↔ IsFixFields f
 unfolding goodFixFields
 fix-exactly f = (there, here)
   where
-    there : goodFixFields f ≡ true → IsFix f
+    there : goodFixFields f ≡ true → IsFixFields f
     there e =
         let a = need-inv (isTime (f .time)) false true _ false-true e in
         let b = need-inv (isLatitude (f .lat)) false true _ false-true (a .1) in
@@ -129,6 +129,6 @@ fix-exactly f = (there, here)
           gnss = altitude-exactly _ .0 (p .1);
         }
 
-    here : IsFix f → goodFixFields f ≡ true
+    here : IsFixFields f → goodFixFields f ≡ true
     here w =
         rw (time-exactly _ .1 (w .time), latitude-exactly _ .1 (w .lat), longitude-exactly _ .1 (w .lon), either-exactly _ _ _ .1 (w .validity), altitude-exactly _ .1 (w .pressure)) (altitude-exactly _ .1 (w .gnss))

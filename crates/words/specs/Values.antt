@@ -40,7 +40,7 @@ pub data IsAltitude (h : Height) : Type 0 where
   minus : (n : ℕ) → h .metres ≡ negℤ (pos n) → 1 ≤ n → n ≤ 9999 → IsAltitude h
 
 -- "B: time ..; latitude ..; longitude ..; A or V ..; pressure altitude ..; GNSS altitude .."
-pub record IsFix (f : FixFields) : Type 0 where
+pub record IsFixFields (f : FixFields) : Type 0 where
   pub time : IsTime (f .time)
   pub lat : IsLatitude (f .lat)
   pub lon : IsLongitude (f .lon)
