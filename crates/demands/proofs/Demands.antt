@@ -2,8 +2,9 @@
 -- BothWays, ReadersRefuse) and in the specs/ of words, the definitions that it is about in the rules. Assumes nothing.
 --
 -- How these definitions are the library's answers: `file::check` answers `verdict seal file (some (length table))` and leaves `tableAfter seal file table` (promise FileChecked),
--- `file::check_untabled` answers `verdict seal file none` (FileJudged); `cut::bounds` answers `boundsOf` (LineGiven), `Cursor::step` answers `stepAt` (LineStepped), the readers in `read` answer `fixSaid`, `columnSaid` and so on (FixGiven ..); the writers in
--- `write` keep `Written` (FixWritten ..), from which `BothWays` tells what they write (proofs/Promised). By the laws `only-..` of crate laws, nothing else would keep these promises.
+-- `file::check_untabled` answers `verdict seal file none` (FileJudged); `cut::bounds` answers `boundsOf` (LineGiven), `Cursor::step` answers `stepAt` (LineStepped), the readers
+-- in `read` answer `fixSaid`, `columnSaid` and so on (FixGiven ..), `degrees::degrees` answers `degreesOf` (DegreesGiven); the writers in `write` keep `Written` (FixWritten ..),
+-- from which `BothWays` tells what they write (proofs/Promised). By the laws `only-..` of crate only, nothing else would keep these promises.
 use Prim.Native.Nat.{ℕ, _≤_}
 use Prim.Native.Char.{code}
 use mathlib.Core.Bool.{Bool, true}

@@ -47,7 +47,7 @@ use Rattle.demands.proofs.Readers.{date-exactly, event-exactly, satelli
 use Rattle.demands.proofs.ByLayout.{presence-reads}
 use Rattle.demands.proofs.ByLayout as by-layout
 use Rattle.demands.proofs.LayoutLines.{IsTold, layout-said, layout-line-exactly, told}
-use Rattle.demands.proofs.Leading.{every, told-of, none-pass}
+use Rattle.demands.proofs.Leading.{told-of, none-pass}
 use Rattle.demands.proofs.Sections.{before}
 use Rattle.demands.proofs.Accepted.{lines-cut, accepted-as}
 use Rattle.demands.proofs.Columns.{columns-read}

@@ -1,6 +1,7 @@
 -- Document 01's rules of a whole file as a grammar, apart from any check: what a line of each kind is, which kind may follow which, and the order of times.
--- A line with a date, a time, a layout or a position is the text of such values within their limits. Of the rules it has only types, and the texts of values: the listed codes,
--- the characters and the limits are document 01's own words (crate words).
+-- A line with a date, a time, a layout or a position is the text of such values within their limits; the listed codes, the characters and the limits are document 01's own
+-- words (crate words). Of the rules it has types; the texts of values; `firstStart` and `layoutLetter`, which `starts-exactly` and `letters-exactly` hold; `layoutOf`,
+-- `entriesOf`, `emptyLayout` and `unused`, the parts of the answer's layouts; and `fieldsOf`, which `fix-fields-exactly` holds.
 use Prim.Native.Nat.{ℕ, _+_, _-_, _%_, _≤_, _<_}
 use Prim.Native.Char.{code}
 use mathlib.Core.Bool.{Bool, true, false, cond}
