@@ -8,9 +8,11 @@ use Rattle.rules.specs.Layouts.{emptyLayout}
 use Rattle.rules.specs.declared.Height.{Height}
 use Rattle.rules.specs.declared.Layout.{Layout}
 
+-- the layout of a family with no columns
 abbrev pub NoColumns : Layout → Type 0
 NoColumns r = r ≡ emptyLayout
 
+-- whether an altitude has no minus: it is zero or above
 abbrev pub NoMinus : Height → Bool → Type 0
 NoMinus h r = r ≡ nonNeg (h .metres)
 

@@ -20,23 +20,23 @@ use Rattle.answers.proofs.Laws.{no-room, given-said}
 use Rattle.refusals.specs.Table.{name}
 use Rattle.refusals.proofs.Words.{name-room}
 use Rattle.explain.specs.Explanation.{explanation}
-use Rattle.calls_explain.specs.Reasons.{reasonOf, numberedTold}
-use Rattle.calls_explain.specs.Calls.{nameOf, explainedOf, putSaid, textAfter, TextPut, lengthNumbers, TextAnswered}
+use Rattle.calls_explain.specs.Reasons.{reasonNumbered, numberedTold}
+use Rattle.calls_explain.specs.Calls.{nameOf, explainedOf, putSaid, textAfter, WordsPut, lengthNumbers, TextAnswered}
 use Rattle.calls_explain.specs.declared.Numbered.{Numbered}
 use Rattle.calls_explain.specs.declared.Numbered.the-variants as numbered
 
 -- ---- words put into a lent text
 
-pub no-words : (words : Option (List ℕ)) (text : List ℕ) (w : Wrote) → words ≡ none → wroteTold w ≡ no BadValue 0 → TextPut words text w text
+pub no-words : (words : Option (List ℕ)) (text : List ℕ) (w : Wrote) → words ≡ none → wroteTold w ≡ no BadValue 0 → WordsPut words text w text
 unfolding putSaid textAfter
 no-words words text w e h = rw e (record { told = h; bytes = refl })
 
 module _ (words text : List ℕ) where
-  pub words-no-room : (w : Wrote) → length text < length words → wroteTold w ≡ no NoRoom 0 → TextPut (some words) text w text
+  pub words-no-room : (w : Wrote) → length text < length words → wroteTold w ≡ no NoRoom 0 → WordsPut (some words) text w text
   unfolding putSaid textAfter
   words-no-room w h e = record { told = rw (lt-leb (length words) (length text) h) e; bytes = rw (lt-leb (length words) (length text) h) }
 
-  pub words-room : (n : ℕ) (after : List ℕ) → length words ≤ length text → PiecePut text 0 words n after → TextPut (some words) text (wrote.Next n) after
+  pub words-room : (n : ℕ) (after : List ℕ) → length words ≤ length text → PiecePut text 0 words n after → WordsPut (some words) text (wrote.Next n) after
   unfolding putSaid textAfter wroteTold
   words-room n after h p =
       let s = whole {out = text} {n = length text} refl h p in
@@ -49,30 +49,30 @@ name-shown reason p e = whole e (omega (arith, name-room reason)) p
 
 -- ---- the words of a number
 
-module _ (n : ℕ) (q : Numbered) (e : numberedTold q ≡ reasonOf n) where
-  unnumbered : q ≡ numbered.NoReason → reasonOf n ≡ none
+module _ (n : ℕ) (q : Numbered) (e : numberedTold q ≡ reasonNumbered n) where
+  unnumbered : q ≡ numbered.NoReason → reasonNumbered n ≡ none
   unfolding numberedTold
   unnumbered h = sym e ∙ rw h
 
-  has-reason : (reason : Reason) → q ≡ numbered.Is reason → reasonOf n ≡ some reason
+  has-reason : (reason : Reason) → q ≡ numbered.Is reason → reasonNumbered n ≡ some reason
   unfolding numberedTold
   has-reason reason h = sym e ∙ rw h
 
   module _ (text : List ℕ) (w : Wrote) where
-    pub no-name : q ≡ numbered.NoReason → wroteTold w ≡ no BadValue 0 → TextPut (nameOf n) text w text
+    pub no-name : q ≡ numbered.NoReason → wroteTold w ≡ no BadValue 0 → WordsPut (nameOf n) text w text
     unfolding nameOf
     no-name h g = rw (unnumbered h) (no-words none text w refl g)
 
-    pub name-put : (reason : Reason) (words after : List ℕ) → q ≡ numbered.Is reason → words ≡ name reason → TextPut (some words) text w after → TextPut (nameOf n) text w after
+    pub name-put : (reason : Reason) (words after : List ℕ) → q ≡ numbered.Is reason → words ≡ name reason → WordsPut (some words) text w after → WordsPut (nameOf n) text w after
     unfolding nameOf
     name-put reason words after h g p = rw (has-reason reason h, ← g) p
 
     module _ (file : List ℕ) (l b : ℕ) where
-      pub no-explanation : q ≡ numbered.NoReason → wroteTold w ≡ no BadValue 0 → TextPut (explainedOf file n l b) text w text
+      pub no-explanation : q ≡ numbered.NoReason → wroteTold w ≡ no BadValue 0 → WordsPut (explainedOf file n l b) text w text
       unfolding explainedOf
       no-explanation h g = rw (unnumbered h) (no-words none text w refl g)
 
-      pub explanation-put : (reason : Reason) (words after : List ℕ) → q ≡ numbered.Is reason → words ≡ explanation file (record { reason = reason; line = l; byte = b }) → TextPut (some words) text w after → TextPut (explainedOf file n l b) text w after
+      pub explanation-put : (reason : Reason) (words after : List ℕ) → q ≡ numbered.Is reason → words ≡ explanation file (record { reason = reason; line = l; byte = b }) → WordsPut (some words) text w after → WordsPut (explainedOf file n l b) text w after
       unfolding explainedOf
       explanation-put reason words after h g p = rw (has-reason reason h, ← g) p
 
@@ -82,7 +82,7 @@ module _ (words : Option (List ℕ)) (text answer : List ℕ) where
   pub text-no-room : (length answer ≡ size → ⊥) → TextAnswered words text answer 17 text answer
   text-no-room h = record { told = no-room _ _ h; bytes = rw (ne-eqb (length answer) size h) }
 
-  pub text-room : (w : Wrote) (n : Numbers) (r : ℕ) (textNow answerNow : List ℕ) → length answer ≡ size → TextPut words text w textNow → n ≡ inNumbers lengthNumbers (wroteTold w) → AnswerGiven answer n r answerNow → TextAnswered words text answer r textNow answerNow
+  pub text-room : (w : Wrote) (n : Numbers) (r : ℕ) (textNow answerNow : List ℕ) → length answer ≡ size → WordsPut words text w textNow → n ≡ inNumbers lengthNumbers (wroteTold w) → AnswerGiven answer n r answerNow → TextAnswered words text answer r textNow answerNow
   text-room w n r textNow answerNow h p e a =
       record {
         told = given-said _ answer lengthNumbers (wroteTold w) (putSaid words text) n r answerNow (p .told) e a;

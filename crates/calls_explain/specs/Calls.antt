@@ -14,17 +14,17 @@ use Rattle.rules.specs.declared.Wrote.{Wrote}
 use Rattle.refusals.specs.Table.{name}
 use Rattle.explain.specs.Explanation.{explanation}
 use Rattle.answers.specs.Answers.{size, inNumbers, hasRoom, AnswerGiven}
-use Rattle.calls_explain.specs.Reasons.{reasonOf}
+use Rattle.calls_explain.specs.Reasons.{reasonNumbered}
 
 -- ---- the words
 
 -- the name of the refusal that has a number
 unfoldable pub nameOf : ℕ → Option (List ℕ)
-nameOf n = given (reasonOf n) none λ r. some (name r)
+nameOf n = given (reasonNumbered n) none λ r. some (name r)
 
 -- what a person reads of the refusal of a file with a number, a line and a byte
 unfoldable pub explainedOf : List ℕ → ℕ → ℕ → ℕ → Option (List ℕ)
-explainedOf file n l b = given (reasonOf n) none λ r. some (explanation file (record { reason = r; line = l; byte = b }))
+explainedOf file n l b = given (reasonNumbered n) none λ r. some (explanation file (record { reason = r; line = l; byte = b }))
 
 -- ---- put at the start of a lent text
 
@@ -36,7 +36,7 @@ putSaid words text = given words (no BadValue 0) λ t. need (leb (length t) (len
 unfoldable pub textAfter : Option (List ℕ) → List ℕ → List ℕ
 textAfter words text = given words text λ t. need (leb (length t) (length text)) text λ _. t ++ drop (length t) text
 
-pub record TextPut (words : Option (List ℕ)) (text : List ℕ) (r : Wrote) (after : List ℕ) : Type 0 where
+pub record WordsPut (words : Option (List ℕ)) (text : List ℕ) (r : Wrote) (after : List ℕ) : Type 0 where
   pub told : wroteTold r ≡ putSaid words text
   pub bytes : after ≡ textAfter words text
 

@@ -9,8 +9,8 @@ use Rattle.calls_explain.specs.declared.Numbered.{Numbered}
 use Rattle.calls_explain.specs.declared.Numbered.the-variants as numbered
 
 -- "No. | Name": the reason that has a number; none where no refusal has it
-unfoldable pub reasonOf : ℕ → Option Reason
-reasonOf n =
+unfoldable pub reasonNumbered : ℕ → Option Reason
+reasonNumbered n =
     cond (eqb n 1) (some Empty)
     (cond (eqb n 2) (some TooLong)
     (cond (eqb n 3) (some LineEnd)

@@ -1,7 +1,7 @@
 // The calls from C that tell a refusal in words: its name, and its explanation with the line's text and the caret. Each is put at the start of a lent text.
 mod reasons;
 
-ghost use Rattle.calls_explain.specs.Calls.{nameOf, explainedOf, TextPut, NameAnswered, ExplainAnswered};
+ghost use Rattle.calls_explain.specs.Calls.{nameOf, explainedOf, WordsPut, NameAnswered, ExplainAnswered};
 ghost use mathlib.Core.Option.{some};
 ghost use Rattle.rules.specs.Writes.{wroteTold};
 ghost use Rattle.answers.specs.Answers.{inNumbers};
@@ -32,7 +32,7 @@ fn numbers(wrote: Wrote) -> Numbers
 
 // Words put at the start of a lent text, where it has room for them.
 fn put(words: &[u8], text: &mut [u8]) -> Wrote
-    ensures { λ r. ⌜ TextPut (some (now (words .entry))) (now (text .entry)) r (now (text .exit)) ⌝ }
+    ensures { λ r. ⌜ WordsPut (some (now (words .entry))) (now (text .entry)) r (now (text .exit)) ⌝ }
 {
     if text.len() < words.len() {
         return ending::refused(Reason::NoRoom);
@@ -41,7 +41,7 @@ fn put(words: &[u8], text: &mut [u8]) -> Wrote
 }
 
 fn put_name(number: u32, text: &mut [u8]) -> Wrote
-    ensures { λ r. ⌜ TextPut (nameOf number) (now (text .entry)) r (now (text .exit)) ⌝ }
+    ensures { λ r. ⌜ WordsPut (nameOf number) (now (text .entry)) r (now (text .exit)) ⌝ }
 {
     let Numbered::Is(reason) = reason_of(number) else {
         return ending::refused(Reason::BadValue);
@@ -52,7 +52,7 @@ fn put_name(number: u32, text: &mut [u8]) -> Wrote
 }
 
 fn put_explanation(file: &[u8], number: u32, line: u32, byte: u32, text: &mut [u8]) -> Wrote
-    ensures { λ r. ⌜ TextPut (explainedOf (now (file .entry)) number line byte) (now (text .entry)) r (now (text .exit)) ⌝ }
+    ensures { λ r. ⌜ WordsPut (explainedOf (now (file .entry)) number line byte) (now (text .entry)) r (now (text .exit)) ⌝ }
 {
     let Numbered::Is(reason) = reason_of(number) else {
         return ending::refused(Reason::BadValue);

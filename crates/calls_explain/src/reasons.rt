@@ -1,11 +1,11 @@
 // The reason of a refusal's number.
 ghost use mathlib.Core.Path.{_≡_};
-ghost use Rattle.calls_explain.specs.Reasons.{reasonOf, numberedTold};
+ghost use Rattle.calls_explain.specs.Reasons.{reasonNumbered, numberedTold};
 use crate::Numbered;
 use rules::Reason;
 
 pub(crate) fn reason_of(number: u32) -> Numbered
-    ensures { λ r. ⌜ numberedTold r ≡ reasonOf number ⌝ }
+    ensures { λ r. ⌜ numberedTold r ≡ reasonNumbered number ⌝ }
 {
     match number {
         1 => Numbered::Is(Reason::Empty),

@@ -2,8 +2,9 @@
 -- BothWays, ReadersRefuse) and in the specs/ of words, the definitions that it is about in the rules. Assumes nothing.
 --
 -- How these definitions are the library's answers: `file::check` answers `verdict seal file (some (length table))` and leaves `tableAfter seal file table` (promise FileChecked),
--- `file::check_untabled` answers `verdict seal file none` (FileJudged); `cut::bounds` answers `boundsOf` (LineGiven), `Cursor::step` answers `stepAt` (LineStepped), the readers in `read` answer `fixSaid`, `columnSaid` and so on (FixGiven ..); the writers in
--- `write` keep `Written` (FixWritten ..), from which `BothWays` tells what they write (proofs/Promised). By the laws `only-..` of crate laws, nothing else would keep these promises.
+-- `file::check_untabled` answers `verdict seal file none` (FileJudged); `cut::bounds` answers `boundsOf` (LineGiven), `Cursor::step` answers `stepAt` (LineStepped), the readers
+-- in `read` answer `fixSaid`, `columnSaid` and so on (FixGiven ..), `degrees::degrees` answers `degreesOf` (DegreesGiven); the writers in `write` keep `Written` (FixWritten ..),
+-- from which `BothWays` tells what they write (proofs/Promised). By the laws `only-..` of crate only, nothing else would keep these promises.
 use Prim.Native.Nat.{ℕ, _≤_}
 use Prim.Native.Char.{code}
 use mathlib.Core.Bool.{Bool, true}
@@ -18,6 +19,7 @@ use Rattle.rules.specs.Refusals.{says, refuses}
 use Rattle.rules.specs.Files.{verdict}
 use Rattle.rules.specs.Chars.{isValid, isCode}
 use Rattle.rules.specs.Listed.{widthFits, keepsRule}
+use Rattle.rules.specs.Degrees.{degreesOf}
 use Rattle.rules.specs.Layouts.{isSaid, allowed}
 use Rattle.rules.specs.Reads.{fixSaid, extraSaid, dateSaid, eventSaid, satellitesSaid, headSaid, pointSaid, layoutSaid}
 use Rattle.rules.specs.Writes.{fixText, extraText, headText, pointText, layoutText, isFix, isExtra, isHead, isPoint}
@@ -27,6 +29,8 @@ use Rattle.rules.specs.declared.Family.{Family}
 use Rattle.rules.specs.declared.Fix.{Fix}
 use Rattle.rules.specs.declared.Head.{Head}
 use Rattle.rules.specs.declared.Point.{Point}
+use Rattle.rules.specs.declared.Position.{Position}
+use Rattle.rules.specs.declared.Degrees.{Degrees}
 use Rattle.rules.specs.declared.Flight.{Flight}
 use Rattle.rules.specs.declared.Seal.{Seal}
 use Rattle.rules.specs.declared.Seal.the-variants as seal
@@ -39,15 +43,15 @@ use Rattle.trips.proofs.Extras.{extra-trip, extra-good}
 use Rattle.trips.proofs.Heads.{head-trip, head-good}
 use Rattle.trips.proofs.Points.{point-trip, point-good}
 use Rattle.words.specs.Characters.{IsValid, IsCode}
-use Rattle.words.specs.Codes.{Listing, Holds}
+use Rattle.words.specs.Codes.{RowSays, Holds}
 use Rattle.words.proofs.Characters.{valid-exactly, code-exactly}
 use Rattle.words.proofs.Codes.{width-exactly, rule-exactly}
-use Rattle.demands.specs.Grammar.{IsDay, IsDateLine, IsELine, IsFLine, IsLayoutLine, IsBLine, IsKLine, IsHeadLine, IsPointLine, linesIn, Fits, Meets, flightOf}
+use Rattle.demands.specs.Grammar.{IsDay, IsDateLine, IsELine, IsFLine, IsLayoutLine, IsBLine, IsKLine, IsColumned, IsHeadLine, IsPointLine, linesIn, Fits, Meets, flightOf}
 use Rattle.demands.specs.Faults.{PassAfter, Refused}
 use Rattle.demands.specs.FieldTexts.{FieldsTold}
 use Rattle.demands.specs.Coming.{Meant}
-use Rattle.demands.specs.Readings.{Readable}
-use Rattle.demands.specs.ReadersRefuse.{ReadersRefuse, NamesMeant}
+use Rattle.demands.specs.Readings.{ReadsColumns, OnMap, Readable}
+use Rattle.demands.specs.ReadersRefuse.{ReadersRefuse, NamesMeant, EndingsMeant}
 use Rattle.demands.specs.BothWays.{Slotted, ReadsAs, BothWays}
 use Rattle.demands.proofs.Leading.{fits-there, fits-so}
 use Rattle.demands.proofs.Accepted as acceptance
@@ -58,7 +62,7 @@ use Rattle.demands.proofs.Laws.{day-exactly}
 use Rattle.demands.proofs.Reading as reading
 use Rattle.demands.proofs.LayoutLines.{layout-exactly, layout-line-exactly}
 use Rattle.demands.proofs.EachLine.{fix-reads, fix-read, extra-reads, extra-read, head-reads, head-read, point-reads, point-read}
-use Rattle.demands.proofs.Readers.{date-exactly, event-exactly, satellite-exactly, some-line}
+use Rattle.demands.proofs.Readers.{date-exactly, event-exactly, satellite-exactly, map-exactly, some-line}
 use Rattle.demands.proofs.Writers.{both-ways, trip-ways}
 use Rattle.demands.proofs.ReadersRefuse as readers
 use Rattle.demands.proofs.Worked as worked
@@ -107,10 +111,10 @@ codes-meant = code-exactly
 pub dates-meant : (d : Date) → (isDate d ≡ true) ↔ IsDay d
 dates-meant = day-exactly
 
-pub widths-meant : (x w : ℕ) → (widthFits x w ≡ true) ↔ Listing x (λ p. (p .least ≤ w) × (w ≤ p .most))
+pub widths-meant : (x w : ℕ) → (widthFits x w ≡ true) ↔ RowSays x (λ p. (p .least ≤ w) × (w ≤ p .most))
 widths-meant = width-exactly
 
-pub texts-meant : (x : ℕ) (t : List ℕ) → (keepsRule x t ≡ true) ↔ Listing x (λ p. Holds (p .name) t)
+pub texts-meant : (x : ℕ) (t : List ℕ) → (keepsRule x t ≡ true) ↔ RowSays x (λ p. Holds (p .name) t)
 texts-meant = rule-exactly
 
 -- ---- the grammar by itself
@@ -147,6 +151,10 @@ module _ (i : Slotted) (l : List ℕ) where
   pub extras-exactly : allowed 8 (i .layout) ≡ true → (t : ℕ) → (extraSaid l (i .layout) ≡ says t) ↔ IsKLine (i .layout) t l
   extras-exactly g t = (extra-read (i .layout) (record { right = g; full = i .slots }) t l, extra-reads (i .layout) (record { right = g; full = i .slots }) t l)
 
+-- and the columns of such a line: the text and the number of each code that the layout carries, 19 for every other code
+pub columns-exactly : (family : Family) (i : Slotted) → allowed (firstStart family) (i .layout) ≡ true → (t : ℕ) (l : List ℕ) → IsColumned family (i .layout) t l → ReadsColumns family (i .layout) l
+columns-exactly family i g t l w = reading.line-columns family (i .layout) t l (record { right = g; full = i .slots }) w
+
 -- I lines and J lines
 pub layouts-exactly : (family : Family) (layout : Layout) (l : List ℕ) → (layoutSaid family l ≡ says layout) ↔ IsLayoutLine family layout l
 layouts-exactly = layout-line-exactly
@@ -171,6 +179,10 @@ heads-exactly h l = (head-read h l, head-reads h l)
 
 pub points-exactly : (p : Point) (l : List ℕ) → (pointSaid l ≡ says p) ↔ ((w : IsPointLine l) × (w .point ≡ p))
 points-exactly p l = (point-read p l, λ w. point-reads l (w .0) ∙ ap says (w .1))
+
+-- two positions on the map
+pub degrees-exactly : (lat lon : Position) (d : Degrees) → (degreesOf lat lon ≡ says d) ↔ OnMap lat lon d
+degrees-exactly = map-exactly
 
 -- ---- lines read and written: of each kind `read-then-write`, `write-then-read` and `bad-value-exactly` (specs/BothWays); 35, 7, 25 and 18 bytes stand before the columns or
 -- the text
@@ -202,3 +214,7 @@ readers-refuse-first = readers.readers-refuse
 -- what 19 and 20 test, apart from how
 pub names-meant : NamesMeant
 names-meant = readers.names-meant
+
+-- what 17 tests of a line by its number and of a reading place: where CR LF stands
+pub endings-meant : EndingsMeant
+endings-meant = readers.endings-meant

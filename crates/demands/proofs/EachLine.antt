@@ -40,8 +40,8 @@ use Rattle.trips.proofs.Texts.{clean-valid}
 use Rattle.trips.proofs.LineTrip.{line-limits}
 use Rattle.rules.proofs.Fixes.{fields-of-fix}
 use Rattle.trips.proofs.Columned.{line-timed, timed-line, value-said, said-by, by-said}
-use Rattle.trips.proofs.Fixes.{fix-front, fix-fields, fix-trip}
-use Rattle.trips.proofs.Extras.{extra-front, extra-trip}
+use Rattle.trips.proofs.Fixes.{fix-fields, fix-trip}
+use Rattle.trips.proofs.Extras.{extra-trip}
 use Rattle.trips.proofs.Heads.{head-trip, head-within}
 use Rattle.trips.proofs.Heads as heads
 use Rattle.trips.proofs.Points.{point-trip}

@@ -34,7 +34,7 @@ use Rattle.rules.proofs.Inverse.{false-true, none-some, need-inv, and-inv, not-
 use Rattle.laws.proofs.Passing.{roleIn, leading-so, leading-inv, Onward, Leaves, judged, judged-so}
 use Rattle.laws.proofs.Counted.{judged-more}
 use Rattle.laws.proofs.Passing as passes
-use Rattle.demands.specs.Coming.{isAmong, lettersBefore}
+use Rattle.demands.specs.Coming.{isAmong, lettersBefore, timedLetters}
 use Rattle.demands.specs.FieldTexts.{Letter}
 use Rattle.demands.specs.Grammar.{Follows, IsALine, IsDateLine, IsHLine, IsLayoutLine, IsHeadLine, IsPointLine, IsLLine, IsGLine, Timed, columned, event, satellites, Untimed, differential, remark, other, AtMostOne, Parts, Fits}
 use Rattle.sound.proofs.Placed.{sound-empty}
@@ -162,7 +162,7 @@ isSealing r = eqb (leadsTo r) afterG
 
 -- the tests of a first byte by the role, and those that ask for a family
 abbrev Plainly : Role → ℕ → Type 0
-Plainly r b = (eqb b (code "C") ≡ isDeclaring r) × (eqb b (code "G") ≡ isSealing r) × (isAmong (bytes "BEFK") b ≡ isTimed r)
+Plainly r b = (eqb b (code "C") ≡ isDeclaring r) × (eqb b (code "G") ≡ isSealing r) × (isAmong timedLetters b ≡ isTimed r)
 
 abbrev ByFamily : Role → ℕ → Family → Type 0
 ByFamily r b f = (eqb b (lineLetter f) ≡ isOf f r) × (eqb b (layoutLetter f) ≡ isTelling f r) × (isAmong (lettersBefore f) b ≡ leb (leadsTo r) (afterLayout f - 1))

@@ -1,18 +1,17 @@
 -- Every file has one answer, in the grammar's words; and what is left in what was lent: in the table the offsets of the lines before the faulty one, the rest as lent, and in
 -- the output of a refused write what was there. Assumes nothing.
-use Prim.Native.Nat.{ℕ, _+_, _-_, _≤_}
+use Prim.Native.Nat.{ℕ, _+_, _-_}
 use mathlib.Core.Bool.{Bool}
 use mathlib.Core.List.{List, []}
 use mathlib.Core.Logic.{_⊎_, inl, inr}
 use mathlib.Core.Option.{Option, none, some}
 use mathlib.Core.Path.{_≡_, refl, sym, _∙_, ap, subst}
-use native.Mathlib.Nat.{zero-add}
 use native.Mathlib.Omega.{arith}
-use lib.ListN.{length, getD, take}
+use lib.ListN.{length}
 use Rattle.rules.specs.Refusals.{number, Said, says, refuses, outcome, outcomeTold, valueOr}
 use Rattle.rules.specs.Layouts.{emptyLayout}
 use Rattle.rules.specs.Order.{noFlight}
-use Rattle.rules.specs.Split.{Lines, end, linesOf, offsets, lineText}
+use Rattle.rules.specs.Split.{end, linesOf, lineText}
 use Rattle.rules.specs.Files.{verdict, goodLines, tableAfter}
 use Rattle.rules.specs.Reads.{layoutSaid, headRest, pointRest, columnTextSaid}
 use Rattle.rules.specs.Writes.{wroteTold}
@@ -22,13 +21,13 @@ use Rattle.rules.specs.declared.Seal.{Seal}
 use Rattle.rules.specs.declared.Checked.{Checked}
 use Rattle.rules.specs.declared.Wrote.{Wrote}
 use Rattle.rules.proofs.Inverse.{refuses-says}
-use Rattle.laws.proofs.Counted.{goodIn, table-length, entry-put, entry-kept}
+use Rattle.laws.proofs.Counted.{goodIn}
 use Rattle.demands.specs.Grammar.{linesIn, Fits, Meets, flightOf}
 use Rattle.demands.specs.Faults.{Before, Refused, empty, too-long, line-end, in-line, table-full, ends-early}
 use Rattle.demands.specs.Left.{OneAnswer, linesBefore, FileLeaves, WriteLeaves, NoValue}
 use Rattle.demands.specs.Readings.{Entered}
 use Rattle.demands.proofs.Accepted.{lines-cut}
-use Rattle.demands.proofs.Sections.{before, lines-joined}
+use Rattle.demands.proofs.Sections.{lines-joined}
 use Rattle.demands.proofs.Reading.{entered}
 use Rattle.demands.proofs.Writers.{Answer, bad, full, wrote, answer}
 use Rattle.demands.proofs.Demands.{accepted-as, refused-first}

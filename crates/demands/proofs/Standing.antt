@@ -31,7 +31,7 @@ use Rattle.laws.proofs.Walking.{left-clock}
 use Rattle.trips.proofs.Heads as heads
 use Rattle.demands.specs.Grammar.{IsHeadLine, IsPointLine, AtMostOne, absent, laid, beginning}
 use Rattle.demands.specs.Grammar as grammar
-use Rattle.demands.specs.Coming.{orZero, isAmong, only, without, endsWith, pointsOf, isOpen, lettersBefore, those, firstEntries, lastTime}
+use Rattle.demands.specs.Coming.{orZero, isAmong, only, without, endsWith, pointsOf, isOpen, lettersBefore, those, firstEntries, timedLetters, lastTime}
 use Rattle.demands.specs.FieldTexts.{Letter}
 use Rattle.sound.proofs.Each.{each-join}
 use Rattle.demands.proofs.EachLine.{head-reads, head-said, head-there, point-there}
@@ -111,17 +111,17 @@ those-next x l (a ∷ ls) = go (eqb (getD a 0 0) x) (those-next x l ls)
 
 module _ (l : List ℕ) where
   -- the last line's time, where it has one
-  time-next : (ls : List (List ℕ)) → lastTime (ls ++ (l ∷ [])) ≡ given (cond (isAmong (bytes "BEFK") (getD l 0 0)) (timeAt l 1) none) (lastTime ls) (λ t. some t)
+  time-next : (ls : List (List ℕ)) → lastTime (ls ++ (l ∷ [])) ≡ given (cond (isAmong timedLetters (getD l 0 0)) (timeAt l 1) none) (lastTime ls) (λ t. some t)
   unfolding lastTime bytes
-  time-next [] = go (cond (isAmong (bytes "BEFK") (getD l 0 0)) (timeAt l 1) none)
+  time-next [] = go (cond (isAmong timedLetters (getD l 0 0)) (timeAt l 1) none)
     where
       go : (o : Option ℕ) → o ≡ given o none (λ t. some t)
       go (some t) = refl
       go none = refl
-  time-next (a ∷ ls) = rw (time-next ls) (go (cond (isAmong (bytes "BEFK") (getD l 0 0)) (timeAt l 1) none))
+  time-next (a ∷ ls) = rw (time-next ls) (go (cond (isAmong timedLetters (getD l 0 0)) (timeAt l 1) none))
     where
-      go : (o : Option ℕ) → given (given o (lastTime ls) (λ t. some t)) (cond (isAmong (bytes "BEFK") (getD a 0 0)) (timeAt a 1) none) (λ t. some t)
-          ≡ given o (given (lastTime ls) (cond (isAmong (bytes "BEFK") (getD a 0 0)) (timeAt a 1) none) (λ t. some t)) (λ t. some t)
+      go : (o : Option ℕ) → given (given o (lastTime ls) (λ t. some t)) (cond (isAmong timedLetters (getD a 0 0)) (timeAt a 1) none) (λ t. some t)
+          ≡ given o (given (lastTime ls) (cond (isAmong timedLetters (getD a 0 0)) (timeAt a 1) none) (λ t. some t)) (λ t. some t)
       go (some t) = refl
       go none = refl
 

@@ -28,7 +28,7 @@ use Rattle.words.proofs.Characters.{codes-exactly, word-exactly}
 use Rattle.words.proofs.Codes.{width-exactly, rule-exactly}
 use Rattle.words.proofs.Values.{fix-exactly}
 use Rattle.demands.specs.Coming.{isAmong}
-use Rattle.demands.specs.Grammar.{IsText, july, AtMostOne, absent, given, Timed, columned, event, satellites, Items, done, timed, untimed, Body, undeclared, declared, none, column, linesIn, Meets, joinLines}
+use Rattle.demands.specs.Grammar.{IsText, july, absent, given, Timed, columned, event, satellites, Items, done, timed, untimed, Body, undeclared, declared, none, column, linesIn, Meets, joinLines}
 use Rattle.laws.proofs.Splitting.{lines-are-text}
 use Rattle.demands.proofs.Sections.{text-is}
 use Rattle.sound.proofs.Each.{each-map, each-join, each-cut}

@@ -1,6 +1,7 @@
 -- Document 01's rules of a whole file as a grammar, apart from any check: what a line of each kind is, which kind may follow which, and the order of times.
--- A line with a date, a time, a layout or a position is the text of such values within their limits. Of the rules it has only types, and the texts of values: the listed codes,
--- the characters and the limits are document 01's own words (crate words).
+-- A line with a date, a time, a layout or a position is the text of such values within their limits; the listed codes, the characters and the limits are document 01's own
+-- words (crate words). Of the rules it has types; the texts of values; `firstStart` and `layoutLetter`, which `starts-exactly` and `letters-exactly` hold; `layoutOf`,
+-- `entriesOf`, `emptyLayout` and `unused`, the parts of the answer's layouts; and `fieldsOf`, which `fix-fields-exactly` holds.
 use Prim.Native.Nat.{ℕ, _+_, _-_, _%_, _≤_, _<_}
 use Prim.Native.Char.{code}
 use mathlib.Core.Bool.{Bool, true, false, cond}
@@ -33,8 +34,8 @@ use Rattle.rules.specs.declared.Flight.{Flight}
 use Rattle.rules.specs.declared.Seal.{Seal}
 use Rattle.rules.specs.declared.Seal.the-variants as seal
 use Rattle.words.specs.Characters.{IsValid, IsCode, CodesAt}
-use Rattle.words.specs.Codes.{Listing, Holds}
-use Rattle.words.specs.Values.{IsTime, IsLatitude, IsLongitude, IsFix}
+use Rattle.words.specs.Codes.{RowSays, Holds}
+use Rattle.words.specs.Values.{IsTime, IsLatitude, IsLongitude, IsFixFields}
 
 -- ---- 'Lines' and 'Fields': a line of each kind, without its CR LF
 
@@ -99,7 +100,7 @@ pub record IsEntry (start : ℕ) (e : Entry) : Type 0 where
   pub ends : e .first ≤ e .last
   pub spelt : e .last ≤ 99
   pub word : Each IsCode (codeText (e .code))
-  pub wide : Listing (e .code) (λ p. (p .least ≤ widthOf e) × (widthOf e ≤ p .most))
+  pub wide : RowSays (e .code) (λ p. (p .least ≤ widthOf e) × (widthOf e ≤ p .most))
 
 -- "each next starts one past the last finish (h)"; "No code comes twice in one layout."
 abbrev pub Tiles : ℕ → List Entry → Type 0
@@ -175,7 +176,7 @@ pub data Columns : List Entry → List ℕ → Type 0 where
   column : {e : Entry} {es : List Entry} {t : List ℕ} (c : List ℕ)
       → length c ≡ widthOf e
       → Each (IsValid false) c
-      → Listing (e .code) (λ p. Holds (p .name) c)
+      → RowSays (e .code) (λ p. Holds (p .name) c)
       → Columns es t
       → Columns (e ∷ es) (c ++ t)
 
@@ -184,7 +185,7 @@ pub data Columns : List Entry → List ℕ → Type 0 where
 pub record IsBLine (layout : Layout) (f : Fix) (l : List ℕ) : Type 0 where
   pub tail : List ℕ
   pub text : l ≡ fixText f tail
-  pub fields : IsFix (fieldsOf f)
+  pub fields : IsFixFields (fieldsOf f)
   pub columns : Columns (entriesOf layout) tail
 
 -- "K: time 2 to 7, columns from 8."; "B and K exactly what their layout gives"

@@ -1,10 +1,10 @@
 -- Document 01, 'Refusal numbers': that every input has one answer, and what a call leaves in what was lent to it, also where it refuses.
-use Prim.Native.Nat.{ℕ, _≤_, _<_}
+use Prim.Native.Nat.{ℕ}
 use mathlib.Core.List.{List, []}
 use mathlib.Core.Logic.{_⊎_}
 use mathlib.Core.Option.{Option, some}
 use mathlib.Core.Path.{_≡_}
-use lib.ListN.{length, getD, take}
+use lib.ListN.{length}
 use Rattle.rules.specs.Refusals.{Said, says, refuses, outcomeTold}
 use Rattle.rules.specs.Layouts.{emptyLayout}
 use Rattle.rules.specs.Order.{noFlight}

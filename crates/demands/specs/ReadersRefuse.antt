@@ -1,25 +1,28 @@
 -- Document 01, the paragraph after the refusal table: what a reader refuses first. "A line of another kind than the reader's is 17. Line readers repeat the checks of 7 to 13
 -- after 17, with 0 for the line number; then 19, then 20. A refused reading returns no value." Each reader has its checks as a list in that order; those of 7 to 13 stand in
 -- Checks, kind by kind.
-use Prim.Native.Nat.{ℕ}
+use Prim.Native.Nat.{ℕ, zero, suc, _-_}
 use Prim.Native.Char.{code}
-use mathlib.Core.Bool.{true, false, cond}
+use mathlib.Core.Bool.{Bool, true, false, _&&_, _||_, cond}
 use mathlib.Core.List.{List, [], _∷_, _++_}
 use mathlib.Core.Logic.{_↔_}
 use mathlib.Core.Path.{_≡_}
-use lib.Dec.{eqb}
-use lib.ListN.{getD}
+use lib.Dec.{eqb, leb}
+use lib.ListN.{length, getD, drop}
 use Rattle.rules.specs.Choice.{Each}
 use Rattle.rules.specs.Refusals.{Said, says, refuses}
 use Rattle.rules.specs.Numbers.{wholeOf}
+use Rattle.rules.specs.Degrees.{degreesOf}
 use Rattle.rules.specs.Listed.{packedOf, codeText}
 use Rattle.rules.specs.Layouts.{Span, spanOf, entriesOf, allowed, columnText, lengthSaid, lookSaid, presenceSaid}
+use Rattle.rules.specs.Split.{boundsOf, stepAt}
 use Rattle.rules.specs.Reads.{fixSaid, extraSaid, eventSaid, satellitesSaid, dateSaid, layoutSaid, headSaid, pointSaid, columnSaid, numberSaid}
 use Rattle.rules.specs.declared.Signed.{Signed}
 use Rattle.rules.specs.declared.Entry.{Entry}
 use Rattle.rules.specs.declared.Layout.{Layout}
 use Rattle.rules.specs.declared.Family.{Family}
 use Rattle.rules.specs.declared.Family.the-variants as family
+use Rattle.rules.specs.declared.Position.{Position}
 use Rattle.demands.specs.Checks.{Check, check, isThere, AllPass, FailsFirst, hasCode, layoutChecks, dateChecks, headChecks, pointChecks, lineChecks, eventChecks, satelliteChecks}
 use Rattle.demands.specs.BothWays.{Slotted}
 use Rattle.demands.specs.Readings.{Spells, IsName}
@@ -74,6 +77,38 @@ abbrev pub layoutReader : Family → List ℕ → List Check
 layoutReader family.B l = kindCheck (code "I") l ∷ layoutChecks family.B l
 layoutReader family.K l = kindCheck (code "J") l ∷ layoutChecks family.K l
 
+-- ---- a line by its number, a reading place, and a pair of degrees
+
+-- behind n bytes stand CR and LF
+unfoldable pub isEnding : ℕ → List ℕ → Bool
+isEnding n [] = false
+isEnding zero (b ∷ l) = eqb b 13 && eqb (getD l 0 0) 10
+isEnding (suc n) (b ∷ l) = isEnding n l
+
+-- CR and LF stand somewhere
+unfoldable pub hasEnding : List ℕ → Bool
+hasEnding [] = false
+hasEnding (b ∷ l) = isEnding 0 (b ∷ l) || hasEnding l
+
+-- "a table entry that is neither 0 nor just past a CR LF, or with no CR LF from there on, is 17"
+abbrev pub entryReader : List ℕ → ℕ → List Check
+entryReader file o = check 17 0 (eqb o 0 || (leb 2 o && isEnding (o - 2) file)) ∷ check 17 0 (hasEnding (drop o file)) ∷ []
+
+-- "A line is asked for with the file, the table and a line number; a number of 0 or past the table's entries .. is 17"
+abbrev pub numberedReader : List ℕ → List ℕ → ℕ → List Check
+numberedReader file table n = check 17 0 (leb 1 n) ∷ check 17 0 (leb n (length table)) ∷ entryReader file (getD table (n - 1) 0)
+
+-- "a place past the end, or one with no CR LF after it though bytes remain, is 17"
+abbrev pub stepReader : List ℕ → ℕ → List Check
+stepReader file at = check 17 0 (leb at (length file)) ∷ check 17 0 (eqb at (length file) || hasEnding (drop at file)) ∷ []
+
+-- "17 BAD_VALUE: value .. given is not allowed"; "Latitude at most 5,400,000, longitude at most 10,800,000", "N or S", "E or W"
+abbrev pub degreesReader : Position → Position → List Check
+degreesReader lat lon =
+    check 17 0 (leb (lat .count) 5400000 && (eqb (lat .letter) (code "N") || eqb (lat .letter) (code "S")))
+    ∷ check 17 0 (leb (lon .count) 10800000 && (eqb (lon .letter) (code "E") || eqb (lon .letter) (code "W")))
+    ∷ []
+
 -- ---- what is claimed, reader by reader
 
 pub record ReadersRefuse : Type 0 where
@@ -94,8 +129,23 @@ pub record ReadersRefuse : Type 0 where
   pub long : (f : Family) (i : Layout) → RefusesFirst (layoutCheck f i ∷ []) (lengthSaid f i)
   pub look : (f : Family) (i : Layout) (name : List ℕ) → RefusesFirst (layoutCheck f i ∷ nameCheck i name ∷ []) (lookSaid f i name)
   pub presence : (i : Layout) → RefusesFirst (layoutCheck family.B i ∷ []) (presenceSaid i)
+  -- a line by its number, with any table; a step from any place; any two positions on the map
+  pub numbered : (file table : List ℕ) (n : ℕ) → RefusesFirst (numberedReader file table n) (boundsOf file table n)
+  pub step : (file : List ℕ) (at : ℕ) → RefusesFirst (stepReader file at) (stepAt file at)
+  pub degrees : (lat lon : Position) → RefusesFirst (degreesReader lat lon) (degreesOf lat lon)
 
 -- what 19 and 20 test, apart from how: a code is absent where no entry is of that name, and a column is a number where its text spells one
 pub record NamesMeant : Type 0 where
   pub absent : (es : List Entry) (name : List ℕ) → IsName name → (hasCode es (packedOf name) ≡ false) ↔ Each (λ e. codeText (e .code) ≡ name → ⊥) es
   pub spelt : (t : List ℕ) → (isThere (wholeOf t) ≡ true) ↔ ((z : Signed) × Spells t z)
+
+-- CR LF stands in these bytes, between those before it and those after it
+pub record Ending (l : List ℕ) : Type 0 where
+  pub before : List ℕ
+  pub after : List ℕ
+  pub order : l ≡ before ++ (13 ∷ 10 ∷ after)
+
+-- what the tests of CR LF mean, apart from how: one stands behind n bytes, and one stands somewhere
+pub record EndingsMeant : Type 0 where
+  pub there : (n : ℕ) (l : List ℕ) → (isEnding n l ≡ true) ↔ ((w : Ending l) × (length (w .before) ≡ n))
+  pub somewhere : (l : List ℕ) → (hasEnding l ≡ true) ↔ Ending l

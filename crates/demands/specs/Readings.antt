@@ -11,7 +11,7 @@ use Rattle.rules.specs.Families.{firstStart, layoutOf}
 use Rattle.rules.specs.Choice.{part, Each}
 use Rattle.rules.specs.Refusals.{Said, says, refuses, no}
 use Rattle.rules.specs.Numbers.{digitsOf}
-use Rattle.rules.specs.Degrees.{angle, degreesOf}
+use Rattle.rules.specs.Degrees.{degreesOf}
 use Rattle.rules.specs.Listed.{codeText}
 use Rattle.rules.specs.Layouts.{emptyLayout, spanOf, entriesOf, columnText, lengthSaid, lookSaid, presenceSaid}
 use Rattle.rules.specs.Split.{boundsOf, lineText, stepAt}
@@ -24,12 +24,14 @@ use Rattle.rules.specs.declared.Layout.{Layout}
 use Rattle.rules.specs.declared.Family.{Family}
 use Rattle.rules.specs.declared.Family.the-variants as family
 use Rattle.rules.specs.declared.Position.{Position}
+use Rattle.rules.specs.declared.Degrees.{Degrees}
 use Rattle.rules.specs.declared.Fix.{Fix}
 use Rattle.rules.specs.declared.Head.{Head}
 use Rattle.rules.specs.declared.Layouts.{Layouts}
 use Rattle.rules.specs.declared.Flight.{Flight}
 use Rattle.rules.specs.declared.Seal.{Seal}
 use Rattle.words.specs.Codes.{Row, rows}
+use Rattle.words.specs.Values.{IsLatitude, IsLongitude, IsAngle}
 use Rattle.demands.specs.Grammar.{IsText, IsDateLine, widthOf, IsLayoutLine, IsELine, IsFLine, IsBLine, IsKLine, IsHeadLine, IsPointLine, joinLines, beginning}
 use Rattle.demands.specs.Coming.{sizeOf}
 
@@ -104,16 +106,25 @@ pub record ReadsLayout (f : Family) (layout : Layout) : Type 0 where
 
 -- ---- "any fix, column, K line or declaration read"
 
--- "For the map, a position also comes as a pair of f64 degrees": of positions that were read it is never refused
-abbrev pub OnMap : Position → Position → Type 0
-OnMap lat lon = degreesOf lat lon ≡ says (record { lat = angle lat; lon = angle lon })
+-- "For the map, a position also comes as a pair of f64 degrees": a latitude and a longitude within their limits, and of each its degrees
+pub record OnMap (lat lon : Position) (d : Degrees) : Type 0 where
+  pub latitude : IsLatitude lat
+  pub longitude : IsLongitude lon
+  pub lat-angle : IsAngle lat (d .lat)
+  pub lon-angle : IsAngle lon (d .lon)
+
+-- of positions that were read it is never refused
+pub record ReadsMap (lat lon : Position) : Type 0 where
+  pub degrees : Degrees
+  pub is : OnMap lat lon degrees
+  pub reads : degreesOf lat lon ≡ says degrees
 
 -- a B line reads, by the I layout, as the fix whose line it is
 pub record ReadsFix (layout : Layout) (l : List ℕ) : Type 0 where
   pub fix : Fix
   pub is : IsBLine layout fix l
   pub reads : fixSaid l layout ≡ says fix
-  pub map : OnMap (fix .lat) (fix .lon)
+  pub map : ReadsMap (fix .lat) (fix .lon)
   pub columns : ReadsColumns family.B layout l
 
 -- a K line, by the J layout, as the time whose line it is
@@ -151,7 +162,7 @@ pub record ReadsHead (h : Head) (l : List ℕ) : Type 0 where
 pub record ReadsPoint (l : List ℕ) : Type 0 where
   pub is : IsPointLine l
   pub reads : pointSaid l ≡ says (is .point)
-  pub map : OnMap (is .point .lat) (is .point .lon)
+  pub map : ReadsMap (is .point .lat) (is .point .lon)
   pub text : pointRest l (pointSaid l) ≡ is .rest
 
 -- a line of another kind than C

@@ -20,8 +20,8 @@ textBehind (suc k) (line t ls) file = textBehind k ls (drop (length t + 2) file)
 unfoldable pub textOf : List ℕ → ℕ → List ℕ
 textOf file n = cond (eqb n 0) [] (textBehind (n - 1) (linesOf file) file)
 
-abbrev pub LineTextGiven : List ℕ → ℕ → List ℕ → Type 0
-LineTextGiven file n r = r ≡ textOf file n
+abbrev pub FaultyTextGiven : List ℕ → ℕ → List ℕ → Type 0
+FaultyTextGiven file n r = r ≡ textOf file n
 
 -- ---- where the line starts and where its text ends
 

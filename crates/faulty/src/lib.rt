@@ -1,7 +1,7 @@
 // The text of any line of a file, also of one that is refused: the lines need not end with CR LF.
 ghost use Prim.Native.Nat.{_≤_};
 ghost use lib.ListN.{length};
-ghost use Rattle.faulty.specs.Faulty.{LineTextGiven, LineStartGiven, TextEndGiven};
+ghost use Rattle.faulty.specs.Faulty.{FaultyTextGiven, LineStartGiven, TextEndGiven};
 use cut::Ended;
 use cut::line_end;
 
@@ -34,7 +34,7 @@ fn text_end(file: &[u8], start: usize) -> usize
 
 // The text of line n, without its line end, also where that is not CR LF; no bytes where no line has that number.
 pub fn line_text(file: &[u8], n: u32) -> &[u8]
-    ensures { λ r. ⌜ LineTextGiven (now (file .entry)) n (now r) ⌝ }
+    ensures { λ r. ⌜ FaultyTextGiven (now (file .entry)) n (now r) ⌝ }
 {
     if n == 0 {
         return &file[0..0];

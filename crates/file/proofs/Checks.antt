@@ -25,7 +25,7 @@ use Rattle.cut.specs.Steps.{unplaced}
 use Rattle.cut.proofs.Places.{refuses-unplaced}
 use Rattle.order.specs.Turns.{roomOf, entered, Here}
 use Rattle.order.proofs.Turns.{put-long, here-few, here-next}
-use Rattle.turn.specs.Turns.{Place, turnAt, Turned, TurnTaken}
+use Rattle.turn.specs.Turns.{Reached, turnAt, Turned, TurnTaken}
 use Rattle.turn.specs.declared.Turn.{Turn}
 use Rattle.file.specs.Checks.{LinesChecked}
 use Rattle.file.proofs.Turns.{Follows, turn-follows}
@@ -82,12 +82,12 @@ module _ {seal : Seal} {lent : Bool} {file table₀ table : List ℕ} {at : ℕ}
       follows : Follows room file at st (turnAt (roomOf lent table) file at st)
       follows = rw (room-kept lent) (turn-follows room file at st (record { within = less; size = most; few = here-few h most }))
 
-      goes : (s : Said Place) → Follows room file at st s → Turned s lent table at st r after → r .outcome ≡ outcome.Accepted → Onward seal lent file table₀ after at r
+      goes : (s : Said Reached) → Follows room file at st s → Turned s lent table at st r after → r .outcome ≡ outcome.Accepted → Onward seal lent file table₀ after at r
       unfolding outcomeTold
       goes (says p) f u e = rw (u .place, u .state) (record { here = here-next h (f .passed) (f .fits) (u .entries); less = omega (arith, f .passed .place) })
       goes (refuses n l b) f u e = let g = rw e at (u .answer) in let z : _≡_ {A = ℕ} 0 1 = cc in absurd (omega arith)
 
-      stops : (s : Said Place) → Follows room file at st s → Turned s lent table at st r after → (why : Refusal) → r .outcome ≡ outcome.Refused why → (c : Checked) → CheckedTold (refusal why) c
+      stops : (s : Said Reached) → Follows room file at st s → Turned s lent table at st r after → (why : Refusal) → r .outcome ≡ outcome.Refused why → (c : Checked) → CheckedTold (refusal why) c
           → LinesChecked seal lent file table₀ c after
       unfolding goodLines outcomeTold
       stops (says p) f u why e c k = let g = rw e at (u .answer) in let z : _≡_ {A = ℕ} 0 1 = cc in absurd (omega arith)
@@ -96,7 +96,7 @@ module _ {seal : Seal} {lent : Bool} {file table₀ table : List ℕ} {at : ℕ}
           let w : _≡_ {A = Said Flight} (refuses n l b) (refusal why) = cc in
           rw (u .entries) (told (refuses n l b) (f .run seal) (omega (arith, f .line)) c (rw w k))
 
-      long : (s : Said Place) → Turned s lent table at st r after → length after ≡ length table₀
+      long : (s : Said Reached) → Turned s lent table at st r after → length after ≡ length table₀
       long (says p) u = put-long lent table (st .flight .lines) at after (u .entries) ∙ h .size
       long (refuses n l b) u = ap length (u .entries) ∙ h .size
 

@@ -17,7 +17,7 @@ use Rattle.rules.specs.declared.State.{State}
 use Rattle.laws.proofs.Splitting.{none-left, line-at}
 use Rattle.order.specs.Turns.{Passed}
 use Rattle.order.proofs.Turns.{passed-count}
-use Rattle.turn.specs.Turns.{inNext, Place, goodLine, turnIn, turnAt, MayTake}
+use Rattle.turn.specs.Turns.{inNext, Reached, goodLine, turnIn, turnAt, MayTake}
 use Rattle.turn.proofs.Turns.{may-so}
 
 -- the file is refused at the line behind `at` bytes, whatever it must have at its end
@@ -26,12 +26,12 @@ pub record Stopped (room : Option ℕ) (file : List ℕ) (at : ℕ) (st : State)
   pub run : (seal : Seal) → run seal room st (linesOf (drop at file)) ≡ refuses n l b
 
 -- the line is passed, and the table has an entry for it
-pub record Went (room : Option ℕ) (file : List ℕ) (at : ℕ) (st : State) (p : Place) : Type 0 where
+pub record Went (room : Option ℕ) (file : List ℕ) (at : ℕ) (st : State) (p : Reached) : Type 0 where
   pub passed : Passed file at st (p .at) (p .state)
   pub fits : hasRoom room (st .flight .lines + 1) ≡ true
 
 -- what follows from a turn
-abbrev pub Follows : Option ℕ → List ℕ → ℕ → State → Said Place → Type 0
+abbrev pub Follows : Option ℕ → List ℕ → ℕ → State → Said Reached → Type 0
 Follows room file at st (says p) = Went room file at st p
 Follows room file at st (refuses n l b) = Stopped room file at st n l b
 

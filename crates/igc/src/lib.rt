@@ -1,5 +1,5 @@
-// Checks or lists the IGC files that its words name: igc check FILE..., igc list FILE.... It is one exported function;
-// C's `main` lends the memory and returns the status (c/igc.c).
+// Checks or lists the IGC files that its words name: igc check FILE..., igc list FILE...
+// It is one exported function: C's `main` lends the memory and returns the status (c/igc.c).
 mod files;
 mod output;
 

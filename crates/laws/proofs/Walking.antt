@@ -1,15 +1,16 @@
 -- A walk over the lines of a file keeps step with its check: a line that passes has the time that the walk reads, and leaves the clock and the count of lines that the walk
--- has. Days never fall. Assumes nothing.
+-- has. Days never fall, and rise at a fall of more than 43,200 seconds alone. Assumes nothing.
 use Prim.Native.Nat.{ℕ, _+_, _-_, _%_, _≤_}
 use Prim.Native.Char.{code}
+use Prim.Native.String.{String}
 use mathlib.Core.Bool.{false, cond}
-use mathlib.Core.List.{List}
+use mathlib.Core.List.{List, [], _∷_}
 use mathlib.Core.Option.{Option, none, some}
 use mathlib.Core.Path.{_≡_, refl, sym, ap, _∙_}
 use native.Mathlib.Omega.{arith}
 use lib.Dec.{eqb}
 use lib.ListN.{length, getD, drop}
-use Rattle.rules.specs.Choice.{given, on}
+use Rattle.rules.specs.Choice.{given, on, bytes}
 use Rattle.rules.specs.Chars.{codesAt}
 use Rattle.rules.specs.Fields.{timeAt, latitudeAt, longitudeAt, altitudeAt, isEither}
 use Rattle.rules.specs.Layouts.{columns}
@@ -24,6 +25,7 @@ use Rattle.rules.specs.declared.FixFields.{FixFields}
 use Rattle.rules.specs.declared.Layout.{Layout}
 use Rattle.rules.specs.declared.Role.{Role}
 use Rattle.rules.specs.declared.State.{State}
+use Rattle.rules.proofs.Computed.{everything}
 use Rattle.rules.proofs.Inverse.{refuses-says, given-inv, given-none, need-inv, then-inv}
 use Rattle.laws.proofs.Passing.{Leaves, judged}
 use Rattle.laws.proofs.Passing as passes
@@ -128,9 +130,29 @@ day-more onward day = omega arith
 day-more nextDay day = omega arith
 day-more back day = omega arith
 
-pub day-stays : (l : List ℕ) (w : Walk) → w .day ≤ walked l w .day
-day-stays l w = by (timeOn l)
+pub day-never-falls : (l : List ℕ) (w : Walk) → w .day ≤ walked l w .day
+day-never-falls l w = by (timeOn l)
   where
     by : (o : Option ℕ) → w .day ≤ walkedBy o w .day
     by none = omega arith
     by (some t) = day-more (passing (w .clock) t) (w .day)
+
+-- ---- days counted
+
+-- the day behind these lines
+unfoldable pub dayBehind : Walk → List String → ℕ
+dayBehind w [] = w .day
+dayBehind w (t ∷ ts) = dayBehind (walked (bytes t) w) ts
+
+-- "The day number rises at each fall over 43,200 along the time order, E, F, K and N lines counted too.": 235958 then 000001; 120001 then 000000, by lines of every timed kind;
+-- equal times; a fall of exactly 43,200; other lines between
+pub record DaysCounted : Type 0 where
+  pub midnight : dayBehind setOut ("K235958" ∷ "K000001" ∷ []) ≡ 1
+  pub other-kinds : dayBehind setOut ("E120001PEV" ∷ "F000000" ∷ "K120001" ∷ "B0000005130000N00015000WA0010000120" ∷ []) ≡ 2
+  pub equal : dayBehind setOut ("K120000" ∷ "K120000" ∷ []) ≡ 0
+  pub exactly : dayBehind setOut ("K120000" ∷ "K000000" ∷ []) ≡ 0
+  pub untimed : dayBehind setOut ("K235959" ∷ "LXYZ000000" ∷ "K000000" ∷ []) ≡ 1
+
+pub days-counted : DaysCounted
+unfolding everything dayBehind
+days-counted = record { midnight = refl; other-kinds = refl; equal = refl; exactly = refl; untimed = refl }

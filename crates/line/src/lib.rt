@@ -264,7 +264,7 @@ fn shaped_by(family: Family, layout: Layout, line: &[u8]) -> Outcome
     shape::shaped(line, n, n, false)
 }
 
-// A fix whose line's columns keep their rules.
+// The fields of a fix whose line's columns keep their rules.
 fn with_columns(f: FixFields, line: &[u8], layout: Layout) -> FixFieldsRead
     ensures { λ r. ⌜ fixFieldsTold r ≡ andThen (columns (now (line .entry)) layout) (λ _. says f) ⌝ }
 {
@@ -274,7 +274,7 @@ fn with_columns(f: FixFields, line: &[u8], layout: Layout) -> FixFieldsRead
     FixFieldsRead::Is(f)
 }
 
-// A B line by an I layout: its fix. Refusals: LENGTH, CHARACTER, FORM at 2, 8, 16, 25, 26 or 31, COLUMN. Defined for every layout value.
+// A B line by an I layout: the fields of its fix. Refusals: LENGTH, CHARACTER, FORM at 2, 8, 16, 25, 26 or 31, COLUMN. Defined for every layout value.
 pub fn fix_line(line: &[u8], layout: Layout) -> FixFieldsRead
     ensures { λ r. ⌜ FixChecked (now (line .entry)) layout r ⌝ }
 {

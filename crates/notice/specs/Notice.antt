@@ -18,15 +18,15 @@ unfoldable pub nameShown : List ℕ → List ℕ
 unfolding bytes
 nameShown name = cond (eqb (length name) 0) (bytes "(no name, or one over 4,096 bytes)") name
 
--- ---- "accepted with date, lines, fixes, K lines and whether a G line is there"
+-- ---- a file that is accepted: its date, its counts of lines, fixes and K lines, and whether a G line is there
 
 -- a dash and a number below 100, with a zero in front where it has one digit
-unfoldable pub dashed : ℕ → List ℕ
-dashed n = code "-" ∷ (48 + n / 10 % 10) ∷ (48 + n % 10) ∷ []
+unfoldable pub twoDigits : ℕ → List ℕ
+twoDigits n = code "-" ∷ (48 + n / 10 % 10) ∷ (48 + n % 10) ∷ []
 
 -- year, month and day, so that lines of several files sort by date
 unfoldable pub dateShown : Date → List ℕ
-dateShown d = decimal (d .year) ++ (dashed (d .month) ++ dashed (d .day))
+dateShown d = decimal (d .year) ++ (twoDigits (d .month) ++ twoDigits (d .day))
 
 -- a count behind its word
 unfoldable pub counted : List ℕ → ℕ → List ℕ
@@ -53,7 +53,7 @@ HeadingPut name out r after = PiecePut out 0 (bytes "== " ++ (nameShown name ++ 
 abbrev pub AcceptedPut : List ℕ → Flight → Bool → List ℕ → ℕ → List ℕ → Type 0
 AcceptedPut name f signed out r after = PiecePut out 0 (nameShown name ++ acceptedShown f signed) r after
 
--- "the refusal, explained with the caret"
+-- a file that is refused, explained with the caret
 abbrev pub RefusedPut : List ℕ → List ℕ → Refusal → List ℕ → ℕ → List ℕ → Type 0
 RefusedPut name file why out r after = PiecePut out 0 (nameShown name ++ (bytes ": " ++ explanation file why)) r after
 

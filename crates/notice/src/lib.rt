@@ -1,7 +1,7 @@
 // What igc says of a file by its name: the heading of its listing, the line of its check, its refusal explained, why it was not read. Each is put at the start of a lent
 // buffer, and the answer is how many bytes that is; a full buffer takes no more.
 ghost use Rattle.pieces.specs.Buffer.{PiecePut};
-ghost use Rattle.notice.specs.Notice.{nameShown, dashed, dateShown, counted, countsShown, signedShown, acceptedShown, HeadingPut, AcceptedPut, RefusedPut, FailedPut};
+ghost use Rattle.notice.specs.Notice.{nameShown, twoDigits, dateShown, counted, countsShown, signedShown, acceptedShown, HeadingPut, AcceptedPut, RefusedPut, FailedPut};
 use pieces::put_byte;
 use pieces::put_decimal;
 use pieces::put_shown;
@@ -20,7 +20,7 @@ fn put_name(out: &mut [u8], at: usize, name: &[u8]) -> usize
 }
 
 fn put_dashed(out: &mut [u8], at: usize, n: u8) -> usize
-    ensures { λ r. ⌜ PiecePut (now (out .entry)) at (dashed n) r (now (out .exit)) ⌝ }
+    ensures { λ r. ⌜ PiecePut (now (out .entry)) at (twoDigits n) r (now (out .exit)) ⌝ }
 {
     let a = put_byte(out, at, b'-');
     let b = put_byte(out, a, 48 + n / 10 % 10);

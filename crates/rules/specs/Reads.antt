@@ -48,7 +48,7 @@ module _ {A : Type 0} where
   abbrev pub byLayout : Family → Layout → (Unit {0} → Said A) → Said A
   byLayout f layout g = need (allowed (firstStart f) layout) (no BadValue 0) g
 
--- a line of a family with its layout: 17, 17, and then the checks of the line; what its bytes before the columns spell
+-- a line of a family with its layout: 17 for another kind, 17 for the layout, then the checks of the line; what its bytes before the columns spell
 abbrev pub fieldsSaid : (f : Family) → List ℕ → Layout → Said (FieldsIn f)
 fieldsSaid f l layout = ofKind (lineLetter f) l λ _. byLayout f layout λ _. familyLine f layout l
 
@@ -57,10 +57,12 @@ abbrev pub ValueOf : Family → Type 0
 ValueOf family.B = Fix
 ValueOf family.K = ℕ
 
+-- the value, from what the bytes spell
 abbrev pub valueFrom : (f : Family) → FieldsIn f → ValueOf f
 valueFrom family.B v = fixOf v
 valueFrom family.K t = t
 
+-- the value of a line of a family with its layout
 abbrev pub saidOf : (f : Family) → List ℕ → Layout → Said (ValueOf f)
 saidOf family.B l layout = andThen (fieldsSaid family.B l layout) λ f. says (fixOf f)
 saidOf family.K l layout = fieldsSaid family.K l layout

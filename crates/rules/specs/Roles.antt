@@ -11,7 +11,7 @@ use Rattle.rules.specs.declared.Kind.the-variants as kind
 use Rattle.rules.specs.declared.Role.{Role}
 use Rattle.rules.specs.declared.Role.the-variants as role
 
--- what each kind does is told here, and nowhere else
+-- what each kind does; which letters are a family's stands in Families
 abbrev pub roleOf : Kind → Role
 roleOf kind.A = role.Opens
 roleOf kind.B = role.Columned family.B

@@ -1,15 +1,14 @@
 -- Document 01, the time order of 'Fields', and document 02, 'The whole track for the map': a walk over the lines of a file, with the clock and the day behind each line.
 use Prim.Native.Nat.{ℕ, _+_}
 use mathlib.Core.Bool.{cond}
-use mathlib.Core.List.{List, [], _∷_}
+use mathlib.Core.List.{List}
 use mathlib.Core.Option.{Option, none, some}
 use lib.ListN.{getD}
 use Rattle.rules.specs.Choice.{byte}
 use Rattle.rules.specs.Fields.{timeAt}
 use Rattle.rules.specs.Lines.{kindOf}
-use Rattle.rules.specs.Split.{Lines, end, broken, line}
 use Rattle.rules.specs.Roles.{roleOf, isTimed}
-use Rattle.rules.specs.Order.{Passing, onward, nextDay, back, passing}
+use Rattle.rules.specs.Order.{start, Passing, onward, nextDay, back, passing}
 
 -- how far a walk has come: how many lines are passed, the last time, and the "day number counted from 0"
 pub record Walk : Type 0 where
@@ -17,9 +16,9 @@ pub record Walk : Type 0 where
   pub clock : ℕ
   pub day : ℕ
 
--- before the first line; the clock stands at 0, from which no time falls
+-- before the first line, where the check starts too
 abbrev pub setOut : Walk
-setOut = record { lines = 0; clock = 0; day = 0 }
+setOut = record { lines = 0; clock = start .clock; day = 0 }
 
 -- the time of a line, at 2 to 7, where its kind runs in time order
 abbrev pub timeOn : List ℕ → Option ℕ
@@ -38,14 +37,3 @@ walkedBy (some t) w = record { lines = w .lines + 1; clock = t; day = dayAfter (
 
 abbrev pub walked : List ℕ → Walk → Walk
 walked l w = walkedBy (timeOn l) w
-
--- a line, and how far the walk has come with it
-pub record Stop : Type 0 where
-  pub text : List ℕ
-  pub at : Walk
-
--- each line of a file, from the first on
-unfoldable pub stops : Walk → Lines → List Stop
-stops w end = []
-stops w (broken n) = []
-stops w (line l ls) = record { text = l; at = walked l w } ∷ stops (walked l w) ls

@@ -25,7 +25,7 @@ use Rattle.order.proofs.Turns.{put-so, put-none, put-fits, put-full}
 use Rattle.after.specs.Judges.{JudgedTold}
 use Rattle.judge.specs.Lines.{judgeFew}
 use Rattle.judge.proofs.Judging.{judge-few}
-use Rattle.turn.specs.Turns.{inNext, halt, Place, goodLine, turnIn, mayTake, MayTake, Turned}
+use Rattle.turn.specs.Turns.{inNext, halt, Reached, goodLine, turnIn, mayTake, MayTake, Turned}
 use Rattle.turn.specs.declared.Turn.{Turn}
 
 -- ---- a place where a line may be taken
@@ -43,7 +43,7 @@ may-known file at st e =
 
 -- ---- a line judged, as the code has it
 
-as-judged : (n : ℕ) (x : Said State) (j : Judged) (f : State → Said Place) → JudgedTold x j → andThen (inLine n x) f ≡ andThen (inLine n (outcomeTold (j .outcome))) λ _. f (j .state)
+as-judged : (n : ℕ) (x : Said State) (j : Judged) (f : State → Said Reached) → JudgedTold x j → andThen (inLine n x) f ≡ andThen (inLine n (outcomeTold (j .outcome))) λ _. f (j .state)
 as-judged n (says v) j f t = rw (t .answer, t .state)
 as-judged n (refuses k l b) j f t = rw (t .answer)
 
@@ -60,7 +60,7 @@ turn-torn room st k = rw (k .lines)
 
 -- ---- what a turn comes to
 
-pub halts : {s : Said Place} {lent : Bool} {table : List ℕ} {at : ℕ} {st : State} {r : Turn} {after : List ℕ} (why : Refusal) → r ≡ halt why at st → s ≡ refusal why → after ≡ table
+pub halts : {s : Said Reached} {lent : Bool} {table : List ℕ} {at : ℕ} {st : State} {r : Turn} {after : List ℕ} (why : Refusal) → r ≡ halt why at st → s ≡ refusal why → after ≡ table
     → Turned s lent table at st r after
 unfolding outcomeTold
 halts why e q t = rw (e, q) (record { answer = refl; place = refl; state = refl; entries = t })

@@ -29,18 +29,18 @@ abbrev pub halt : Refusal → ℕ → State → Turn
 halt why at st = record { outcome = Refused why; at = at; state = st }
 
 -- a place of the file, and the state there
-pub record Place : Type 0 where
+pub record Reached : Type 0 where
   pub at : ℕ
   pub state : State
 
 -- "15 TABLE_FULL: good line, no entry left; line, 0": a line after those of st is good and leaves the state `after`
-unfoldable pub goodLine : Option ℕ → State → ℕ → State → Said Place
+unfoldable pub goodLine : Option ℕ → State → ℕ → State → Said Reached
 goodLine room st next after =
     need (hasRoom room (st .flight .lines + 1)) (refusal (inNext TableFull 0 st)) λ _.
     says (record { at = next; state = after })
 
 -- "Checks go line by line, in a line 3 to 15 in this order": the first of the lines, behind `at` bytes. Where none is left, the place is not allowed.
-unfoldable pub turnIn : Option ℕ → ℕ → State → Lines → Said Place
+unfoldable pub turnIn : Option ℕ → ℕ → State → Lines → Said Reached
 turnIn room at st end = no BadValue 0
 turnIn room at st (broken n) = refusal (inNext LineEnd (n + 1) st)
 turnIn room at st (line t ls) = andThen (inLine (st .flight .lines + 1) (judge t st)) λ after. goodLine room st (at + length t + 2) after
@@ -49,18 +49,18 @@ turnIn room at st (line t ls) = andThen (inLine (st .flight .lines + 1) (judge t
 unfoldable pub mayTake : List ℕ → ℕ → State → Bool
 mayTake file at st = leb (at + 1) (length file) && (leb (length file) 16777216 && hasFew st)
 
--- the same, as what is known
+-- where that test is passed, this is known
 pub record MayTake (file : List ℕ) (at : ℕ) (st : State) : Type 0 where
   pub within : at < length file
   pub size : length file ≤ 16777216
   pub few : Few st
 
 -- the line behind `at` bytes; "17 BAD_VALUE: value .. or place given is not allowed; 0, 0"
-unfoldable pub turnAt : Option ℕ → List ℕ → ℕ → State → Said Place
+unfoldable pub turnAt : Option ℕ → List ℕ → ℕ → State → Said Reached
 turnAt room file at st = need (mayTake file at st) (no BadValue 0) λ _. turnIn room at st (linesOf (drop at file))
 
 -- a turn that comes to s, and the table afterwards: a good line has its entry, and else the table stays
-pub record Turned (s : Said Place) (lent : Bool) (table : List ℕ) (at : ℕ) (st : State) (r : Turn) (after : List ℕ) : Type 0 where
+pub record Turned (s : Said Reached) (lent : Bool) (table : List ℕ) (at : ℕ) (st : State) (r : Turn) (after : List ℕ) : Type 0 where
   pub answer : outcomeTold (r .outcome) ≡ outcome s
   pub place : r .at ≡ valueOr (record { at = at; state = st }) s .at
   pub state : r .state ≡ valueOr (record { at = at; state = st }) s .state

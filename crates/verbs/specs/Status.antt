@@ -6,7 +6,7 @@ use lib.Dec.{leb}
 use Rattle.verbs.specs.declared.Fate.{Fate}
 use Rattle.verbs.specs.declared.Fate.the-variants.{Accepted, Refused, Unread, Unwritten}
 
--- "0 all accepted, 1 some file refused, 2 a file that cannot be opened or read to its end .. or output that could not be written"
+-- 0 where the file is accepted, 1 where it is refused, 2 where it could not be opened or read to its end, or the output could not be written
 unfoldable pub statusOf : Fate → ℕ
 statusOf Accepted = 0
 statusOf Refused = 1

@@ -17,7 +17,7 @@ same [] (y ∷ b) = false
 same (x ∷ a) [] = false
 same (x ∷ a) (y ∷ b) = eqb x y && same a b
 
--- "igc check FILE.., igc list FILE.., igc help, igc version"; help and version also with two dashes before them
+-- the verbs: list, check, help and version; help and version also with two dashes before them
 unfoldable pub verbOf : List ℕ → Verb
 unfolding bytes
 verbOf word =
@@ -28,7 +28,7 @@ verbOf word =
     (cond (same word (bytes "version")) Version
     (cond (same word (bytes "--version")) Version NoVerb)))))
 
--- "a name that begins with a dash"
+-- a word that begins with a dash
 unfoldable pub dashed : List ℕ → Bool
 dashed word = eqb (getD word 0 0) (code "-")
 
@@ -40,6 +40,6 @@ VerbGiven word r = r ≡ verbOf word
 abbrev pub OptionTest : List ℕ → Bool → Type 0
 OptionTest word r = r ≡ dashed word
 
--- "`--` before a name that begins with a dash"
+-- the word behind which every word is a name
 abbrev pub NamesTest : List ℕ → Bool → Type 0
 NamesTest word r = r ≡ same word (bytes "--")

@@ -19,7 +19,7 @@ use Rattle.rules.proofs.Inverse.{false-true, and-inv}
 use Rattle.sound.proofs.Each.{each-map}
 use Rattle.sound.proofs.Entries.{packed-back}
 use Rattle.words.specs.Characters.{IsDigit}
-use Rattle.words.specs.Codes.{Row, rows, Signed, flp, dae, dan, Listing, Holds, digits, minus, Same, SameRows}
+use Rattle.words.specs.Codes.{Row, rows, MayHaveMinus, flp, dae, dan, RowSays, Holds, digits, minus, Same, SameRows}
 use Rattle.words.proofs.Characters.{digit-exactly}
 
 -- ---- the table
@@ -28,7 +28,7 @@ use Rattle.words.proofs.Characters.{digit-exactly}
 signOf : ℕ → Bool
 signOf x = given (listedNumber x) false λ n. (getD listed n unlisted) .sign
 
-signed-code : {name : List ℕ} → Signed name → signOf (packedOf name) ≡ true
+signed-code : {name : List ℕ} → MayHaveMinus name → signOf (packedOf name) ≡ true
 unfolding signOf listedNumber firstOf listed bytes
 signed-code flp = refl
 signed-code dae = refl
@@ -38,7 +38,7 @@ plain : {code least most : ℕ} {name : List ℕ} → codeText code ≡ name →
     → Same (record { code = code; least = least; most = most; sign = false }) (record { name = name; least = least; most = most })
 plain n u = record { name = n; least = refl; most = refl; sign = (λ e. absurd (false-true e), λ w. absurd (false-true (sym u ∙ signed-code w))) }
 
-signed : {code least most : ℕ} {name : List ℕ} → codeText code ≡ name → Signed name
+signed : {code least most : ℕ} {name : List ℕ} → codeText code ≡ name → MayHaveMinus name
     → Same (record { code = code; least = least; most = most; sign = true }) (record { name = name; least = least; most = most })
 signed n w = record { name = n; least = refl; most = refl; sign = (λ e. w, λ w. refl) }
 
@@ -118,7 +118,7 @@ module _ (x : ℕ) (P : Listed → Type 0) (Q : Row → Type 0) (m : (r : Listed
 
 -- a test of the row that a code is found in, by what the test means
 by-row : (x : ℕ) (t : Listed → Bool) (Q : Row → Type 0) → ((r : Listed) (p : Row) → Same r p → (t r ≡ true) ↔ Q p)
-    → (given (listedNumber x) true (λ n. t (getD listed n unlisted)) ≡ true) ↔ Listing x Q
+    → (given (listedNumber x) true (λ n. t (getD listed n unlisted)) ≡ true) ↔ RowSays x Q
 unfolding listedNumber
 by-row x t Q m = let w = in-table _ (found x (λ r. t r ≡ true) listed 0 listed-alone) in let s = each-row x (λ r. t r ≡ true) Q m listed rows listed-exactly in
     (λ e. s .0 (w .0 e), λ h. w .1 (s .1 h))
@@ -133,7 +133,7 @@ by-row x t Q m = let w = in-table _ (found x (λ r. t r ≡ true) listed 0 liste
 
 -- ---- widths
 
-pub width-exactly : (x w : ℕ) → (widthFits x w ≡ true) ↔ Listing x (λ p. (p .least ≤ w) × (w ≤ p .most))
+pub width-exactly : (x w : ℕ) → (widthFits x w ≡ true) ↔ RowSays x (λ p. (p .least ≤ w) × (w ≤ p .most))
 unfolding widthFits
 width-exactly x w =
     by-row x (λ r. leb (r .least) w && leb w (r .most)) (λ p. (p .least ≤ w) × (w ≤ p .most))
@@ -154,7 +154,7 @@ unfolding isDigits leads
 digits-here [] h = refl
 digits-here (b ∷ t) h = rw (digit-exactly b .1 (h .0)) (digits-here t (h .1))
 
-module _ (sign : Bool) (name : List ℕ) (m : (sign ≡ true) ↔ Signed name) where
+module _ (sign : Bool) (name : List ℕ) (m : (sign ≡ true) ↔ MayHaveMinus name) where
   minus-there : (t : List ℕ) → (sign && eqb (getD t 0 0) 45 && leb 2 (length t) && isDigits (drop 1 t)) ≡ true → Holds name t
   minus-there [] e = absurd (false-true (and-inv (sign && false) _ (and-inv (sign && false && false) _ e .0) .1))
   minus-there (b ∷ []) e = absurd (false-true (and-inv (sign && eqb b 45) false (and-inv (sign && eqb b 45 && false) _ e .0) .1))
@@ -178,6 +178,6 @@ module _ (sign : Bool) (name : List ℕ) (m : (sign ≡ true) ↔ Signed name) w
       here (minus {d = d} {t = t} s h r) =
           rw (m .1 s, digits-here (d ∷ t) (h, r), le-leb 2 (suc (suc (length t))) (omega arith)) (or-true (isDigits (45 ∷ d ∷ t)))
 
-pub rule-exactly : (x : ℕ) (t : List ℕ) → (keepsRule x t ≡ true) ↔ Listing x (λ p. Holds (p .name) t)
+pub rule-exactly : (x : ℕ) (t : List ℕ) → (keepsRule x t ≡ true) ↔ RowSays x (λ p. Holds (p .name) t)
 unfolding keepsRule
 rule-exactly x t = by-row x (λ r. keepsSign (r .sign) t) (λ p. Holds (p .name) t) (λ r p s. sign-exactly (r .sign) (p .name) (s .sign) t)

@@ -44,26 +44,26 @@ rows =
     []
 
 -- "FLP, DAE, DAN may have a minus first"
-pub data Signed : List ℕ → Type 0 where
-  flp : Signed (bytes "FLP")
-  dae : Signed (bytes "DAE")
-  dan : Signed (bytes "DAN")
+pub data MayHaveMinus : List ℕ → Type 0 where
+  flp : MayHaveMinus (bytes "FLP")
+  dae : MayHaveMinus (bytes "DAE")
+  dan : MayHaveMinus (bytes "DAN")
 
 -- what the row of a code says; of an unlisted code nothing: "An unlisted code may have any width and any text."
-abbrev pub Listing : ℕ → (Row → Type 0) → Type 0
-Listing x P = Each (λ r. codeText x ≡ r .name → P r) rows
+abbrev pub RowSays : ℕ → (Row → Type 0) → Type 0
+RowSays x P = Each (λ r. codeText x ≡ r .name → P r) rows
 
 -- "Their columns hold digits; FLP, DAE, DAN may have a minus first with at least one digit after it."
 pub data Holds (name : List ℕ) : List ℕ → Type 0 where
   digits : {t : List ℕ} → Each IsDigit t → Holds name t
-  minus : {d : ℕ} {t : List ℕ} → Signed name → IsDigit d → Each IsDigit t → Holds name (code "-" ∷ d ∷ t)
+  minus : {d : ℕ} {t : List ℕ} → MayHaveMinus name → IsDigit d → Each IsDigit t → Holds name (code "-" ∷ d ∷ t)
 
 -- a row of the rules' table says what this row says
 pub record Same (r : Listed) (p : Row) : Type 0 where
   pub name : codeText (r .code) ≡ p .name
   pub least : r .least ≡ p .least
   pub most : r .most ≡ p .most
-  pub sign : (r .sign ≡ true) ↔ Signed (p .name)
+  pub sign : (r .sign ≡ true) ↔ MayHaveMinus (p .name)
 
 -- row by row, as many in one table as in the other
 abbrev pub SameRows : List Listed → List Row → Type 0

@@ -42,6 +42,10 @@ fn explanations() {
     assert_eq!(of(data, 16, 3, 0).unwrap(), "REFUSED 16 ENDS_EARLY, line 3: end inside a declaration or without G\n");
     assert_eq!(of(data, 6, 3, 1).unwrap(), "REFUSED 6 ORDER, line 3, byte 1: kind not allowed here\n\n^\n");
     let long: Vec<u8> = (0..200u8).map(|n| b'0' + n % 10).collect();
-    let wanted = format!("REFUSED 9 FORM, line 1, byte 81: first field against its rule (text from byte 41)\n{}\n{}^\n", "0123456789".repeat(8), " ".repeat(40));
+    let wanted = format!(
+        "REFUSED 9 FORM, line 1, byte 81: first field against its rule (text from byte 41)\n{}\n{}^\n",
+        "0123456789".repeat(8),
+        " ".repeat(40)
+    );
     assert_eq!(of(&long, 9, 1, 81).unwrap(), wanted);
 }

@@ -1,12 +1,12 @@
 -- `calls_explain::reasons::reason_of` meets its contract. Assumes nothing.
 use borrow.Author.Needs.{needs}
 use borrow.Author.Tests.{ne-eqb}
-use Rattle.calls_explain.specs.Reasons.{reasonOf, numberedTold}
+use Rattle.calls_explain.specs.Reasons.{reasonNumbered, numberedTold}
 use Rattle.calls_explain.proofs.reasons.reason_of.Statement.{statement}
 use Rattle.calls_explain.proofs.reasons.reason_of.Tie as tie
 
 pub reason-of-spec : {M : Type 1} → statement M
-unfolding reasonOf numberedTold
+unfolding reasonNumbered numberedTold
 reason-of-spec =
     tie.close
     (tie.spec
