@@ -1,5 +1,5 @@
 -- Demand 2, what is claimed. Each claim is a line from the room that proves it; its words stand in specs/ (Grammar, Coming, Checks, Faults, FieldTexts, Readings,
--- BothWays, ReadersRefuse) and in the specs/ of words, the definitions that it is about in the rules. Assumes nothing.
+-- BothWays, Endings, ReadersRefuse) and in the specs/ of words, the definitions that it is about in the rules. Assumes nothing.
 --
 -- How these definitions are the library's answers: `file::check` answers `verdict seal file (some (length table))` and leaves `tableAfter seal file table` (promise FileChecked),
 -- `file::check_untabled` answers `verdict seal file none` (FileJudged); `cut::bounds` answers `boundsOf` (LineGiven), `Cursor::step` answers `stepAt` (LineStepped), the readers
@@ -21,6 +21,7 @@ use Rattle.rules.specs.Chars.{isValid, isCode}
 use Rattle.rules.specs.Listed.{widthFits, keepsRule}
 use Rattle.rules.specs.Degrees.{degreesOf}
 use Rattle.rules.specs.Layouts.{isSaid, allowed}
+use Rattle.rules.specs.Split.{Bounds, Stepped, boundsOf, stepAt}
 use Rattle.rules.specs.Reads.{fixSaid, extraSaid, dateSaid, eventSaid, satellitesSaid, headSaid, pointSaid, layoutSaid}
 use Rattle.rules.specs.Writes.{fixText, extraText, headText, pointText, layoutText, isFix, isExtra, isHead, isPoint}
 use Rattle.rules.specs.declared.Date.{Date}
@@ -51,7 +52,8 @@ use Rattle.demands.specs.Faults.{PassAfter, Refused}
 use Rattle.demands.specs.FieldTexts.{FieldsTold}
 use Rattle.demands.specs.Coming.{Meant}
 use Rattle.demands.specs.Readings.{ReadsColumns, OnMap, Readable}
-use Rattle.demands.specs.ReadersRefuse.{ReadersRefuse, NamesMeant, EndingsMeant}
+use Rattle.demands.specs.ReadersRefuse.{ReadersRefuse, NamesMeant}
+use Rattle.demands.specs.Endings.{EndingsMeant, IsNumbered, IsStep}
 use Rattle.demands.specs.BothWays.{Slotted, ReadsAs, BothWays}
 use Rattle.demands.proofs.Leading.{fits-there, fits-so}
 use Rattle.demands.proofs.Accepted as acceptance
@@ -64,6 +66,7 @@ use Rattle.demands.proofs.LayoutLines.{layout-exactly, layout-line-exac
 use Rattle.demands.proofs.EachLine.{fix-reads, fix-read, extra-reads, extra-read, head-reads, head-read, point-reads, point-read}
 use Rattle.demands.proofs.Readers.{date-exactly, event-exactly, satellite-exactly, map-exactly, some-line}
 use Rattle.demands.proofs.Writers.{both-ways, trip-ways}
+use Rattle.demands.proofs.Endings as endings
 use Rattle.demands.proofs.ReadersRefuse as readers
 use Rattle.demands.proofs.Worked as worked
 
@@ -180,6 +183,13 @@ heads-exactly h l = (head-read h l, head-reads h l)
 pub points-exactly : (p : Point) (l : List ℕ) → (pointSaid l ≡ says p) ↔ ((w : IsPointLine l) × (w .point ≡ p))
 points-exactly p l = (point-read p l, λ w. point-reads l (w .0) ∙ ap says (w .1))
 
+-- a line by its number, with any file and table, and a step from any place: the line that stands there
+pub numbered-exactly : (file table : List ℕ) (n : ℕ) (b : Bounds) → (boundsOf file table n ≡ says b) ↔ IsNumbered file table n b
+numbered-exactly = endings.numbered-exactly
+
+pub steps-exactly : (file : List ℕ) (at : ℕ) (s : Stepped) → (stepAt file at ≡ says s) ↔ IsStep file at s
+steps-exactly = endings.step-exactly
+
 -- two positions on the map
 pub degrees-exactly : (lat lon : Position) (d : Degrees) → (degreesOf lat lon ≡ says d) ↔ OnMap lat lon d
 degrees-exactly = map-exactly
@@ -217,4 +227,4 @@ names-meant = readers.names-meant
 
 -- what 17 tests of a line by its number and of a reading place: where CR LF stands
 pub endings-meant : EndingsMeant
-endings-meant = readers.endings-meant
+endings-meant = endings.endings-meant

@@ -14,6 +14,7 @@ pub mod ByLayout
 pub mod Reading
 pub mod Writers
 pub mod Worked
+pub mod Endings
 pub mod ReadersRefuse
 pub mod Demands
 pub mod Promised

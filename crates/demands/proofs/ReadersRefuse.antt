@@ -1,13 +1,12 @@
 -- Each reader refuses with the number and byte of the first of its checks that fails, 17, then 7 to 13, then 19, then 20, with line 0, and says a value exactly where all pass.
 -- Assumes nothing.
-use Prim.Native.Nat.{ℕ, zero, suc, _+_, _-_}
+use Prim.Native.Nat.{ℕ, suc, _+_, _-_}
 use Prim.Native.Char.{code}
-use mathlib.Core.Bool.{Bool, true, false, _&&_, _||_, cond, or-true}
-use mathlib.Core.List.{List, [], _∷_, _++_}
+use mathlib.Core.Bool.{Bool, true, false, _&&_, _||_, cond}
+use mathlib.Core.List.{List, [], _∷_}
 use mathlib.Core.Logic.{inl}
 use mathlib.Core.Option.{Option, none, some}
-use mathlib.Core.Path.{_≡_, refl, sym, _∙_, ap, ap₂, subst}
-use borrow.Author.Tests.{eqb-true}
+use mathlib.Core.Path.{_≡_, refl, sym, _∙_, ap, subst}
 use lib.Dec.{eqb, leb}
 use lib.ListN.{length, getD, drop}
 use Rattle.rules.specs.Choice.{given, need, on, firstOf}
@@ -18,7 +17,7 @@ use Rattle.rules.specs.Listed.{packedOf, codeText}
 use Rattle.rules.specs.Layouts.{Span, spanOf, entriesOf, allowed, lookIn, look, columnText, lengthSaid, lookSaid, presenceSaid}
 use Rattle.rules.specs.Degrees.{isPosition, isLatitude, isLongitude, degreesOf}
 use Rattle.rules.specs.Fields.{isEither}
-use Rattle.rules.specs.Split.{Bounds, Stepped, beginsCRLF, firstCRLF, isStart, boundsOf, stepAt}
+use Rattle.rules.specs.Split.{Bounds, Stepped, firstCRLF, isStart, boundsOf, stepAt}
 use Rattle.rules.specs.Lines.{bLine, kLine, columnedLine}
 use Rattle.rules.specs.Fixes.{fixOf}
 use Rattle.rules.specs.Reads.{fieldsSaid, fixSaid, extraSaid, eventSaid, satellitesSaid, dateSaid, layoutSaid, headSaid, pointSaid, entriesSaid, columnSaid, numberSaid}
@@ -28,7 +27,7 @@ use Rattle.rules.specs.declared.Layout.{Layout}
 use Rattle.rules.specs.declared.Family.{Family}
 use Rattle.rules.specs.declared.Family.the-variants as family
 use Rattle.rules.specs.declared.Position.{Position}
-use Rattle.rules.proofs.Inverse.{refuses-says, none-some, false-true, and-inv, given-inv, need-inv, then-inv}
+use Rattle.rules.proofs.Inverse.{refuses-says, none-some, false-true, given-inv, need-inv, then-inv}
 use Rattle.sound.proofs.Each.{each-map}
 use Rattle.sound.proofs.Placed.{carries-none, none-carries, allowed-there}
 use Rattle.sound.proofs.Entries.{packed-back}
@@ -36,7 +35,9 @@ use Rattle.demands.specs.Grammar.{laid}
 use Rattle.demands.specs.Checks.{Check, check, isThere, hasCode, lineChecks}
 use Rattle.demands.specs.BothWays.{Slotted}
 use Rattle.demands.specs.Readings.{Spells}
-use Rattle.demands.specs.ReadersRefuse.{RefusesFirst, layoutCheck, nameCheck, spanIn, numberCheck, columnedReader, columnReader, numberReader, layoutReader, isEnding, hasEnding, entryReader, numberedReader, stepReader, degreesReader, ReadersRefuse, NamesMeant, Ending, EndingsMeant}
+use Rattle.demands.specs.ReadersRefuse.{RefusesFirst, layoutCheck, nameCheck, spanIn, numberCheck, columnedReader, columnReader, numberReader, layoutReader, entryReader, numberedReader, stepReader, degreesReader, ReadersRefuse, NamesMeant}
+use Rattle.demands.specs.Endings.{isEnding, hasEnding}
+use Rattle.demands.proofs.Endings.{ending-behind, ending-first}
 use Rattle.demands.proofs.Columns.{whole-there, whole-here, name-back}
 use Rattle.demands.proofs.Faulty.{Agrees, one-more, agree-need, agree-given, agree-then, agree-last, fix-agrees, extra-agrees, line-agrees, layout-agrees, date-agrees, head-agrees, point-agrees, event-agrees, satellites-agree, found-has, carries-has, fails-first, first-fails, agrees-one, agrees-all}
 
@@ -157,22 +158,6 @@ allowed-first family.K i g cs h = agree-need 17 0 (allowed 8 i) g cs λ a. h
 
 -- ---- a line by its number, a reading place, and a pair of degrees
 
-ending-behind : (n : ℕ) (l : List ℕ) → beginsCRLF (drop n l) ≡ isEnding n l
-unfolding beginsCRLF isEnding
-ending-behind zero [] = refl
-ending-behind (suc n) [] = refl
-ending-behind zero (b ∷ l) = refl
-ending-behind (suc n) (b ∷ l) = ending-behind n l
-
-ending-first : (l : List ℕ) (at : ℕ) → isThere (firstCRLF at l) ≡ hasEnding l
-unfolding firstCRLF hasEnding
-ending-first [] at = refl
-ending-first (b ∷ l) at = rw (ending-behind 0 (b ∷ l)) (go (isEnding 0 (b ∷ l)) (ending-first l (at + 1)))
-  where
-    go : (t : Bool) → isThere (firstCRLF (at + 1) l) ≡ hasEnding l → isThere (cond t (some at) (firstCRLF (at + 1) l)) ≡ (t || hasEnding l)
-    go true h = refl
-    go false h = h
-
 -- what comes behind a CR LF from a place on
 to-ending : {A : Type 0} (file : List ℕ) (o : ℕ) (g : ℕ → A) → Agrees (given (firstCRLF o (drop o file)) (refuses 17 0 0) λ e. says (g e)) (check 17 0 (hasEnding (drop o file)) ∷ [])
 to-ending file o g =
@@ -237,41 +222,3 @@ names-meant = record {
     spelt-there : (t : List ℕ) (o : Option Signed) → wholeOf t ≡ o → isThere o ≡ true → (z : Signed) × Spells t z
     spelt-there t (some z) e h = (z, whole-there t z e)
     spelt-there t none e h = absurd (false-true h)
-
--- ---- what the tests of CR LF mean
-
--- CR LF stands first
-leading : (b : ℕ) (l : List ℕ) → isEnding 0 (b ∷ l) ≡ true → (after : List ℕ) × (b ∷ l ≡ 13 ∷ 10 ∷ after)
-unfolding isEnding
-leading b [] h = absurd (false-true (and-inv (eqb b 13) false h .1))
-leading b (c ∷ l) h = let a = and-inv (eqb b 13) (eqb c 10) h in (l, rw (eqb-true b 13 (a .0), eqb-true c 10 (a .1)))
-
--- one byte in front
-further : (b : ℕ) {l : List ℕ} → Ending l → Ending (b ∷ l)
-further b w = record { before = b ∷ w .before; after = w .after; order = ap (λ x. b ∷ x) (w .order) }
-
-there : (n : ℕ) (l : List ℕ) → isEnding n l ≡ true → (w : Ending l) × (length (w .before) ≡ n)
-unfolding isEnding further
-there n [] h = absurd (false-true h)
-there zero (b ∷ l) h = let a = leading b l h in (record { before = []; after = a .0; order = a .1 }, refl)
-there (suc n) (b ∷ l) h = let w = there n l h in (further b (w .0), ap suc (w .1))
-
-stands : (before after : List ℕ) → (isEnding (length before) (before ++ (13 ∷ 10 ∷ after)) ≡ true) × (hasEnding (before ++ (13 ∷ 10 ∷ after)) ≡ true)
-unfolding isEnding hasEnding
-stands [] after = (refl, refl)
-stands (b ∷ before) after = let r = stands before after in (r .0, rw (r .1) (or-true (isEnding 0 (b ∷ (before ++ (13 ∷ 10 ∷ after))))))
-
-somewhere : (l : List ℕ) → hasEnding l ≡ true → Ending l
-unfolding hasEnding
-somewhere [] h = absurd (false-true h)
-somewhere (b ∷ l) h = go (isEnding 0 (b ∷ l)) refl h (somewhere l)
-  where
-    go : (t : Bool) → isEnding 0 (b ∷ l) ≡ t → (t || hasEnding l) ≡ true → (hasEnding l ≡ true → Ending l) → Ending (b ∷ l)
-    go true e h r = there 0 (b ∷ l) e .0
-    go false e h r = further b (r h)
-
-pub endings-meant : EndingsMeant
-endings-meant = record {
-  there = λ n l. (there n l, λ w. ap₂ isEnding (sym (w .1)) (w .0 .order) ∙ stands (w .0 .before) (w .0 .after) .0);
-  somewhere = λ l. (somewhere l, λ w. ap hasEnding (w .order) ∙ stands (w .before) (w .after) .1);
-}

@@ -1,9 +1,9 @@
 -- Document 01, the paragraph after the refusal table: what a reader refuses first. "A line of another kind than the reader's is 17. Line readers repeat the checks of 7 to 13
 -- after 17, with 0 for the line number; then 19, then 20. A refused reading returns no value." Each reader has its checks as a list in that order; those of 7 to 13 stand in
 -- Checks, kind by kind.
-use Prim.Native.Nat.{ℕ, zero, suc, _-_}
+use Prim.Native.Nat.{ℕ, _-_}
 use Prim.Native.Char.{code}
-use mathlib.Core.Bool.{Bool, true, false, _&&_, _||_, cond}
+use mathlib.Core.Bool.{true, false, _&&_, _||_, cond}
 use mathlib.Core.List.{List, [], _∷_, _++_}
 use mathlib.Core.Logic.{_↔_}
 use mathlib.Core.Path.{_≡_}
@@ -25,6 +25,7 @@ use Rattle.rules.specs.declared.Family.the-variants as family
 use Rattle.rules.specs.declared.Position.{Position}
 use Rattle.demands.specs.Checks.{Check, check, isThere, AllPass, FailsFirst, hasCode, layoutChecks, dateChecks, headChecks, pointChecks, lineChecks, eventChecks, satelliteChecks}
 use Rattle.demands.specs.BothWays.{Slotted}
+use Rattle.demands.specs.Endings.{isEnding, hasEnding}
 use Rattle.demands.specs.Readings.{Spells, IsName}
 
 -- a reading is refused, with a number, a line and a byte, exactly when the line is 0 and of these checks one with that number and byte fails first; it says a value exactly
@@ -79,17 +80,6 @@ layoutReader family.K l = kindCheck (code "J") l ∷ layoutChecks family.K l
 
 -- ---- a line by its number, a reading place, and a pair of degrees
 
--- behind n bytes stand CR and LF
-unfoldable pub isEnding : ℕ → List ℕ → Bool
-isEnding n [] = false
-isEnding zero (b ∷ l) = eqb b 13 && eqb (getD l 0 0) 10
-isEnding (suc n) (b ∷ l) = isEnding n l
-
--- CR and LF stand somewhere
-unfoldable pub hasEnding : List ℕ → Bool
-hasEnding [] = false
-hasEnding (b ∷ l) = isEnding 0 (b ∷ l) || hasEnding l
-
 -- "a table entry that is neither 0 nor just past a CR LF, or with no CR LF from there on, is 17"
 abbrev pub entryReader : List ℕ → ℕ → List Check
 entryReader file o = check 17 0 (eqb o 0 || (leb 2 o && isEnding (o - 2) file)) ∷ check 17 0 (hasEnding (drop o file)) ∷ []
@@ -138,14 +128,3 @@ pub record ReadersRefuse : Type 0 where
 pub record NamesMeant : Type 0 where
   pub absent : (es : List Entry) (name : List ℕ) → IsName name → (hasCode es (packedOf name) ≡ false) ↔ Each (λ e. codeText (e .code) ≡ name → ⊥) es
   pub spelt : (t : List ℕ) → (isThere (wholeOf t) ≡ true) ↔ ((z : Signed) × Spells t z)
-
--- CR LF stands in these bytes, between those before it and those after it
-pub record Ending (l : List ℕ) : Type 0 where
-  pub before : List ℕ
-  pub after : List ℕ
-  pub order : l ≡ before ++ (13 ∷ 10 ∷ after)
-
--- what the tests of CR LF mean, apart from how: one stands behind n bytes, and one stands somewhere
-pub record EndingsMeant : Type 0 where
-  pub there : (n : ℕ) (l : List ℕ) → (isEnding n l ≡ true) ↔ ((w : Ending l) × (length (w .before) ≡ n))
-  pub somewhere : (l : List ℕ) → (hasEnding l ≡ true) ↔ Ending l
