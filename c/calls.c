@@ -19,6 +19,7 @@ static int32_t heights[HIVE_HEIGHTS];
 static int64_t number[HIVE_NUMBER];
 static double degrees[HIVE_DEGREES];
 static uint8_t out[48];
+static uint8_t text[HIVE_EXPLANATION];
 
 static void fresh(void) {
     for (int i = 0; i < HIVE_ANSWER; i++)
@@ -27,6 +28,7 @@ static void fresh(void) {
     number[0] = 9;
     degrees[0] = degrees[1] = 9;
     memset(out, '.', sizeof out);
+    memset(text, '.', sizeof text);
 }
 
 static void say(const char *name, uint32_t returned) {
@@ -52,11 +54,25 @@ static void say_degrees(const char *name, uint32_t returned) {
     fresh();
 }
 
+static void say_bytes(const uint8_t *bytes, size_t length) {
+    for (size_t i = 0; i < length; i++)
+        bytes[i] == '\r' ? printf("<CR>") : bytes[i] == '\n' ? printf("<LF>") : printf("%c", bytes[i]);
+    printf("\n");
+}
+
 static void say_out(const char *name, uint32_t returned) {
     printf("%s: out ", name);
-    for (size_t i = 0; i < sizeof out; i++)
-        out[i] == '\r' ? printf("<CR>") : out[i] == '\n' ? printf("<LF>") : printf("%c", out[i]);
-    printf("\n");
+    say_bytes(out, sizeof out);
+    say(name, returned);
+}
+
+/* The text without the dots that it was filled with and that are left at its end. */
+static void say_text(const char *name, uint32_t returned) {
+    size_t length = sizeof text;
+    while (0 < length && text[length - 1] == '.')
+        length--;
+    printf("%s: text ", name);
+    say_bytes(text, length);
     say(name, returned);
 }
 
@@ -100,6 +116,9 @@ static void lines(void) {
     say("column at 3", hive_column_at(TEXT(I), 3, answer, HIVE_ANSWER));
     say("column at 0", hive_column_at(TEXT(J), 0, answer, HIVE_ANSWER));
     say("column of a bad line", hive_column_at(TEXT("I023638FXA4041SIU"), 1, answer, HIVE_ANSWER));
+    say("column 13 of a bad line", hive_column_at(TEXT("I023638FXA4041SIU"), 13, answer, HIVE_ANSWER));
+    say("column 14 of a bad line", hive_column_at(TEXT("I023638FXA4041SIU"), 14, answer, HIVE_ANSWER));
+    say("column 0 of a bad line", hive_column_at(TEXT("I023638FXA4041SIU"), 0, answer, HIVE_ANSWER));
     say("presence", hive_presence(TEXT(I), answer, HIVE_ANSWER));
     say("presence of none", hive_presence(NULL, 0, answer, HIVE_ANSWER));
     say("presence of a J line", hive_presence(TEXT(J), answer, HIVE_ANSWER));
@@ -139,11 +158,29 @@ static void writers(void) {
     say_out("write point", hive_write_point(3090000, 'N', 15000, 'W', TEXT("HOME"), 1, out, sizeof out, answer, HIVE_ANSWER));
 }
 
+static void words(void) {
+    say_out("name 9", hive_name(9, out, sizeof out, answer, HIVE_ANSWER));
+    say_out("name 21, text of 10", hive_name(21, out, 10, answer, HIVE_ANSWER));
+    say_out("name 21, text of 9", hive_name(21, out, 9, answer, HIVE_ANSWER));
+    say_out("name 0", hive_name(0, out, sizeof out, answer, HIVE_ANSWER));
+    say_out("name 22, no text", hive_name(22, NULL, 0, answer, HIVE_ANSWER));
+    say_out("name, answer of 15", hive_name(9, out, sizeof out, answer, 15));
+    say_text("explain", hive_explain(TEXT(FIVE), 9, 4, 8, text, sizeof text, answer, HIVE_ANSWER));
+    say_text("explain, no line", hive_explain(NULL, 0, 1, 0, 0, text, 26, answer, HIVE_ANSWER));
+    say_text("explain, text of 25", hive_explain(NULL, 0, 1, 0, 0, text, 25, answer, HIVE_ANSWER));
+    say_text("explain, no byte", hive_explain(TEXT(FIVE), 7, 5, 0, text, sizeof text, answer, HIVE_ANSWER));
+    say_text("explain, past the last line", hive_explain(TEXT(FIVE), 16, 6, 0, text, sizeof text, answer, HIVE_ANSWER));
+    say_text("explain, byte 121", hive_explain(TEXT(FIVE), 3, 4, 121, text, sizeof text, answer, HIVE_ANSWER));
+    say_text("explain 22", hive_explain(TEXT(FIVE), 22, 4, 8, text, sizeof text, answer, HIVE_ANSWER));
+    say_text("explain, answer of 15", hive_explain(TEXT(FIVE), 9, 4, 8, text, sizeof text, answer, 15));
+}
+
 int main(void) {
     fresh();
     files();
     lines();
     others();
     writers();
+    words();
     return 0;
 }

@@ -57,7 +57,8 @@ enum {
     HIVE_BAD_VALUE = 17,
     HIVE_NO_ROOM = 18,
     HIVE_ABSENT = 19,
-    HIVE_NOT_NUMBER = 20
+    HIVE_NOT_NUMBER = 20,
+    HIVE_INPUT_OVER = 21 /* of the listing program alone */
 };
 
 /* Places in every answer. */
@@ -92,7 +93,7 @@ uint32_t hive_line(const uint8_t *file, size_t file_length,
                    uint64_t *answer, size_t answer_length);
 
 /* The line at a reading place, which is 0 for the first line and then what the step before gave as next. 17 where the place is past the end, or bytes remain and no CR LF
-   comes after it. Where no line is left the call is good, and all values are 0.
+   comes after it. Where no line is left the call is good, the next place is the place given, and the other values are 0.
        2 start  3 length  4 next place  5 found: 1 for a line, 0 where none is left */
 enum { HIVE_NEXT_PLACE = 4, HIVE_FOUND = 5 };
 uint32_t hive_step(const uint8_t *file, size_t file_length,
@@ -141,7 +142,7 @@ uint32_t hive_column_number(const uint8_t *line, size_t line_length,
                             uint64_t *answer, size_t answer_length,
                             int64_t *number, size_t number_length);
 
-/* Column n, counted from 1, of an I or J line. 17 for another kind; then 7 to 12 with the byte; then 17 where n is 0 or past the line's columns.
+/* Column n, counted from 1, of an I or J line. 17 where n is 0 or over 13, and for another kind; then 7 to 12 with the byte; then 17 where n is past the line's columns.
        2, 3, 4 the code  5 first byte  6 last byte, in a B or K line, counted from 1 */
 enum { HIVE_CODE = 2, HIVE_FIRST = 5, HIVE_LAST = 6 };
 uint32_t hive_column_at(const uint8_t *layout, size_t layout_length,
@@ -239,6 +240,23 @@ uint32_t hive_write_point(uint64_t latitude, uint8_t latitude_letter,
                           size_t place,
                           uint8_t *out, size_t out_length,
                           uint64_t *answer, size_t answer_length);
+
+/* ---- a refusal in words, at the start of a lent text; the bytes behind the words stay. 17 where no refusal has the number, then 18 where the text is shorter than the
+   words; a refused call changes no byte of the text.
+       2 how many bytes the words have: a name at most HIVE_NAME, an explanation at most HIVE_EXPLANATION */
+enum { HIVE_WORDS_LENGTH = 2, HIVE_NAME = 10, HIVE_EXPLANATION = 400 };
+
+/* The name of a refusal number, as FORM for 9. */
+uint32_t hive_name(uint32_t number,
+                   uint8_t *text, size_t text_length,
+                   uint64_t *answer, size_t answer_length);
+
+/* A refusal of a file explained, as igc prints it: the number and its name, the line and the byte where they are not 0, and when the number is given; below it, where a line
+   is named, up to 80 bytes of its text, and a caret under the byte where one is named. Each line ends with LF. Any number, line and byte may be given. */
+uint32_t hive_explain(const uint8_t *file, size_t file_length,
+                      uint32_t number, uint32_t line, uint32_t byte,
+                      uint8_t *text, size_t text_length,
+                      uint64_t *answer, size_t answer_length);
 
 #ifdef __cplusplus
 }

@@ -104,6 +104,18 @@ mod c {
             a: *mut u64,
             al: usize,
         ) -> u32;
+        pub fn hive_name(number: u32, t: *mut u8, tl: usize, a: *mut u64, al: usize) -> u32;
+        pub fn hive_explain(
+            f: *const u8,
+            fl: usize,
+            number: u32,
+            line: u32,
+            byte: u32,
+            t: *mut u8,
+            tl: usize,
+            a: *mut u64,
+            al: usize,
+        ) -> u32;
     }
 }
 
@@ -226,6 +238,17 @@ pub fn point(line: &[u8]) -> Told {
     told(|a, al| unsafe { c::hive_point(line.as_ptr(), line.len(), a, al) })
 }
 
+/// The name of a number, at the start of a text.
+pub fn name(number: u32, text: &mut [u8]) -> Told {
+    told(|a, al| unsafe { c::hive_name(number, text.as_mut_ptr(), text.len(), a, al) })
+}
+
+/// A refusal of a file explained, at the start of a text.
+pub fn explain(file: &[u8], number: u32, line: u32, byte: u32, text: &mut [u8]) -> Told {
+    let (t, tl) = (text.as_mut_ptr(), text.len());
+    told(|a, al| unsafe { c::hive_explain(file.as_ptr(), file.len(), number, line, byte, t, tl, a, al) })
+}
+
 /// What a fix is written from.
 #[derive(Clone, Copy, Debug)]
 pub struct FixValues {
@@ -337,7 +360,7 @@ pub fn write_point(latitude: (u64, u8), longitude: (u64, u8), text: &[u8], place
 }
 
 /// Every operation that a run must have asked.
-pub const OPERATIONS: [&str; 20] = [
+pub const OPERATIONS: [&str; 22] = [
     "hive_check",
     "hive_line",
     "hive_step",
@@ -358,4 +381,6 @@ pub const OPERATIONS: [&str; 20] = [
     "hive_point",
     "hive_write_head",
     "hive_write_point",
+    "hive_name",
+    "hive_explain",
 ];

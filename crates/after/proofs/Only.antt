@@ -8,8 +8,8 @@ use Rattle.rules.specs.declared.Outcome.{Outcome}
 use Rattle.rules.specs.declared.Reason.{Reason}
 use Rattle.rules.specs.declared.State.{State}
 use Rattle.rules.specs.declared.TimeRead.{TimeRead}
-use Rattle.laws.proofs.Only.{Only, same, alike}
-use Rattle.laws.proofs.Told.{outcome-one}
+use Rattle.only.proofs.Only.{Only, same, alike}
+use Rattle.only.proofs.Told.{outcome-one}
 use Rattle.after.specs.Judges.{JudgedTold, RefusedAt, OutcomeJudged, TimeJudged, HeaderJudged, LayoutJudged, DeclarationJudged, ColumnedJudged}
 
 pub judged-only : {s : Said State} → Only (JudgedTold s)

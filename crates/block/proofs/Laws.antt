@@ -1,33 +1,33 @@
 -- Each way out of a function that puts a line is that line put; and a block that fills line by line is at each line a part of its page. Assumes nothing.
-use Prim.Native.Nat.{ℕ, zero, suc, _+_, _-_, _≤_, _<_}
+use Prim.Native.Nat.{ℕ, suc, _+_, _-_, _≤_, _<_}
 use mathlib.Core.Bool.{Bool, true, false, not, cond}
 use mathlib.Core.List.{List, [], _∷_, _++_, append-assoc, append-nil}
 use mathlib.Core.Path.{_≡_, refl, sym, ap, _∙_}
-use native.Mathlib.Nat.{add-zero}
 use native.Mathlib.Numerals.{add-one}
 use native.Mathlib.Omega.{arith}
 use borrow.Author.Tests.{le-leb, lt-leb, lt-ltb, le-ltb, eq-eqb, ne-eqb, ltb-false, not-true, not-false}
 use Prim.Native.Char.{code}
-use lib.Dec.{leb, ltb, eqb}
+use lib.Dec.{ltb}
 use lib.ListN.{length, getD, take, drop, length-append, take-append-drop}
 use lib.Seq.{take-all, length-take-le, getD-take, take-suc, take-at, drop-at, drop-drop, sets-eq, length-sets}
 use Rattle.rules.specs.Choice.{part}
 use Rattle.rules.specs.Layouts.{unused, entriesOf, allowed}
 use Rattle.rules.specs.Lines.{fixFields}
-use Rattle.rules.specs.Reads.{fixTold}
+use Rattle.rules.specs.Reads.{fixFieldsTold}
 use Rattle.rules.specs.Listing.{fixShown, lineShown}
 use Rattle.rules.specs.declared.Refusal.{Refusal}
 use Rattle.rules.specs.declared.Entry.{Entry}
 use Rattle.rules.specs.declared.Layout.{Layout}
-use Rattle.rules.specs.declared.Fix.{Fix}
-use Rattle.rules.specs.declared.FixRead.{FixRead}
-use Rattle.rules.specs.declared.FixRead.the-variants as fixRead
-use Rattle.pieces.specs.Buffer.{Shown, PiecePut}
+use Rattle.rules.specs.declared.FixFields.{FixFields}
+use Rattle.rules.specs.declared.FixFieldsRead.{FixFieldsRead}
+use Rattle.rules.specs.declared.FixFieldsRead.the-variants as fixFieldsRead
+use Rattle.pieces.specs.Buffer.{PiecePut}
 use Rattle.pieces.proofs.Laws.{then, nothing}
 use Rattle.show.specs.Lines.{columnLine}
+use Rattle.basics.proofs.Laws.{take-most}
 use Rattle.block.specs.Blocks.{endOf, textAt, printed, columnLines, Leaf, leaf, before, printedAt, leafFrom, leafAt, LeafPut, LinesFilled, Filled}
 use Rattle.block.specs.declared.Page.{Page}
-use Rattle.block.proofs.Spelt.{take-most, lines-shown, printed-room}
+use Rattle.block.proofs.Spelt.{lines-shown, printed-room}
 
 -- ---- where a line stands
 
@@ -90,14 +90,14 @@ module _ (passed : ℕ) (l : List ℕ) (layout : Layout) (out : List ℕ) (at : 
   unfolding printed
   no-b b e h = rw (← e, ne-eqb b 66 h) (nothing out at)
 
-  module _ (b : ℕ) (e : b ≡ getD l 0 0) (h : b ≡ code "B") (r : FixRead) (g : fixTold r ≡ fixFields l) where
-    pub no-fix : (w : Refusal) → r ≡ fixRead.Refused w → PiecePut out at (printed passed layout l) at out
-    unfolding printed lineShown fixTold
+  module _ (b : ℕ) (e : b ≡ getD l 0 0) (h : b ≡ code "B") (r : FixFieldsRead) (g : fixFieldsTold r ≡ fixFields l) where
+    pub no-fix : (w : Refusal) → r ≡ fixFieldsRead.Refused w → PiecePut out at (printed passed layout l) at out
+    unfolding printed lineShown fixFieldsTold
     no-fix w is = rw (← e, eq-eqb b 66 h, ← g, is) (nothing out at)
 
-    pub a-fix : (f : Fix) (mid after : List ℕ) (m n : ℕ) → allowed 36 layout ≡ true → r ≡ fixRead.Is f → PiecePut out at (fixShown (passed + 1) f) m mid
+    pub a-fix : (f : FixFields) (mid after : List ℕ) (m n : ℕ) → allowed 36 layout ≡ true → r ≡ fixFieldsRead.Is f → PiecePut out at (fixShown (passed + 1) f) m mid
         → PiecePut mid m (columnLines l (entriesOf layout)) n after → PiecePut out at (printed passed layout l) n after
-    unfolding printed lineShown fixTold
+    unfolding printed lineShown fixFieldsTold
     a-fix f mid after m n ok is p q = rw (← e, eq-eqb b 66 h, ← g, is, ← lines-shown l layout ok) (then p q)
 
 -- ---- a block that fills

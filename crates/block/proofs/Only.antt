@@ -3,9 +3,8 @@ use Prim.Native.Nat.{ℕ}
 use mathlib.Core.List.{List}
 use mathlib.Core.Path.{_≡_, sym, _∙_}
 use Rattle.rules.specs.declared.Layout.{Layout}
-use Rattle.laws.proofs.Only.{OnlyBoth}
+use Rattle.only.proofs.Only.{OnlyBoth}
 use Rattle.block.specs.Blocks.{Filled}
-use Rattle.block.specs.declared.Page.{Page}
 
 pub only-filled : (file table : List ℕ) (lines : ℕ) (layout : Layout) (passed : ℕ) (block : List ℕ) → OnlyBoth (Filled file table lines layout passed block)
 only-filled file table lines layout passed block r r′ after after′ s s′ =

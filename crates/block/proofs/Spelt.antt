@@ -1,12 +1,12 @@
 -- The entries of a layout that is allowed are 13 at most, each spelt, so that each is shown and a line's text has room in 4,096 bytes. Assumes nothing.
-use Prim.Native.Nat.{ℕ, zero, suc, _+_, _*_, _≤_, _<_}
+use Prim.Native.Nat.{ℕ, _+_, _*_, _≤_, _<_}
 use mathlib.Core.Bool.{Bool, true, false, _&&_}
 use mathlib.Core.List.{List, [], _∷_, _++_}
 use mathlib.Core.Path.{_≡_, refl, ap₂}
 use native.Mathlib.Omega.{arith}
 use borrow.Author.Tests.{leb-true}
 use lib.Dec.{leb, eqb}
-use lib.ListN.{length, getD, take, length-append}
+use lib.ListN.{length, getD, length-append}
 use Prim.Native.Char.{code}
 use Rattle.rules.specs.Choice.{need}
 use Rattle.rules.specs.Refusals.{Said, says, refuses}
@@ -16,16 +16,12 @@ use Rattle.rules.specs.Lines.{fixFields}
 use Rattle.rules.specs.Listing.{columnsShown, lineShown}
 use Rattle.rules.specs.declared.Entry.{Entry}
 use Rattle.rules.specs.declared.Layout.{Layout}
-use Rattle.rules.specs.declared.Fix.{Fix}
+use Rattle.rules.specs.declared.FixFields.{FixFields}
+use Rattle.basics.proofs.Laws.{take-most}
 use Rattle.show.proofs.Laws.{fix-room, column-room}
 use Rattle.show.proofs.Callers.{column-spelt}
 use Rattle.rules.proofs.Inverse.{and-inv}
 use Rattle.block.specs.Blocks.{columnLines, printed}
-
-pub take-most : {A : Type 0} (n : ℕ) (l : List A) → length (take n l) ≤ n
-take-most zero l = omega arith
-take-most (suc n) [] = omega arith
-take-most (suc n) (x ∷ l) = omega (arith, take-most n l)
 
 abbrev AllSpelt : List Entry → Type 0
 AllSpelt [] = Unit {0}
@@ -74,7 +70,7 @@ pub printed-room : (passed : ℕ) (layout : Layout) (l : List ℕ) → allowed 3
 unfolding printed lineShown
 printed-room passed layout l ok = by (eqb (getD l 0 0) (code "B")) (fixFields l)
   where
-    by : (t : Bool) (s : Said Fix) → length (need t [] λ _. lineShown (passed + 1) layout l s) ≤ 4096
+    by : (t : Bool) (s : Said FixFields) → length (need t [] λ _. lineShown (passed + 1) layout l s) ≤ 4096
     by false s = omega arith
     by true (refuses n k b) = omega arith
     by true (says f) =

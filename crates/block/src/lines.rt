@@ -6,7 +6,7 @@ ghost use lib.ListN.{length, getD};
 ghost use Rattle.rules.specs.Layouts.{entriesOf, allowed};
 ghost use Rattle.pieces.specs.Buffer.{PiecePut};
 ghost use Rattle.block.specs.Blocks.{endOf, textAt, columnLines, printed};
-use rules::FixRead;
+use rules::FixFieldsRead;
 use rules::Layout;
 
 // An entry of a table, 0 past its end.
@@ -90,7 +90,7 @@ pub(crate) fn put_line(passed: u32, line: &[u8], layout: Layout, out: &mut [u8],
     if chars::byte(line, 0) != b'B' {
         return at;
     }
-    let FixRead::Is(f) = fix::fix_fields(line) else {
+    let FixFieldsRead::Is(f) = fix::fix_fields(line) else {
         return at;
     };
     let next = show::put_fix(out, at, passed + 1, f);

@@ -9,10 +9,13 @@ use Rattle.answers.specs.Answers.{inNumbers, AnswerGiven}
 abbrev pub boundsNumbers : Bounds → List ℕ
 boundsNumbers b = b .from ∷ (b .to - b .from) ∷ []
 
--- a line's start and length, the place after its CR LF, and 1 for found; all 0 where none is left
-abbrev pub stepNumbers : Option Stepped → List ℕ
-stepNumbers (some s) = s .from ∷ (s .to - s .from) ∷ s .next ∷ 1 ∷ []
-stepNumbers none = []
+-- a line's start and length, the place, and 1 for found; where none is left, the place alone
+abbrev pub foundNumbers : Option Bounds → ℕ → List ℕ
+foundNumbers (some b) next = b .from ∷ (b .to - b .from) ∷ next ∷ 1 ∷ []
+foundNumbers none next = 0 ∷ 0 ∷ next ∷ []
+
+abbrev pub stepNumbers : Stepped → List ℕ
+stepNumbers s = foundNumbers (s .found) (s .next)
 
 -- "A line is asked for with the file, the table and a line number"
 abbrev pub LineAnswered : List ℕ → List ℕ → ℕ → List ℕ → ℕ → List ℕ → Type 0

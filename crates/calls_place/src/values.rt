@@ -32,7 +32,10 @@ pub(crate) fn step(s: Step) -> Numbers
             let place = next.at as u64;
             accepted(start as u64, between(start, end), place, 1, 0, 0, 0, 0, 0)
         }
-        Step::Done => accepted(0, 0, 0, 0, 0, 0, 0, 0, 0),
+        Step::Done { next } => {
+            let stays = next.at as u64;
+            accepted(0, 0, stays, 0, 0, 0, 0, 0, 0)
+        }
         Step::Refused(why) => refused(why),
     }
 }

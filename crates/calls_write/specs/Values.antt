@@ -16,8 +16,8 @@ abbrev pub placeNumbers : ℕ → List ℕ
 placeNumbers n = n ∷ []
 
 -- a fix of plain numbers
-abbrev pub fixOf : ℕ → ℕ → ℕ → ℕ → ℕ → ℕ → ℤ → ℤ → Fix
-fixOf seconds latitude nOrS longitude eOrW validity pressure gnss =
+abbrev pub fixFrom : ℕ → ℕ → ℕ → ℕ → ℕ → ℕ → ℤ → ℤ → Fix
+fixFrom seconds latitude nOrS longitude eOrW validity pressure gnss =
     record {
       time = seconds;
       lat = record { count = latitude; letter = nOrS };

@@ -1,5 +1,5 @@
 // The calls from C that write a line into a lent output from a place on.
-ghost use Rattle.calls_write.specs.Values.{fixOf, headOf, pointOf};
+ghost use Rattle.calls_write.specs.Values.{fixFrom, headOf, pointOf};
 ghost use Rattle.calls_write.specs.Calls.{WriteFixAnswered, WriteExtraAnswered, WriteLayoutAnswered, WriteHeadAnswered, WritePointAnswered};
 use answers::SIZE;
 use rules::Date;
@@ -22,12 +22,12 @@ pub fn fix(
     out: &mut [u8],
     answer: &mut [u64],
 ) -> u32
-    ensures { λ r. ⌜ WriteFixAnswered (fixOf seconds latitude «n_or_s» longitude «e_or_w» validity pressure gnss) (now (columns .entry)) (now (layout .entry)) place (now (out .entry)) (now (answer .entry)) r (now (out .exit)) (now (answer .exit)) ⌝ }
+    ensures { λ r. ⌜ WriteFixAnswered (fixFrom seconds latitude «n_or_s» longitude «e_or_w» validity pressure gnss) (now (columns .entry)) (now (layout .entry)) place (now (out .entry)) (now (answer .entry)) r (now (out .exit)) (now (answer .exit)) ⌝ }
 {
     if answer.len() != SIZE {
         return 17;
     }
-    let f = values::fix_of(
+    let f = values::fix_from(
         seconds,
         latitude,
         n_or_s,

@@ -2,7 +2,7 @@
 ghost use mathlib.Core.Path.{_≡_};
 ghost use Rattle.rules.specs.Writes.{wroteTold};
 ghost use Rattle.answers.specs.Answers.{inNumbers};
-ghost use Rattle.calls_write.specs.Values.{fixOf, plannedOf, headOf, pointOf, placeNumbers};
+ghost use Rattle.calls_write.specs.Values.{fixFrom, plannedOf, headOf, pointOf, placeNumbers};
 use answers::Numbers;
 use answers::accepted;
 use answers::refused;
@@ -21,7 +21,7 @@ fn height(metres: i32) -> Height
     Height { metres }
 }
 
-pub(crate) fn fix_of(
+pub(crate) fn fix_from(
     seconds: u32,
     latitude: u64,
     n_or_s: u8,
@@ -31,7 +31,7 @@ pub(crate) fn fix_of(
     pressure: i32,
     gnss: i32,
 ) -> Fix
-    ensures { λ r. ⌜ r ≡ fixOf seconds latitude «n_or_s» longitude «e_or_w» validity pressure gnss ⌝ }
+    ensures { λ r. ⌜ r ≡ fixFrom seconds latitude «n_or_s» longitude «e_or_w» validity pressure gnss ⌝ }
 {
     Fix {
         time: seconds,

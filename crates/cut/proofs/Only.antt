@@ -3,10 +3,10 @@ use Prim.Native.Nat.{ℕ}
 use mathlib.Core.List.{List}
 use mathlib.Core.Option.{Option, none, some}
 use mathlib.Core.Path.{refl, sym, ap, _∙_}
-use Rattle.rules.specs.Split.{Stepped}
+use Rattle.rules.specs.Split.{Bounds, Stepped}
 use Rattle.rules.specs.declared.Reason.{Reason}
-use Rattle.laws.proofs.Only.{Only, same, alike}
-use Rattle.laws.proofs.Told.{OneToOne, by-back, answerOf, refusal-back}
+use Rattle.only.proofs.Only.{Only, same, alike}
+use Rattle.only.proofs.Told.{OneToOne, by-back, answerOf, refusal-back}
 use Rattle.cut.specs.Steps.{stepTold, LineStepped, AtFirst, UnplacedGiven, LineEnded}
 use Rattle.cut.specs.declared.Cursor.{Cursor}
 use Rattle.cut.specs.declared.Step.{Step}
@@ -15,13 +15,16 @@ use Rattle.cut.specs.declared.Step.the-variants as step
 cursorAt : ℕ → Cursor
 cursorAt n = record { at = n }
 
-found : Option Stepped → Step
-found (some s) = step.Line (s .from) (s .to) (cursorAt (s .next))
-found none = step.Done
+stepOf : Option Bounds → ℕ → Step
+stepOf (some b) next = step.Line (b .from) (b .to) (cursorAt next)
+stepOf none next = step.Done (cursorAt next)
+
+found : Stepped → Step
+found s = stepOf (s .found) (s .next)
 
 step-one : OneToOne stepTold
-unfolding stepTold found cursorAt
-step-one = by-back (answerOf found step.Refused) (elim [ step.Line a e next ↦ refl | step.Done ↦ refl | step.Refused r ↦ ap step.Refused (refusal-back r) ])
+unfolding stepTold found stepOf cursorAt
+step-one = by-back (answerOf found step.Refused) (elim [ step.Line a e next ↦ refl | step.Done next ↦ refl | step.Refused r ↦ ap step.Refused (refusal-back r) ])
 
 pub only-line-stepped : (file : List ℕ) (at : ℕ) → Only (LineStepped file at)
 only-line-stepped file at = alike step-one

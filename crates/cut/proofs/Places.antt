@@ -5,12 +5,10 @@ use mathlib.Core.List.{List, [], _∷_}
 use mathlib.Core.Option.{Option, none, some}
 use mathlib.Core.Path.{_≡_, refl, sym, ap}
 use native.Mathlib.Nat.{add-zero}
-use native.Mathlib.Numerals.{add-one}
 use native.Mathlib.Omega.{arith}
 use borrow.Author.Tests.{ne-eqb}
 use lib.Dec.{eqb, leb}
 use lib.ListN.{length, getD, drop, drop-of-length-le, length-drop}
-use lib.Seq.{drop-cons}
 use mir.Syntax.{w64}
 use mir.Val.{Fits}
 use Rattle.rules.specs.Choice.{given, on, part}
@@ -25,12 +23,9 @@ use Rattle.rules.specs.declared.Refusal.{Refusal}
 use Rattle.rules.specs.declared.Found.{Found}
 use Rattle.rules.specs.declared.Found.the-variants as found
 use Rattle.laws.proofs.Chains.{by-cond, by-need}
+use Rattle.laws.proofs.LineEnds.{rest}
 use Rattle.cut.specs.Steps.{endedAt, unplaced}
 use Rattle.cut.specs.declared.scan.Ended.the-variants as ended
-
--- the rest of a file from a byte on, with the code's `i + 1`
-rest : (f : List ℕ) (i : ℕ) → i < length f → drop i f ≡ getD f i 0 ∷ drop (i + 1) f
-rest f i h = rw add-one (drop-cons f i 0 h)
 
 -- ---- the first CR LF from a place on
 

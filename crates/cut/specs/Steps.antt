@@ -15,9 +15,9 @@ use Rattle.cut.specs.declared.scan.Ended.{Ended}
 use Rattle.cut.specs.declared.scan.Ended.the-variants as ended
 
 -- what a step finds, in the paper's terms
-unfoldable pub stepTold : Step → Said (Option Stepped)
-stepTold (step.Line a e next) = says (some (record { from = a; to = e; next = next .at }))
-stepTold step.Done = says none
+unfoldable pub stepTold : Step → Said Stepped
+stepTold (step.Line a e next) = says (record { found = some (record { from = a; to = e }); next = next .at })
+stepTold (step.Done next) = says (record { found = none; next = next .at })
 stepTold (step.Refused r) = refusal r
 
 -- "A reading place over the lines goes in by value and comes back at each step with the next line, or with the news that none is left"

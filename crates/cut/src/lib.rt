@@ -47,14 +47,16 @@ pub struct Cursor {
     pub at: usize,
 }
 
-// What a step finds: a line, by how many bytes stand before it and before its CR LF, with the place after it; or that none is left.
+// What a step finds: a line, by how many bytes stand before it and before its CR LF, with the place after it; or that none is left, with the place as it was.
 pub enum Step {
     Line {
         start: usize,
         end: usize,
         next: Cursor,
     },
-    Done,
+    Done {
+        next: Cursor,
+    },
     Refused(Refusal),
 }
 
@@ -75,7 +77,9 @@ impl Cursor {
             return Step::Refused(unplaced(Reason::BadValue));
         }
         if at == file.len() {
-            return Step::Done;
+            return Step::Done {
+                next: Cursor { at },
+            };
         }
         let Found::At(end) = scan::crlf_from(file, at) else {
             return Step::Refused(unplaced(Reason::BadValue));

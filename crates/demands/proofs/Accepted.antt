@@ -33,7 +33,7 @@ use Rattle.demands.specs.Grammar.{IsText, OrderFrom, InOrder, IsALine, I
 use Rattle.sound.proofs.Entries.{said-some}
 use Rattle.demands.proofs.Leading.{every, told-of, all-layouts, counts-more, Part, Leads, a-line, date-line, h-line, layout-line, body-line, g-line, l-line, Sound, sound-start, judge-leads, leads-judge}
 use Rattle.demands.proofs.Leading as part
-use Rattle.demands.proofs.Sections.{Passes, done, next, passes-join, all-passed, before, begins, lines-joined, none-fit, ended, comes, passes-run, stops-run, at-end, Fresh, passes-above, Section, split, above-end, section-passes, headers-there, headers-here, layout-there, layout-here, body-same, body-stage, body-there, body-here, seal-there, seal-here, seal-needed, remarks-there, remarks-here}
+use Rattle.demands.proofs.Sections.{Passes, done, next, passes-join, all-passed, before, begins, lines-joined, none-fit, ended, comes, passes-run, stops-run, at-end, Fresh, passes-above, Section, split, above-end, section-passes, headers-there, headers-here, layout-there, layout-here, body-same, body-stage, body-there, body-here, seals-there, seals-here, seal-needed, remarks-there, remarks-here}
 
 -- ---- the counts
 
@@ -103,14 +103,14 @@ kept needs {ls} {s} p zero h =
     let is = split (part.telling family.B) (omega arith) (hs .later) in
     let js = split (part.telling family.K) (omega arith) (is .later) in
     let bs = split part.body (omega arith) (js .later) in
-    let gs = split part.seal (omega arith) (bs .later) in
+    let gs = split part.seals (omega arith) (bs .later) in
     let rs = split part.remarks (omega arith) (gs .later) in
     let z = above-end (rs .later) in
     let H = headers-there (hs .section) (omega arith) refl in
     let I = layout-there family.B (is .section) (ap (λ x. x .b) (H .same .1)) (omega (arith, H .stage)) (omega (arith, H .stage)) in
     let J = layout-there family.K (js .section) (I .others family.K refl ∙ ap (λ x. x .k) (H .same .1)) (I .low) (I .high) in
     let B = body-same (bs .section) in
-    let G = seal-there (gs .section) in
+    let G = seals-there (gs .section) in
     let R = remarks-there (rs .section) in
     let fresh = J .fresh (I .fresh (H .fresh (refl, refl, refl, refl))) in
     let stage = body-stage (bs .section) (J .low) (omega (arith, J .high)) in
@@ -126,7 +126,7 @@ kept needs {ls} {s} p zero h =
     ∙ ap (λ x. js .front ++ x) (bs .lines
     ∙ ap (λ x. bs .front ++ x) (gs .lines
     ∙ ap (λ x. gs .front ++ x) (rs .lines ∙ ap (λ x. rs .front ++ x) (z .0) ∙ append-nil (rs .front))))))) in (
-      record { recorder = f .recorder; day = f .day; headers = hs .front; told = told; body = bs .front; seal = gs .front; remarks = rs .front },
+      record { recorder = f .recorder; day = f .day; headers = hs .front; told = told; body = bs .front; seals = gs .front; remarks = rs .front },
       lines,
       body .times,
       record {
@@ -175,27 +175,27 @@ module _ {needs : Seal} {p : Parts} {date : Date} {layouts : Layouts} {times : L
   abbrev On : State → List (List ℕ) → Type 0
   On st ls = Finished needs st ls date layouts
 
-  seal-on : (st : State) → Sound st → st .flight .date ≡ date → st .flight .layouts ≡ layouts → st .points ≡ 0 → afterH ≤ st .stage → st .stage ≤ inBody → On st (p .seal ++ p .remarks)
-  seal-on st g d f z a b =
-      let r = seal-here (p .seal) st (w .seals) a (omega arith) z in
-      let s = seal-there (r .1) in
+  seals-on : (st : State) → Sound st → st .flight .date ≡ date → st .flight .layouts ≡ layouts → st .points ≡ 0 → afterH ≤ st .stage → st .stage ≤ inBody → On st (p .seals ++ p .remarks)
+  seals-on st g d f z a b =
+      let r = seals-here (p .seals) st (w .seals) a (omega arith) z in
+      let s = seals-there (r .1) in
       behind g (r .1) λ h.
       let x = remarks-here (p .remarks) (r .0) h (w .remarks) (omega (arith, r .2)) (omega (arith, r .3)) (s .2 ∙ z) in
       record {
         state = x .0;
         passes = x .1;
         whole = x .2;
-        sealed = may-end needs (p .seal) (x .0 .stage) (w .sealed) (omega (arith, r .2, x .3)) (λ n. omega (arith, r .4 n, x .3));
+        sealed = may-end needs (p .seals) (x .0 .stage) (w .sealed) (omega (arith, r .2, x .3)) (λ n. omega (arith, r .4 n, x .3));
         dated = x .4 .0 ∙ s .1 .0 ∙ d;
         laid = x .4 .1 ∙ s .1 .1 ∙ f;
       }
 
-  body-on : (st : State) → Sound st → st .flight .date ≡ date → st .flight .layouts ≡ layouts → Fresh st → afterH ≤ st .stage → st .stage ≤ inBody → On st (p .body ++ (p .seal ++ p .remarks))
+  body-on : (st : State) → Sound st → st .flight .date ≡ date → st .flight .layouts ≡ layouts → Fresh st → afterH ≤ st .stage → st .stage ≤ inBody → On st (p .body ++ (p .seals ++ p .remarks))
   body-on st g d f h a b =
       let r = body-here layouts st (w .body) f h a b (from-zero (st .clock) times (h .3) (w .order)) in
       let s = body-same (r .1) in
       let t = body-stage (r .1) a b in
-      behind g (r .1) λ k. seal-on (r .0) k (s .0 ∙ d) (s .1 ∙ f) (r .2) (t .0) (t .1)
+      behind g (r .1) λ k. seals-on (r .0) k (s .0 ∙ d) (s .1 ∙ f) (r .2) (t .0) (t .1)
 
   -- the line that tells a family's layout, and then the others
   told-on : (f : Family) (st : State) {ks : List (List ℕ)} → Sound st → st .flight .date ≡ date → layoutOf f (st .flight .layouts) ≡ emptyLayout → Fresh st
@@ -209,7 +209,7 @@ module _ {needs : Seal} {p : Parts} {date : Date} {layouts : Layouts} {times : L
       let s = layout-there f (r .1) e a b in
       behind g (r .1) λ x. k (r .0) x (s .date ∙ d) (r .2) (s .others) (s .fresh h) (s .low) (s .high)
 
-  headers-on : On (opened date) (p .headers ++ (p .told family.B ++ (p .told family.K ++ (p .body ++ (p .seal ++ p .remarks)))))
+  headers-on : On (opened date) (p .headers ++ (p .told family.B ++ (p .told family.K ++ (p .body ++ (p .seals ++ p .remarks)))))
   headers-on =
       let r = headers-here (p .headers) (opened date) (w .headers) (omega arith) refl refl in
       let s = headers-there (r .1) (omega arith) refl in

@@ -14,7 +14,6 @@ use lib.ListN.{length, getD, take, drop, length-append, length-drop, take-append
 use lib.Seq.{drop-drop, drop-at, take-at, length-take-le, drop-length}
 use lib.IntN.{pos, negℤ}
 use Rattle.rules.specs.Choice.{part, Each, given, need, on}
-use Rattle.rules.specs.Chars.{isValid}
 use Rattle.rules.specs.Listed.{keepsRule, packedOf, codeText}
 use Rattle.rules.specs.Layouts.{entriesOf, allowed, lineLength, Span, spanOf, look, columnText}
 use Rattle.rules.specs.declared.Entry.{Entry}
@@ -30,13 +29,15 @@ use Rattle.rules.proofs.Inverse.{false-true, need-inv, none-some, given-inv}
 use Rattle.trips.proofs.Texts.{clean-valid}
 use Rattle.trips.proofs.Laws.{byte-there}
 use Rattle.trips.proofs.Digits.{digits-length, digits-front, number-there, number-here}
+use Rattle.words.specs.Characters.{IsValid}
+use Rattle.words.proofs.Codes.{rule-exactly}
 use Rattle.demands.specs.Grammar.{widthOf, IsEntry, Tiles, Columns, none, column}
 use Rattle.demands.specs.Readings.{Spells, plain, minus, NumberOf, ReadsColumn, columnTexts, IsName, ReadsColumns}
 use Rattle.sound.proofs.Each.{each-map, each-both, each-join, each-cut, nothing-found, none-found}
 use Rattle.sound.proofs.Entries.{unpacked, packed-back}
 use Rattle.sound.proofs.Placed.{Coded, Sound, allowed-there}
 use Rattle.sound.proofs.Columns.{each-looked, end-of, line-end}
-use Rattle.demands.proofs.Laws.{are-valid, valid-are, nothing-given, rule-exactly}
+use Rattle.demands.proofs.Laws.{are-valid, valid-are, nothing-given}
 use Rattle.demands.proofs.LayoutLines.{told-tiles}
 
 -- ---- where a line ends
@@ -69,7 +70,7 @@ module _ (start : ℕ) (tail : List ℕ) where
   record Left (es : List Entry) (from : ℕ) (rest : List ℕ) : Type 0 where
     here : drop (from - start) tail ≡ rest
     long : from - 1 + length rest ≡ end-of es from
-    valid : Each (λ b. isValid false b ≡ true) rest
+    valid : Each (IsValid false) rest
     ruled : Each Keeps es
 
   module _ (low : 1 ≤ start) where
@@ -85,7 +86,7 @@ module _ (start : ℕ) (tail : List ℕ) where
         let t : part (e .first - start) (e .last + 1 - start) tail ≡ take (widthOf e) rest =
         ap (λ x. take (e .last + 1 - start - x) (drop x tail)) p ∙ ap (λ x. take (e .last + 1 - start - (from - start)) x) (c .here) ∙ ap (λ x. take x rest) q in
         let s = take-append-drop (widthOf e) rest in
-        let v = each-cut (λ b. isValid false b ≡ true) (take (widthOf e) rest) (drop (widthOf e) rest) (subst (Each (λ b. isValid false b ≡ true)) (sym s) (c .valid)) in
+        let v = each-cut (IsValid false) (take (widthOf e) rest) (drop (widthOf e) rest) (subst (Each (IsValid false)) (sym s) (c .valid)) in
         let i : from - start + widthOf e ≡ e .last + 1 - start = omega (arith, f .starts, f .ends) in
         let r = columns-there es (e .last + 1) (drop (widthOf e) rest) (w .2) (omega (arith, f .starts, f .ends)) (record {
           here = ap (λ x. drop x tail) (sym i) ∙ sym (drop-drop (widthOf e) (from - start) tail) ∙ ap (drop (widthOf e)) (c .here);
@@ -111,7 +112,7 @@ module _ (start : ℕ) (tail : List ℕ) where
         record {
           here = g;
           long = ap (λ x. from - 1 + x) (length-append c r) ∙ with-column (e .first) (e .last) from (length c) (length r) _ (f .starts) (f .ends) (omega arith) n (k .long);
-          valid = each-join (λ b. isValid false b ≡ true) c r v (k .valid);
+          valid = each-join (IsValid false) c r v (k .valid);
           ruled = (ap (keepsRule (e .code)) t ∙ rule-exactly (e .code) c .1 u, k .ruled);
         }
 
@@ -150,7 +151,7 @@ tail-exactly start tail layout low s = (there, here)
 
 -- ---- the number that a text spells
 
-whole-there : (t : List ℕ) (z : Signed) → wholeOf t ≡ some z → Spells t z
+pub whole-there : (t : List ℕ) (z : Signed) → wholeOf t ≡ some z → Spells t z
 unfolding wholeOf on
 whole-there t z e = go (eqb (getD t 0 0) 45) refl e
   where
@@ -194,7 +195,7 @@ minus-here n v a b c =
     let d = number-here t 1 n v [] b c (sym (append-nil (digitsOf n v))) in
     rw (k, le-leb 2 (n + 1) (omega arith), i, d)
 
-whole-here : (t : List ℕ) {z : Signed} → Spells t z → wholeOf t ≡ some z
+pub whole-here : (t : List ℕ) {z : Signed} → Spells t z → wholeOf t ≡ some z
 whole-here t (plain n v a b c e) = ap wholeOf e ∙ plain-here n v a b c
 whole-here t (minus n v a b c e) = ap wholeOf e ∙ minus-here n v a b c
 
@@ -221,12 +222,19 @@ texts-are l (e ∷ es) from rest w h g (column {t = t} c n v u x) =
 
 -- ---- all columns of a line
 
-name-back : (name : List ℕ) → IsName name → codeText (packedOf name) ≡ name
+pub name-back : (name : List ℕ) → IsName name → codeText (packedOf name) ≡ name
 name-back [] w = absurd (omega (arith, w .three))
 name-back (a ∷ []) w = absurd (omega (arith, w .three))
 name-back (a ∷ b ∷ []) w = absurd (omega (arith, w .three))
 name-back (a ∷ b ∷ c ∷ []) w = unpacked a b c (w .bytes .1 .0) (w .bytes .1 .1 .0)
 name-back (a ∷ b ∷ c ∷ d ∷ l) w = absurd (omega (arith, w .three))
+
+-- a name that no entry has
+pub none-looked : (layout : Layout) (name : List ℕ) → IsName name → Each (λ e. codeText (e .code) ≡ name → ⊥) (entriesOf layout) → look layout (packedOf name) ≡ none
+unfolding look
+none-looked layout name w h =
+    none-found (Coded (packedOf name)) (λ k e. spanOf e) (entriesOf layout) 0
+    (each-map (entriesOf layout) (λ e n. ne-eqb (e .code) (packedOf name) (λ i. n (ap codeText i ∙ name-back name w))) h)
 
 module _ (layout : Layout) (l : List ℕ) (said : entriesSaid l layout ≡ says (entriesOf layout)) where
   column-said : (name : List ℕ) (s : Span) → look layout (packedOf name) ≡ some s → columnSaid l layout name ≡ says s
@@ -243,12 +251,6 @@ module _ (layout : Layout) (l : List ℕ) (said : entriesSaid l layout ≡ says 
       let s = column-said (codeText (e .code)) (spanOf e) (ap (look layout) (packed-back (e .code)) ∙ h) in
       record { span = s; text = rw s; wide = n; number = rw s (number-of (columnText l (spanOf e)) (wholeOf (columnText l (spanOf e))) refl) }
 
-  name-absent : (name : List ℕ) → IsName name → Each (λ e. codeText (e .code) ≡ name → ⊥) (entriesOf layout) → columnSaid l layout name ≡ refuses 19 0 0
-  unfolding look
-  name-absent name w h =
-      column-absent name (none-found (Coded (packedOf name)) (λ k e. spanOf e) (entriesOf layout) 0
-      (each-map (entriesOf layout) (λ e n. ne-eqb (e .code) (packedOf name) (λ i. n (ap codeText i ∙ name-back name w))) h))
-
 pub columns-read : (f : Family) (layout : Layout) (l tail : List ℕ) → 1 ≤ firstStart f → Sound (firstStart f) layout
     → drop (firstStart f - 1) l ≡ tail → Columns (entriesOf layout) tail → entriesSaid l layout ≡ says (entriesOf layout) → ReadsColumns f layout l
 unfolding look number
@@ -259,6 +261,6 @@ columns-read f layout l tail low s cut is said =
     record {
       carried = each-map es (λ e h. column-read layout l said e (h .0) (h .1))
           (each-both es (λ e. look layout (e .code) ≡ some (spanOf e)) (λ e. length (columnText l (spanOf e)) ≡ widthOf e) (each-looked (firstStart f) layout s) (r .1));
-      absent = name-absent layout l said;
+      absent = λ name w h. column-absent layout l said name (none-looked layout name w h);
       tail = r .0 ∙ sym cut;
     }

@@ -1,12 +1,13 @@
 -- Demand 2, what is claimed. Each claim is a line from the room that proves it; its words stand in specs/ (Grammar, Coming, Checks, Faults, FieldTexts, Readings,
--- BothWays), the definitions that it is about in the rules. Assumes nothing.
+-- BothWays, Endings, ReadersRefuse) and in the specs/ of words, the definitions that it is about in the rules. Assumes nothing.
 --
 -- How these definitions are the library's answers: `file::check` answers `verdict seal file (some (length table))` and leaves `tableAfter seal file table` (promise FileChecked),
--- `file::check_untabled` answers `verdict seal file none` (FileJudged); `cut::bounds` answers `boundsOf` (LineGiven), `Cursor::step` answers `stepAt` (LineStepped), the readers in `read` answer `fixSaid`, `columnSaid` and so on (FixGiven ..); the writers in
--- `write` keep `Written` (FixWritten ..), from which `BothWays` tells what they write (proofs/Promised). By the laws `only-..` of crate laws, nothing else would keep these promises.
+-- `file::check_untabled` answers `verdict seal file none` (FileJudged); `cut::bounds` answers `boundsOf` (LineGiven), `Cursor::step` answers `stepAt` (LineStepped), the readers
+-- in `read` answer `fixSaid`, `columnSaid` and so on (FixGiven ..), `degrees::degrees` answers `degreesOf` (DegreesGiven); the writers in `write` keep `Written` (FixWritten ..),
+-- from which `BothWays` tells what they write (proofs/Promised). By the laws `only-..` of crate only, nothing else would keep these promises.
 use Prim.Native.Nat.{ℕ, _≤_}
 use Prim.Native.Char.{code}
-use mathlib.Core.Bool.{true}
+use mathlib.Core.Bool.{Bool, true}
 use mathlib.Core.List.{List, [], _∷_, _++_}
 use mathlib.Core.Logic.{_↔_}
 use mathlib.Core.Option.{Option, none, some}
@@ -16,9 +17,12 @@ use Rattle.rules.specs.Choice.{Each}
 use Rattle.rules.specs.Families.{firstStart}
 use Rattle.rules.specs.Refusals.{says, refuses}
 use Rattle.rules.specs.Files.{verdict}
+use Rattle.rules.specs.Chars.{isValid, isCode}
 use Rattle.rules.specs.Listed.{widthFits, keepsRule}
+use Rattle.rules.specs.Degrees.{degreesOf}
 use Rattle.rules.specs.Layouts.{isSaid, allowed}
-use Rattle.rules.specs.Reads.{fixSaid, extraSaid, headSaid, pointSaid, layoutSaid}
+use Rattle.rules.specs.Split.{Bounds, Stepped, boundsOf, stepAt}
+use Rattle.rules.specs.Reads.{fixSaid, extraSaid, dateSaid, eventSaid, satellitesSaid, headSaid, pointSaid, layoutSaid}
 use Rattle.rules.specs.Writes.{fixText, extraText, headText, pointText, layoutText, isFix, isExtra, isHead, isPoint}
 use Rattle.rules.specs.declared.Date.{Date}
 use Rattle.rules.specs.declared.Layout.{Layout}
@@ -26,6 +30,8 @@ use Rattle.rules.specs.declared.Family.{Family}
 use Rattle.rules.specs.declared.Fix.{Fix}
 use Rattle.rules.specs.declared.Head.{Head}
 use Rattle.rules.specs.declared.Point.{Point}
+use Rattle.rules.specs.declared.Position.{Position}
+use Rattle.rules.specs.declared.Degrees.{Degrees}
 use Rattle.rules.specs.declared.Flight.{Flight}
 use Rattle.rules.specs.declared.Seal.{Seal}
 use Rattle.rules.specs.declared.Seal.the-variants as seal
@@ -37,22 +43,31 @@ use Rattle.trips.proofs.Fixes.{fix-trip, fix-good}
 use Rattle.trips.proofs.Extras.{extra-trip, extra-good}
 use Rattle.trips.proofs.Heads.{head-trip, head-good}
 use Rattle.trips.proofs.Points.{point-trip, point-good}
-use Rattle.demands.specs.Grammar.{IsDay, Listing, Holds, IsLayoutLine, IsBLine, IsKLine, IsHeadLine, IsPointLine, linesIn, Fits, Meets, flightOf}
+use Rattle.words.specs.Characters.{IsValid, IsCode}
+use Rattle.words.specs.Codes.{RowSays, Holds}
+use Rattle.words.proofs.Characters.{valid-exactly, code-exactly}
+use Rattle.words.proofs.Codes.{width-exactly, rule-exactly}
+use Rattle.demands.specs.Grammar.{IsDay, IsDateLine, IsELine, IsFLine, IsLayoutLine, IsBLine, IsKLine, IsColumned, IsHeadLine, IsPointLine, linesIn, Fits, Meets, flightOf}
 use Rattle.demands.specs.Faults.{PassAfter, Refused}
 use Rattle.demands.specs.FieldTexts.{FieldsTold}
 use Rattle.demands.specs.Coming.{Meant}
-use Rattle.demands.specs.Readings.{Readable}
+use Rattle.demands.specs.Readings.{ReadsColumns, OnMap, Readable}
+use Rattle.demands.specs.ReadersRefuse.{ReadersRefuse, NamesMeant}
+use Rattle.demands.specs.Endings.{EndingsMeant, IsNumbered, IsStep}
 use Rattle.demands.specs.BothWays.{Slotted, ReadsAs, BothWays}
 use Rattle.demands.proofs.Leading.{fits-there, fits-so}
 use Rattle.demands.proofs.Accepted as acceptance
 use Rattle.demands.proofs.Refusing as refusing
 use Rattle.demands.proofs.FieldsThere as fields-there
 use Rattle.demands.proofs.Refusing.{meant}
-use Rattle.demands.proofs.Laws.{day-exactly, width-exactly, rule-exactly}
+use Rattle.demands.proofs.Laws.{day-exactly}
 use Rattle.demands.proofs.Reading as reading
 use Rattle.demands.proofs.LayoutLines.{layout-exactly, layout-line-exactly}
 use Rattle.demands.proofs.EachLine.{fix-reads, fix-read, extra-reads, extra-read, head-reads, head-read, point-reads, point-read}
+use Rattle.demands.proofs.Readers.{date-exactly, event-exactly, satellite-exactly, map-exactly, some-line}
 use Rattle.demands.proofs.Writers.{both-ways, trip-ways}
+use Rattle.demands.proofs.Endings as endings
+use Rattle.demands.proofs.ReadersRefuse as readers
 use Rattle.demands.proofs.Worked as worked
 
 -- ---- the verdict on a file, for each seal, with a table of `room` entries or without one
@@ -88,14 +103,21 @@ fields-told = fields-there.fields-told
 pub lines-meant : (ls : List (List ℕ)) → PassAfter [] ls → Meant ls
 lines-meant = meant
 
--- a date; the width of a code's column (12), and its text (13)
+-- a character (8), a code character; a date; the width of a code's column (12), and its text (13). The table of listed codes and the limits of values stand in
+-- words/proofs/Exactly
+pub characters-meant : (inH : Bool) (b : ℕ) → (isValid inH b ≡ true) ↔ IsValid inH b
+characters-meant = valid-exactly
+
+pub codes-meant : (b : ℕ) → (isCode b ≡ true) ↔ IsCode b
+codes-meant = code-exactly
+
 pub dates-meant : (d : Date) → (isDate d ≡ true) ↔ IsDay d
 dates-meant = day-exactly
 
-pub widths-meant : (x w : ℕ) → (widthFits x w ≡ true) ↔ Listing x (λ r. (r .least ≤ w) × (w ≤ r .most))
+pub widths-meant : (x w : ℕ) → (widthFits x w ≡ true) ↔ RowSays x (λ p. (p .least ≤ w) × (w ≤ p .most))
 widths-meant = width-exactly
 
-pub texts-meant : (x : ℕ) (t : List ℕ) → (keepsRule x t ≡ true) ↔ Listing x (λ r. Holds (r .sign) t)
+pub texts-meant : (x : ℕ) (t : List ℕ) → (keepsRule x t ≡ true) ↔ RowSays x (λ p. Holds (p .name) t)
 texts-meant = rule-exactly
 
 -- ---- the grammar by itself
@@ -116,8 +138,8 @@ pub no-b-after-g : {seal : Seal} {file : List ℕ} (m : Meets seal file) (before
     → getD g 0 0 ≡ code "G" → Each (λ l. getD l 0 0 ≡ code "B" → ⊥) after
 no-b-after-g = worked.no-b-after-g
 
--- ---- what can be read from an accepted file, with the table that it was checked with: its lines by number and step by step, each B and K line column by column, and the
--- declaration
+-- ---- what can be read from an accepted file, with the table that it was checked with: its lines by number and step by step; the date from line 2, the layouts from the I and the J
+-- line, and of them the lengths, columns and listed codes; each B and K line column by column, each E and F line; and the declaration with its texts
 
 pub readable : (seal : Seal) (file table : List ℕ) (f : Flight) → verdict seal file (some (length table)) ≡ says f → Readable seal file table f
 readable = reading.readable
@@ -132,9 +154,27 @@ module _ (i : Slotted) (l : List ℕ) where
   pub extras-exactly : allowed 8 (i .layout) ≡ true → (t : ℕ) → (extraSaid l (i .layout) ≡ says t) ↔ IsKLine (i .layout) t l
   extras-exactly g t = (extra-read (i .layout) (record { right = g; full = i .slots }) t l, extra-reads (i .layout) (record { right = g; full = i .slots }) t l)
 
+-- and the columns of such a line: the text and the number of each code that the layout carries, 19 for every other code
+pub columns-exactly : (family : Family) (i : Slotted) → allowed (firstStart family) (i .layout) ≡ true → (t : ℕ) (l : List ℕ) → IsColumned family (i .layout) t l → ReadsColumns family (i .layout) l
+columns-exactly family i g t l w = reading.line-columns family (i .layout) t l (record { right = g; full = i .slots }) w
+
 -- I lines and J lines
 pub layouts-exactly : (family : Family) (layout : Layout) (l : List ℕ) → (layoutSaid family l ≡ says layout) ↔ IsLayoutLine family layout l
 layouts-exactly = layout-line-exactly
+
+-- a layout is allowed exactly when there is such a line of it
+pub allowed-exactly : (family : Family) (i : Slotted) → (allowed (firstStart family) (i .layout) ≡ true) ↔ ((l : List ℕ) × IsLayoutLine family (i .layout) l)
+allowed-exactly = some-line
+
+-- line 2, E lines and F lines
+pub dates-exactly : (d : Date) (l : List ℕ) → (dateSaid l ≡ says d) ↔ IsDateLine d l
+dates-exactly = date-exactly
+
+pub events-exactly : (t : ℕ) (l : List ℕ) → (eventSaid l ≡ says t) ↔ IsELine t l
+events-exactly = event-exactly
+
+pub satellites-exactly : (t : ℕ) (l : List ℕ) → (satellitesSaid l ≡ says t) ↔ IsFLine t l
+satellites-exactly = satellite-exactly
 
 -- C heads and C points
 pub heads-exactly : (h : Head) (l : List ℕ) → (headSaid l ≡ says h) ↔ IsHeadLine h l
@@ -142,6 +182,17 @@ heads-exactly h l = (head-read h l, head-reads h l)
 
 pub points-exactly : (p : Point) (l : List ℕ) → (pointSaid l ≡ says p) ↔ ((w : IsPointLine l) × (w .point ≡ p))
 points-exactly p l = (point-read p l, λ w. point-reads l (w .0) ∙ ap says (w .1))
+
+-- a line by its number, with any file and table, and a step from any place: the line that stands there
+pub numbered-exactly : (file table : List ℕ) (n : ℕ) (b : Bounds) → (boundsOf file table n ≡ says b) ↔ IsNumbered file table n b
+numbered-exactly = endings.numbered-exactly
+
+pub steps-exactly : (file : List ℕ) (at : ℕ) (s : Stepped) → (stepAt file at ≡ says s) ↔ IsStep file at s
+steps-exactly = endings.step-exactly
+
+-- two positions on the map
+pub degrees-exactly : (lat lon : Position) (d : Degrees) → (degreesOf lat lon ≡ says d) ↔ OnMap lat lon d
+degrees-exactly = map-exactly
 
 -- ---- lines read and written: of each kind `read-then-write`, `write-then-read` and `bad-value-exactly` (specs/BothWays); 35, 7, 25 and 18 bytes stand before the columns or
 -- the text
@@ -164,3 +215,16 @@ points-both-ways = trip-ways isPoint point-trip point-good
 pub layouts-both-ways : (family : Family)
     → BothWays (λ l (v : Slotted). layoutSaid family l ≡ says (v .layout)) (λ v. layoutText family (v .layout)) (λ v. allowed (firstStart family) (v .layout)) (λ v. allowed (firstStart family) (v .layout))
 layouts-both-ways family = both-ways _ _ _ _ (λ l v. layout-exactly family (v .layout) l (v .slots)) (λ v. refl)
+
+-- ---- what each reader refuses first: 17, then the checks 7 to 13 of its kind of line, then 19, then 20, with 0 for the line number
+
+pub readers-refuse-first : ReadersRefuse
+readers-refuse-first = readers.readers-refuse
+
+-- what 19 and 20 test, apart from how
+pub names-meant : NamesMeant
+names-meant = readers.names-meant
+
+-- what 17 tests of a line by its number and of a reading place: where CR LF stands
+pub endings-meant : EndingsMeant
+endings-meant = endings.endings-meant

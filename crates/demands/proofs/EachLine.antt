@@ -2,47 +2,56 @@
 -- laws of each line both ways. Assumes nothing.
 use Prim.Native.Nat.{ℕ, _+_, _-_, _%_, _≤_, _<_}
 use Prim.Native.Char.{code}
-use mathlib.Core.Bool.{Bool, true, false, not, _&&_, cond}
+use mathlib.Core.Bool.{Bool, true, false, _&&_, cond}
 use mathlib.Core.List.{List, [], _∷_, _++_, append-nil}
 use mathlib.Core.Option.{none, some}
 use mathlib.Core.Path.{_≡_, refl, sym, _∙_, ap, subst}
 use mathlib.Core.Logic.{_↔_}
 use native.Mathlib.Omega.{arith}
 use borrow.Author.Tests.{eqb-true, eq-eqb, le-leb, leb-true}
-use lib.Dec.{eqb, leb}
+use lib.Dec.{eqb}
 use lib.ListN.{length, getD, drop, length-drop, take, take-append-drop}
 use lib.Seq.{drop-length}
 use Rattle.rules.specs.Choice.{on, Each, need}
 use Rattle.rules.specs.Refusals.{says}
 use Rattle.rules.specs.Chars.{isValid, isCode, codesAt}
 use Rattle.rules.specs.Fields.{timeAt, timeText, dateAt, dateText, isEither}
-use Rattle.rules.specs.Lines.{shaped, aLine, isDateMark, dateLine, hLine, dLine, eLine, badPair, fLine, lLine, gLine, otherLine, headLine, pointLine, fixFields, shapedBy, bLine, kLine, columnedLine}
+use Rattle.rules.specs.Lines.{shaped, aLine, isDateMark, dateLine, hLine, dLine, eLine, badPair, fLine, lLine, gLine, otherLine, headLine, pointLine, FieldsIn, timeIn, columnedLine}
 use Rattle.rules.specs.declared.Date.{Date}
-use Rattle.rules.specs.Limits.{isTime, isDate, isClean, goodTail, goodFixFields, goodFix, goodExtra, goodHeadFields, goodHead}
+use Rattle.rules.specs.Degrees.{isLatitude, isLongitude}
+use Rattle.rules.specs.Limits.{isTime, isDate, isClean, goodTail, goodFixFields, goodFix, goodExtra, goodHeadFields, goodHead, goodPoint}
 use Rattle.rules.specs.Families.{firstStart, lineLetter}
-use Rattle.rules.specs.Layouts.{entriesOf, allowed, columns}
-use Rattle.rules.specs.Reads.{fixSaid, extraSaid, headSaid, pointSaid}
-use Rattle.rules.specs.Writes.{fixText, extraText}
+use Rattle.rules.specs.Layouts.{entriesOf}
+use Rattle.rules.specs.Reads.{fieldsSaid, fixSaid, extraSaid, headSaid, pointSaid}
+use Rattle.rules.specs.Fixes.{fixOf, fieldsOf}
+use Rattle.rules.specs.Writes.{fieldsText, fixText, extraText}
 use Rattle.rules.specs.declared.Layout.{Layout}
 use Rattle.rules.specs.declared.Family.{Family}
 use Rattle.rules.specs.declared.Family.the-variants as family
+use Rattle.rules.specs.declared.FixFields.{FixFields}
 use Rattle.rules.specs.declared.Fix.{Fix}
 use Rattle.rules.specs.declared.Head.{Head}
 use Rattle.rules.specs.declared.Point.{Point}
-use Rattle.rules.proofs.Inverse.{none-some, refuses-says, given-inv, need-inv, then-inv, and-inv, false-true}
+use Rattle.rules.proofs.Inverse.{none-some, refuses-says, given-inv, need-inv, then-inv, and-inv, false-true, given-none}
 use Rattle.trips.proofs.Laws.{past, byte-there}
 use Rattle.trips.proofs.Times.{time-trip}
 use Rattle.trips.proofs.Dates.{date-trip}
 use Rattle.trips.proofs.Texts.{clean-valid}
 use Rattle.trips.proofs.LineTrip.{line-limits}
-use Rattle.trips.proofs.Fixes.{fix-trip, fields-there}
+use Rattle.rules.proofs.Fixes.{fields-of-fix}
+use Rattle.trips.proofs.Columned.{line-timed, timed-line, value-said, said-by, by-said}
+use Rattle.trips.proofs.Fixes.{fix-fields, fix-trip}
 use Rattle.trips.proofs.Extras.{extra-trip}
 use Rattle.trips.proofs.Heads.{head-trip, head-within}
 use Rattle.trips.proofs.Heads as heads
 use Rattle.trips.proofs.Points.{point-trip}
+use Rattle.trips.proofs.Points as points
+use Rattle.words.specs.Characters.{IsValid, IsCode}
+use Rattle.words.proofs.Characters.{valid-exactly, code-exactly, codes-exactly}
+use Rattle.words.proofs.Values.{either-exactly, time-exactly, latitude-exactly, longitude-exactly, fix-exactly}
 use Rattle.demands.specs.Grammar.{Shaped, IsALine, IsDateLine, IsHLine, IsDLine, IsELine, IsFLine, IsLLine, IsGLine, IsOtherLine, Columns, IsBLine, IsKLine, IsColumned, IsHeadLine, IsPointLine}
 use Rattle.sound.proofs.Each.{each-map, each-cut}
-use Rattle.demands.proofs.Laws.{day-exactly, planned-exactly, given-none, are-valid, shape-there, shape-said, valid-are}
+use Rattle.demands.proofs.Laws.{day-exactly, planned-exactly, are-valid, shape-there, shape-said, valid-are}
 use Rattle.demands.proofs.LayoutLines.{IsTold}
 use Rattle.demands.proofs.Columns.{tail-exactly}
 
@@ -54,20 +63,17 @@ a-there l u k e =
     let s = then-inv (shaped 7 255 false l) u _ e in
     let m = need-inv (codesAt l 1 3) _ (says u) _ refuses-says (s .2) in
     let n = need-inv (codesAt l 4 3) _ (says u) _ refuses-says (m .1) in
-    record { letter = k; shape = shape-there 7 255 false l tt (s .1); maker = m .0; serial = n .0 }
+    record { letter = k; shape = shape-there 7 255 false l tt (s .1); maker = codes-exactly l 1 3 .0 (m .0); serial = codes-exactly l 4 3 .0 (n .0) }
 
 pub a-said : (l : List ℕ) → IsALine l → aLine l ≡ says tt
 unfolding aLine
-a-said l w = simp (shape-said 7 255 false l (w .shape), w .maker, w .serial)
+a-said l w = simp (shape-said 7 255 false l (w .shape), codes-exactly l 1 3 .1 (w .maker), codes-exactly l 4 3 .1 (w .serial))
 
 -- ---- line 2
 
 -- what is valid outside H lines is valid in them
-in-h : (b : ℕ) → isValid false b ≡ true → isValid true b ≡ true
-unfolding isValid
-in-h b e =
-    let common = leb 0x20 b && leb b 0x7D && not (eqb b 0x21) && not (eqb b 0x24) && not (eqb b 0x2A) && not (eqb b 0x5C) && not (eqb b 0x5E) in
-    ap (λ t. t && true) (and-inv common (not (eqb b 0x2C)) e .0)
+in-h : (b : ℕ) → IsValid false b → IsValid true b
+in-h b w = record { from = w .from; to = w .to; without = w .without; comma = λ e. refl }
 
 pub mark-there : (l : List ℕ) → isDateMark l ≡ true → drop 1 l ≡ code "F" ∷ code "D" ∷ code "T" ∷ code "E" ∷ drop 5 l
 unfolding isDateMark
@@ -102,10 +108,11 @@ date-shape : (d : Date) → isDate d ≡ true → Shaped 11 11 true (date-text d
 unfolding date-text isValid
 date-shape d g =
     let n = date-trip .long d in
+    let v : (b : ℕ) → isValid true b ≡ true → IsValid true b = λ b. valid-exactly true b .0 in
     record {
       long = omega arith;
       short = omega arith;
-      valid = (refl, (refl, (refl, (refl, (refl, each-map (dateText d) in-h (are-valid (dateText d) (date-trip .clean d g)))))));
+      valid = (v 72 refl, (v 70 refl, (v 68 refl, (v 84 refl, (v 69 refl, each-map (dateText d) in-h (are-valid (dateText d) (date-trip .clean d g)))))));
     }
 
 pub date-said : (l : List ℕ) (d : Date) → IsDateLine d l → dateLine l ≡ says d
@@ -124,11 +131,11 @@ h-there l u k e =
     let s = then-inv (shaped 5 255 true l) u _ e in
     let m = need-inv (isEither (getD l 1 0) (code "F") (code "O")) _ (says u) _ refuses-says (s .2) in
     let n = need-inv (codesAt l 2 3) _ (says u) _ refuses-says (m .1) in
-    record { letter = k; shape = shape-there 5 255 true l tt (s .1); source = m .0; subject = n .0 }
+    record { letter = k; shape = shape-there 5 255 true l tt (s .1); source = either-exactly _ _ _ .0 (m .0); subject = codes-exactly l 2 3 .0 (n .0) }
 
 pub h-said : (l : List ℕ) → IsHLine l → hLine l ≡ says tt
 unfolding hLine on
-h-said l w = simp (shape-said 5 255 true l (w .shape), w .source, w .subject)
+h-said l w = simp (shape-said 5 255 true l (w .shape), either-exactly _ _ _ .1 (w .source), codes-exactly l 2 3 .1 (w .subject))
 
 -- ---- D
 
@@ -138,11 +145,11 @@ d-there l u k e =
     let s = then-inv (shaped 6 6 false l) u _ e in
     let m = need-inv (isEither (getD l 1 0) (code "1") (code "2")) _ (says u) _ refuses-says (s .2) in
     let n = need-inv (codesAt l 2 4) _ (says u) _ refuses-says (m .1) in
-    record { letter = k; shape = shape-there 6 6 false l tt (s .1); qualifier = m .0; station = n .0 }
+    record { letter = k; shape = shape-there 6 6 false l tt (s .1); qualifier = either-exactly _ _ _ .0 (m .0); station = codes-exactly l 2 4 .0 (n .0) }
 
 pub d-said : (l : List ℕ) → IsDLine l → dLine l ≡ says tt
 unfolding dLine on
-d-said l w = simp (shape-said 6 6 false l (w .shape), w .qualifier, w .station)
+d-said l w = simp (shape-said 6 6 false l (w .shape), either-exactly _ _ _ .1 (w .qualifier), codes-exactly l 2 4 .1 (w .station))
 
 -- ---- E
 
@@ -153,7 +160,7 @@ time-text l x t p k e = byte-there l 0 1 x refl p k ∙ ap (λ y. x ∷ y) (time
 text-time : (l : List ℕ) (x t : ℕ) (rest : List ℕ) → isTime t ≡ true → l ≡ x ∷ (timeText t ++ rest) → timeAt l 1 ≡ some t
 text-time l x t rest g e = time-trip .here l 1 t rest g (ap (drop 1) e)
 
-pub e-inv : (l : List ℕ) (t : ℕ) → eLine l ≡ says t → Shaped 10 255 false l × (timeAt l 1 ≡ some t) × (codesAt l 7 3 ≡ true)
+e-inv : (l : List ℕ) (t : ℕ) → eLine l ≡ says t → Shaped 10 255 false l × (timeAt l 1 ≡ some t) × (codesAt l 7 3 ≡ true)
 unfolding eLine
 e-inv l t e =
     let s = then-inv (shaped 10 255 false l) t _ e in
@@ -165,36 +172,36 @@ e-inv l t e =
 pub e-there : (l : List ℕ) (t : ℕ) → getD l 0 0 ≡ code "E" → eLine l ≡ says t → IsELine t l
 e-there l t k e =
     let h = e-inv l t e in
-    record { rest = drop 7 l; text = time-text l 69 t (omega arith) k (h .1); good = time-trip .limits l 1 t (h .1); shape = h .0; event = h .2 }
+    record { rest = drop 7 l; text = time-text l 69 t (omega arith) k (h .1); time = time-exactly t .0 (time-trip .limits l 1 t (h .1)); shape = h .0; event = codes-exactly l 7 3 .0 (h .2) }
 
 pub e-said : (l : List ℕ) (t : ℕ) → IsELine t l → (getD l 0 0 ≡ code "E") × (eLine l ≡ says t)
 unfolding eLine
 e-said l t w =
-    let h = text-time l 69 t (w .rest) (w .good) (w .text) in
-    (ap (λ x. getD x 0 0) (w .text), simp (shape-said 10 255 false l (w .shape), h, w .event))
+    let h = text-time l 69 t (w .rest) (time-exactly t .1 (w .time)) (w .text) in
+    (ap (λ x. getD x 0 0) (w .text), simp (shape-said 10 255 false l (w .shape), h, codes-exactly l 7 3 .1 (w .event)))
 
 -- ---- F
 
 -- pairs of code characters, none odd, are code characters
-pairs-there : (l : List ℕ) (at : ℕ) → length l % 2 ≡ 0 → badPair at l ≡ none → Each (λ b. isCode b ≡ true) l
+pairs-there : (l : List ℕ) (at : ℕ) → length l % 2 ≡ 0 → badPair at l ≡ none → Each IsCode l
 unfolding badPair
 pairs-there [] at n e = tt
 pairs-there (a ∷ []) at n e = absurd (omega arith)
 pairs-there (a ∷ b ∷ l) at n e = go (isCode a) (isCode b) refl refl e (pairs-there l (at + 2) (omega arith))
   where
     go : (x y : Bool) → isCode a ≡ x → isCode b ≡ y → cond (x && y) (badPair (at + 2) l) (some at) ≡ none
-        → (badPair (at + 2) l ≡ none → Each (λ b. isCode b ≡ true) l) → Each (λ b. isCode b ≡ true) (a ∷ b ∷ l)
-    go true true p q e f = (p, (q, f e))
+        → (badPair (at + 2) l ≡ none → Each IsCode l) → Each IsCode (a ∷ b ∷ l)
+    go true true p q e f = (code-exactly a .0 p, (code-exactly b .0 q, f e))
     go true false p q e f = absurd (none-some (sym e))
     go false y p q e f = absurd (none-some (sym e))
 
-pairs-here : (l : List ℕ) (at : ℕ) → Each (λ b. isCode b ≡ true) l → badPair at l ≡ none
+pairs-here : (l : List ℕ) (at : ℕ) → Each IsCode l → badPair at l ≡ none
 unfolding badPair
 pairs-here [] at h = refl
 pairs-here (a ∷ []) at h = refl
-pairs-here (a ∷ b ∷ l) at h = rw (h .0, h .1 .0) (pairs-here l (at + 2) (h .1 .1))
+pairs-here (a ∷ b ∷ l) at h = rw (code-exactly a .1 (h .0), code-exactly b .1 (h .1 .0)) (pairs-here l (at + 2) (h .1 .1))
 
-pub f-inv : (l : List ℕ) (t : ℕ) → fLine l ≡ says t → Shaped 7 255 false l × (timeAt l 1 ≡ some t) × ((length l - 7) % 2 ≡ 0) × (badPair 7 (drop 7 l) ≡ none)
+f-inv : (l : List ℕ) (t : ℕ) → fLine l ≡ says t → Shaped 7 255 false l × (timeAt l 1 ≡ some t) × ((length l - 7) % 2 ≡ 0) × (badPair 7 (drop 7 l) ≡ none)
 unfolding fLine
 f-inv l t e =
     let s = then-inv (shaped 7 255 false l) t _ e in
@@ -211,7 +218,7 @@ f-there l t k e =
     record {
       pairs = drop 7 l;
       text = time-text l 70 t (omega arith) k (h .1);
-      good = time-trip .limits l 1 t (h .1);
+      time = time-exactly t .0 (time-trip .limits l 1 t (h .1));
       shape = h .0;
       even = even;
       codes = pairs-there (drop 7 l) 7 even (h .3);
@@ -220,7 +227,7 @@ f-there l t k e =
 pub f-said : (l : List ℕ) (t : ℕ) → IsFLine t l → (getD l 0 0 ≡ code "F") × (fLine l ≡ says t)
 unfolding fLine
 f-said l t w =
-    let h = text-time l 70 t (w .pairs) (w .good) (w .text) in
+    let h = text-time l 70 t (w .pairs) (time-exactly t .1 (w .time)) (w .text) in
     let d : drop 7 l ≡ w .pairs = past l 1 6 7 (timeText t) (w .pairs) (time-trip .long t) refl (ap (drop 1) (w .text)) in
     let n : (length l - 7) % 2 ≡ 0 = ap (λ x. x % 2) (sym (length-drop 7 l) ∙ ap length d) ∙ w .even in
     let p : badPair 7 (drop 7 l) ≡ none = ap (badPair 7) d ∙ pairs-here (w .pairs) 7 (w .codes) in
@@ -266,41 +273,44 @@ limits f layout t fields tail =
 pub fix-reads : (layout : Layout) → IsTold family.B layout → (f : Fix) (l : List ℕ) → IsBLine layout f l → fixSaid l layout ≡ says f
 unfolding goodFix
 fix-reads layout t f l w =
-    ap (λ x. fixSaid x layout) (w .text) ∙ fix-trip layout .here f (w .tail) (limits family.B layout t (goodFixFields f) (w .tail) .1 (w .fields, w .columns))
+    ap (λ x. fixSaid x layout) (w .text) ∙ fix-trip layout .here f (w .tail) (limits family.B layout t (goodFixFields (fieldsOf f)) (w .tail) .1 (fix-exactly (fieldsOf f) .1 (w .fields), w .columns))
 
 pub extra-reads : (layout : Layout) → IsTold family.K layout → (t : ℕ) (l : List ℕ) → IsKLine layout t l → extraSaid l layout ≡ says t
 unfolding goodExtra
 extra-reads layout i t l w =
-    ap (λ x. extraSaid x layout) (w .text) ∙ extra-trip layout .here t (w .tail) (limits family.K layout i (isTime t) (w .tail) .1 (w .time, w .columns))
+    ap (λ x. extraSaid x layout) (w .text) ∙ extra-trip layout .here t (w .tail) (limits family.K layout i (isTime t) (w .tail) .1 (time-exactly t .1 (w .time), w .columns))
 
 pub fix-read : (layout : Layout) → IsTold family.B layout → (f : Fix) (l : List ℕ) → fixSaid l layout ≡ says f → IsBLine layout f l
 unfolding goodFix
 fix-read layout t f l e =
-    let g = limits family.B layout t (goodFixFields f) (drop 35 l) .0 (line-limits (fix-trip layout) l f e) in
-    record { tail = drop 35 l; text = fix-trip layout .there l f e; fields = g .0; columns = g .1 }
+    let g = limits family.B layout t (goodFixFields (fieldsOf f)) (drop 35 l) .0 (line-limits (fix-trip layout) l f e) in
+    record { tail = drop 35 l; text = fix-trip layout .there l f e; fields = fix-exactly (fieldsOf f) .0 (g .0); columns = g .1 }
 
 pub extra-read : (layout : Layout) → IsTold family.K layout → (t : ℕ) (l : List ℕ) → extraSaid l layout ≡ says t → IsKLine layout t l
 unfolding goodExtra
 extra-read layout i t l e =
     let g = limits family.K layout i (isTime t) (drop 7 l) .0 (line-limits (extra-trip layout) l t e) in
-    record { tail = drop 7 l; text = extra-trip layout .there l t e; time = g .0; columns = g .1 }
+    record { tail = drop 7 l; text = extra-trip layout .there l t e; time = time-exactly t .0 (g .0); columns = g .1 }
+
+-- what stands behind the fields of a line that is shaped is not too long, and clean
+behind-shape : (l : List ℕ) (fields most : ℕ) (rest : List ℕ) → drop fields l ≡ rest → Shaped fields most false l → (fields + length rest ≤ most) × (isClean rest ≡ true)
+behind-shape l fields most rest d w =
+    let k : length rest ≡ length l - fields = ap length (sym d) ∙ length-drop fields l in
+    let v = each-cut (IsValid false) (take fields l) (drop fields l) (subst (Each (IsValid false)) (sym (take-append-drop fields l)) (w .valid)) .1 in
+    (omega (arith, w .long, w .short), ap isClean (sym d) ∙ clean-valid (drop fields l) ∙ valid-are (drop fields l) v)
 
 pub head-reads : (h : Head) (l : List ℕ) → IsHeadLine h l → headSaid l ≡ says h
 unfolding goodHead
 head-reads h l w =
-    let d : drop 25 l ≡ w .rest = ap (drop 25) (w .text) ∙ head-trip .behind h (w .rest) in
-    let k : length (w .rest) ≡ length l - 25 = ap length (sym d) ∙ length-drop 25 l in
-    let n : 25 + length (w .rest) ≤ 255 = omega (arith, w .shape .long, w .shape .short) in
-    let v = each-cut (λ b. isValid false b ≡ true) (take 25 l) (drop 25 l) (subst (Each (λ b. isValid false b ≡ true)) (sym (take-append-drop 25 l)) (w .shape .valid)) .1 in
-    let c : isClean (w .rest) ≡ true = ap isClean (sym d) ∙ clean-valid (drop 25 l) ∙ valid-are (drop 25 l) v in
+    let r = behind-shape l 25 255 (w .rest) (ap (drop 25) (w .text) ∙ head-trip .behind h (w .rest)) (w .shape) in
     let g : goodHeadFields h ≡ true = head-within h .1 (record {
       declared = day-exactly (h .declared) .1 (w .declared);
-      time = w .time;
+      time = time-exactly _ .1 (w .time);
       flight = planned-exactly (h .flight) .1 (w .flight);
       task = le-leb _ _ (w .task);
       turns = le-leb _ _ (w .turns);
     }) in
-    ap headSaid (w .text) ∙ head-trip .here h (w .rest) (rw (g, le-leb _ _ n) c)
+    ap headSaid (w .text) ∙ head-trip .here h (w .rest) (rw (g, le-leb _ _ (r .0)) (r .1))
 
 pub head-read : (h : Head) (l : List ℕ) → headSaid l ≡ says h → IsHeadLine h l
 unfolding goodHead
@@ -311,7 +321,7 @@ head-read h l e =
       rest = drop 25 l;
       text = head-trip .there l h e;
       declared = day-exactly (h .declared) .0 (w .declared);
-      time = w .time;
+      time = time-exactly _ .0 (w .time);
       flight = planned-exactly (h .flight) .0 (w .flight);
       task = leb-true _ _ (w .task);
       turns = leb-true _ _ (w .turns);
@@ -319,49 +329,54 @@ head-read h l e =
     }
 
 pub point-reads : (l : List ℕ) (w : IsPointLine l) → pointSaid l ≡ says (w .point)
-point-reads l w = ap pointSaid (w .text) ∙ point-trip .here (w .point) (w .rest) (w .good)
+unfolding goodPoint
+point-reads l w =
+    let r = behind-shape l 18 255 (w .rest) (ap (drop 18) (w .text) ∙ point-trip .behind (w .point) (w .rest)) (w .shape) in
+    let a = latitude-exactly (w .point .lat) .1 (w .lat) in
+    let o = longitude-exactly (w .point .lon) .1 (w .lon) in
+    ap pointSaid (w .text) ∙ point-trip .here (w .point) (w .rest) (rw (a, o, le-leb _ _ (r .0)) (r .1))
 
 pub point-read : (p : Point) (l : List ℕ) → pointSaid l ≡ says p → (w : IsPointLine l) × (w .point ≡ p)
-point-read p l e = (record { point = p; rest = drop 18 l; text = point-trip .there l p e; good = line-limits point-trip l p e }, refl)
+unfolding goodPoint
+point-read p l e =
+    let a = need-inv (isLatitude (p .lat)) false true _ false-true (line-limits point-trip l p e) in
+    let o = need-inv (isLongitude (p .lon)) false true _ false-true (a .1) in (
+      record {
+        point = p;
+        rest = drop 18 l;
+        text = point-trip .there l p e;
+        lat = latitude-exactly (p .lat) .0 (a .0);
+        lon = longitude-exactly (p .lon) .0 (o .0);
+        shape = shape-there 18 255 false l tt (points.point-there l p e .shape);
+      },
+      refl,
+    )
 
 -- ---- a line as the check reads it
 
 pub columned-letter : (f : Family) (layout : Layout) (t : ℕ) (l : List ℕ) → IsColumned f layout t l → getD l 0 0 ≡ lineLetter f
-unfolding fixText extraText
+unfolding fieldsText fixText extraText
 columned-letter family.B layout t l w = ap (λ x. getD x 0 0) (w .2 .text)
 columned-letter family.K layout t l w = ap (λ x. getD x 0 0) (w .text)
 
 pub columned-there : (f : Family) (layout : Layout) (t : ℕ) (l : List ℕ) → IsTold f layout → getD l 0 0 ≡ lineLetter f → columnedLine f layout l ≡ says t → IsColumned f layout t l
-unfolding columnedLine fixSaid extraSaid
-columned-there family.B layout t l i k e = let r = then-inv (bLine layout l) t _ e in (r .0, cc, fix-read layout i (r .0) l (rw (eq-eqb _ _ k, i .right) (r .1)))
-columned-there family.K layout t l i k e = extra-read layout i t l (rw (eq-eqb _ _ k, i .right) e)
+unfolding fixSaid extraSaid columnedLine
+columned-there family.B layout t l i k e =
+    let r = timed-line family.B layout l t e in
+    let said = said-by family.B l layout (r .0) k (i .right) (r .1) in
+    (fixOf (r .0), ap (λ (x : FixFields). x .time) (fields-of-fix (r .0)) ∙ r .2, fix-read layout i (fixOf (r .0)) l (value-said family.B l layout (r .0) said))
+columned-there family.K layout t l i k e = extra-read layout i t l (said-by family.K l layout t k (i .right) e)
+
+-- what it spells before its columns
+pub columned-fields : (f : Family) (layout : Layout) (t : ℕ) (l : List ℕ) → IsTold f layout → IsColumned f layout t l → (v : FieldsIn f) × (fieldsSaid f l layout ≡ says v) × (timeIn f v ≡ t)
+unfolding extraSaid
+columned-fields family.B layout t l i w = (fieldsOf (w .0), fix-fields l layout (w .0) (fix-reads layout i (w .0) l (w .2)), w .1)
+columned-fields family.K layout t l i w = (t, extra-reads layout i t l w, refl)
 
 pub columned-said : (f : Family) (layout : Layout) (t : ℕ) (l : List ℕ) → IsTold f layout → IsColumned f layout t l → columnedLine f layout l ≡ says t
-unfolding columnedLine fixSaid extraSaid
-columned-said family.B layout t l i w =
-    let a = need-inv (eqb (getD l 0 0) (code "B")) _ (says (w .0)) _ refuses-says (fix-reads layout i (w .0) l (w .2)) in
-    rw (need-inv (allowed 36 layout) _ (says (w .0)) _ refuses-says (a .1) .1) (ap says (w .1))
-columned-said family.K layout t l i w =
-    let a = need-inv (eqb (getD l 0 0) (code "K")) _ (says t) _ refuses-says (extra-reads layout i t l w) in
-    need-inv (allowed 8 layout) _ (says t) _ refuses-says (a .1) .1
-
--- its time stands at 2 to 7
-pub columned-time : (f : Family) (layout : Layout) (t : ℕ) (l : List ℕ) → columnedLine f layout l ≡ says t → timeAt l 1 ≡ some t
-unfolding columnedLine bLine kLine
-columned-time family.B layout t l e =
-    let r = then-inv (bLine layout l) t _ e in
-    let s = then-inv (shapedBy 36 layout l) (r .0) _ (r .1) in
-    let x = then-inv (fixFields l) (r .0) _ (s .2) in
-    let c = then-inv (columns l layout) (r .0) _ (x .2) in
-    let i : x .0 ≡ r .0 = cc in
-    let j : r .0 .time ≡ t = cc in
-    fields-there l (r .0) (x .1 ∙ ap says i) .at-time ∙ ap some j
-columned-time family.K layout t l e =
-    let s = then-inv (shapedBy 8 layout l) t _ e in
-    let x = given-inv (timeAt l 1) _ (says t) _ refuses-says (s .2) in
-    let c = then-inv (columns l layout) t _ (x .2) in
-    let i : x .0 ≡ t = cc in
-    x .1 ∙ ap some i
+columned-said f layout t l i w =
+    let r = columned-fields f layout t l i w in
+    line-timed f layout l (r .0) (by-said f l layout (r .0) (r .1) .2) ∙ ap says (r .2)
 
 pub head-there : (h : Head) (l : List ℕ) → getD l 0 0 ≡ code "C" → headLine l ≡ says h → IsHeadLine h l
 unfolding headSaid

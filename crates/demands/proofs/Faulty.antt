@@ -30,6 +30,7 @@ use Rattle.rules.specs.Lines.{isSized, shaped, aLine, dateLine, hLine, layoutLi
 use Rattle.rules.specs.declared.Entry.{Entry}
 use Rattle.rules.proofs.Inverse.{false-true, bool-eq}
 use Rattle.laws.proofs.Passing.{roleIn}
+use Rattle.laws.proofs.Walking.{columned-time, event-time, satellites-time}
 use Rattle.demands.specs.Coming.{isAmong, only, without, isOpen, isBody, lettersBefore, mayCome, orZero, entryOf, entriesTold, endsAt, sizeOf, lastTime, isInTime}
 use Rattle.demands.specs.Checks.{isThere, Check, check, AllPass, FailsFirst, oneEach, shapeChecks, columnChecks, timeCheck, pairChecks, hasCode, entryChecks, layoutChecks, dateChecks, headerChecks, headChecks, pointChecks, thenTime, roleChecks, checksOf, lineChecks, eventChecks, satelliteChecks}
 use Rattle.demands.specs.Grammar.{laid}
@@ -39,7 +40,6 @@ use Rattle.sound.proofs.Each.{each-join}
 use Rattle.sound.proofs.Placed.{with-laid, entries-laid}
 use Rattle.sound.proofs.Columns.{end-of, line-end}
 use Rattle.demands.proofs.Laws.{shape-there}
-use Rattle.demands.proofs.EachLine.{e-inv, f-inv, columned-time}
 use Rattle.demands.proofs.LayoutLines.{there, entry-of}
 
 -- ---- tests
@@ -197,20 +197,20 @@ first-front (c ∷ cs) ds n b (inr f) = inr (f .0, first-front cs ds n b (f .1))
 -- ---- along a chain
 
 module _ {A : Type 0} where
-  one-more : (s : Said A) (c : Check) (cs : List Check) → c .passes ≡ true → Agrees s cs → Agrees s (c ∷ cs)
+  pub one-more : (s : Said A) (c : Check) (cs : List Check) → c .passes ≡ true → Agrees s cs → Agrees s (c ∷ cs)
   one-more (says v) c cs e h = (e, h)
   one-more (refuses n k b) c cs e h = (h .0, inr (e, h .1))
 
-  agree-need : (n b : ℕ) (t : Bool) (f : Unit {0} → Said A) (cs : List Check) → (t ≡ true → Agrees (f tt) cs) → Agrees (need t (refuses n 0 b) f) (check n b t ∷ cs)
+  pub agree-need : (n b : ℕ) (t : Bool) (f : Unit {0} → Said A) (cs : List Check) → (t ≡ true → Agrees (f tt) cs) → Agrees (need t (refuses n 0 b) f) (check n b t ∷ cs)
   agree-need n b true f cs h = one-more (f tt) (check n b true) cs refl (h refl)
   agree-need n b false f cs h = (refl, inl (refl, refl, refl))
 
-  agree-given : {B : Type 0} (n b : ℕ) (o : Option B) (f : B → Said A) (cs : List Check) → ((v : B) → o ≡ some v → Agrees (f v) cs)
+  pub agree-given : {B : Type 0} (n b : ℕ) (o : Option B) (f : B → Said A) (cs : List Check) → ((v : B) → o ≡ some v → Agrees (f v) cs)
       → Agrees (given o (refuses n 0 b) f) (check n b (isThere o) ∷ cs)
   agree-given n b (some v) f cs h = one-more (f v) (check n b true) cs refl (h v refl)
   agree-given n b none f cs h = (refl, inl (refl, refl, refl))
 
-  agree-then : {B : Type 0} (s : Said B) (f : B → Said A) (cs ds : List Check) → Agrees s cs → ((v : B) → s ≡ says v → Agrees (f v) ds) → Agrees (andThen s f) (cs ++ ds)
+  pub agree-then : {B : Type 0} (s : Said B) (f : B → Said A) (cs ds : List Check) → Agrees s cs → ((v : B) → s ≡ says v → Agrees (f v) ds) → Agrees (andThen s f) (cs ++ ds)
   agree-then (says v) f cs ds h g = go (f v) (g v refl)
     where
       go : (s : Said A) → Agrees s ds → Agrees s (cs ++ ds)
@@ -219,7 +219,7 @@ module _ {A : Type 0} where
   agree-then (refuses n k b) f cs ds h g = (h .0, first-front cs ds n b (h .1))
 
   -- the value does not matter
-  agree-last : {B : Type 0} (s : Said B) (f : B → A) (cs : List Check) → Agrees s cs → Agrees (andThen s λ v. says (f v)) cs
+  pub agree-last : {B : Type 0} (s : Said B) (f : B → A) (cs : List Check) → Agrees s cs → Agrees (andThen s λ v. says (f v)) cs
   agree-last (says v) f cs h = h
   agree-last (refuses n k b) f cs h = h
 
@@ -281,7 +281,7 @@ ends-same [] start = refl
 ends-same (e ∷ es) start = let n : e .last + 1 - 1 ≡ e .last = omega arith in ends-same es (e .last + 1) ∙ ap (λ x. endsAt x es) n
 
 -- the length that a layout gives is where its last column ends
-length-laid : (f : Family) (es : List Entry) → lineLength (firstStart f) (laid es) ≡ sizeOf f es
+pub length-laid : (f : Family) (es : List Entry) → lineLength (firstStart f) (laid es) ≡ sizeOf f es
 length-laid family.B es = line-end 36 es ∙ ends-same es 36
 length-laid family.K es = line-end 8 es ∙ ends-same es 8
 
@@ -299,25 +299,58 @@ pairs-agree v (a ∷ b ∷ l) at = go (isCode a && isCode b) (pairs-agree v l (a
 -- link by link
 ruleset agreeing = (agree-last, agree-need, agree-given, agree-then, shape-agrees, columns-agree, pairs-agree)
 
-line-agrees : (f : Family) (es : List Entry) (l : List ℕ) → Agrees (columnedLine f (laid es) l) (lineChecks f es l)
-unfolding columnedLine bLine kLine fixFields shapedBy on number
-line-agrees family.B es l = rw (length-laid family.B es) (search agreeing depth 20)
-line-agrees family.K es l = rw (length-laid family.K es) (search agreeing depth 20)
+pub fix-agrees : (es : List Entry) (l : List ℕ) → Agrees (bLine (laid es) l) (lineChecks family.B es l)
+unfolding bLine fixFields shapedBy on number
+fix-agrees es l = rw (length-laid family.B es) (search agreeing depth 20)
+
+pub extra-agrees : (es : List Entry) (l : List ℕ) → Agrees (kLine (laid es) l) (lineChecks family.K es l)
+unfolding kLine shapedBy number
+extra-agrees es l = rw (length-laid family.K es) (search agreeing depth 20)
+
+pub line-agrees : (f : Family) (es : List Entry) (l : List ℕ) → Agrees (columnedLine f (laid es) l) (lineChecks f es l)
+unfolding columnedLine
+line-agrees family.B es l = agree-last (bLine (laid es) l) (λ f. f .time) (lineChecks family.B es l) (fix-agrees es l)
+line-agrees family.K es l = extra-agrees es l
+
+-- ---- line 2, C lines, E lines and F lines
+
+module _ (l : List ℕ) where
+  pub date-agrees : Agrees (dateLine l) (dateChecks l)
+  unfolding dateLine number
+  date-agrees = search agreeing depth 20
+
+  pub head-agrees : Agrees (headLine l) (headChecks l)
+  unfolding headLine headFields number
+  head-agrees = search agreeing depth 20
+
+  pub point-agrees : Agrees (pointLine l) (pointChecks l)
+  unfolding pointLine number
+  point-agrees = search agreeing depth 20
+
+  pub event-agrees : Agrees (eLine l) (eventChecks l)
+  unfolding eLine number
+  event-agrees = search agreeing depth 20
+
+  pub satellites-agree : Agrees (fLine l) (satelliteChecks l)
+  unfolding fLine number
+  satellites-agree = search agreeing depth 20
 
 -- ---- I and J lines
 
-carries-has : (es : List Entry) (x : ℕ) → carries (laid es) x ≡ hasCode es x
-unfolding carries look hasCode firstOf
-carries-has es x = ap (λ l. given (firstOf (λ (e : Entry). eqb (e .code) x) (λ (k : ℕ) (e : Entry). spanOf e) l 0) false (λ s. true)) (entries-laid es) ∙ found es 0
+-- a code is found among entries exactly where one of them has it
+pub found-has : (x : ℕ) (es : List Entry) (n : ℕ) → isThere (firstOf (λ (e : Entry). eqb (e .code) x) (λ (k : ℕ) (e : Entry). spanOf e) es n) ≡ hasCode es x
+unfolding hasCode firstOf
+found-has x [] n = refl
+found-has x (e ∷ es) n = go (eqb (e .code) x) (found-has x es (suc n))
   where
-    found : (es : List Entry) (n : ℕ) → given (firstOf (λ (e : Entry). eqb (e .code) x) (λ (k : ℕ) (e : Entry). spanOf e) es n) false (λ s. true) ≡ hasCode es x
-    found [] n = refl
-    found (e ∷ es) n = go (eqb (e .code) x) (found es (suc n))
-      where
-        go : (b : Bool) → given (firstOf (λ (e : Entry). eqb (e .code) x) (λ (k : ℕ) (e : Entry). spanOf e) es (suc n)) false (λ s. true) ≡ hasCode es x
-            → given (cond b (some (spanOf e)) (firstOf (λ (e : Entry). eqb (e .code) x) (λ (k : ℕ) (e : Entry). spanOf e) es (suc n))) false (λ s. true) ≡ (b || hasCode es x)
-        go true r = refl
-        go false r = r
+    go : (b : Bool) → isThere (firstOf (λ (e : Entry). eqb (e .code) x) (λ (k : ℕ) (e : Entry). spanOf e) es (suc n)) ≡ hasCode es x
+        → isThere (cond b (some (spanOf e)) (firstOf (λ (e : Entry). eqb (e .code) x) (λ (k : ℕ) (e : Entry). spanOf e) es (suc n))) ≡ (b || hasCode es x)
+    go true r = refl
+    go false r = r
+
+pub carries-has : (es : List Entry) (x : ℕ) → carries (laid es) x ≡ hasCode es x
+unfolding carries look
+carries-has es x = ap (λ l. isThere (firstOf (λ (e : Entry). eqb (e .code) x) (λ (k : ℕ) (e : Entry). spanOf e) l 0)) (entries-laid es) ∙ found-has x es 0
 
 placed-agrees : (start : ℕ) (before : List Entry) (e : Entry) (n : ℕ) → Agrees (placed start (laid before) e n)
     (check 10 n (eqb (e .first) start)
@@ -351,7 +384,7 @@ entries-agree (suc left) l at start before n =
     (sym (with-laid before e (omega arith)))
     (entries-agree left l (at + 7) (e .last + 1) (before ++ (e ∷ [])) (omega (arith, length-append before (e ∷ [])))))
 
-layout-agrees : (f : Family) (l : List ℕ) → Agrees (layoutLine (firstStart f) l) (layoutChecks f l)
+pub layout-agrees : (f : Family) (l : List ℕ) → Agrees (layoutLine (firstStart f) l) (layoutChecks f l)
 unfolding layoutLine layoutFields number
 layout-agrees f l =
     agree-then (shaped 3 99 false l) _ (shapeChecks 3 99 false l) _ (shape-agrees 3 99 false l) λ u s.
@@ -386,11 +419,11 @@ either-way false u a b cs ds e h g = rw (← e) g
 
 module _ (ls : List (List ℕ)) (l : List ℕ) (st : State) (w : Stands ls st) where
   ruled-agrees : (r : Role) (stage : ℕ) → isRole r ≡ true → Agrees (ruled r l (moved stage st)) (roleChecks r ls l)
-  unfolding ruled headerLine declarationLine aLine dateLine hLine headLine headFields pointLine dLine eLine fLine on number
+  unfolding ruled headerLine declarationLine aLine hLine dLine on number
   ruled-agrees role.Opens stage i = search agreeing depth 20
   ruled-agrees role.Heads stage i =
       agree-cond (eqb (st .flight .lines + 1) 2) (eqb (length ls) 1) _ _ (dateChecks l) (headerChecks l) (second-line (st .flight .lines) ∙ ap (λ n. eqb n 1) (w .lines))
-      (search agreeing depth 20)
+      (agree-last (dateLine l) _ (dateChecks l) (date-agrees l))
       (search agreeing depth 20)
   ruled-agrees (role.Tells f) stage i = agree-last (layoutLine (firstStart f) l) (λ x. laidOut f x (moved stage st)) (layoutChecks f l) (layout-agrees f l)
   ruled-agrees (role.Columned f) stage i =
@@ -399,9 +432,11 @@ module _ (ls : List (List ℕ)) (l : List ℕ) (st : State) (w : Stands ls st) w
       let x = layoutOf f (st .flight .layouts) in
       then-time ls l (columnedLine f x l) (counted f (moved stage st)) cs (w .clock) (λ t. columned-time f x t l) (subst (λ y. Agrees (columnedLine f y l) cs) (sym (laid-out f (w .told f))) (line-agrees f es l))
   ruled-agrees role.Declares stage i =
-      either-way (eqb (st .points) 0) (isOpen ls) _ _ (headChecks l) (pointChecks l) (open-points ls st w) (search agreeing depth 20) (search agreeing depth 20)
-  ruled-agrees role.Event stage i = then-time ls l (eLine l) (moved stage st) (eventChecks l) (w .clock) (λ t e. e-inv l t e .1) (search agreeing depth 20)
-  ruled-agrees role.Satellites stage i = then-time ls l (fLine l) (moved stage st) (satelliteChecks l) (w .clock) (λ t e. f-inv l t e .1) (search agreeing depth 20)
+      either-way (eqb (st .points) 0) (isOpen ls) _ _ (headChecks l) (pointChecks l) (open-points ls st w)
+      (agree-last (headLine l) _ (headChecks l) (head-agrees l))
+      (agree-last (pointLine l) _ (pointChecks l) (point-agrees l))
+  ruled-agrees role.Event stage i = then-time ls l (eLine l) (moved stage st) (eventChecks l) (w .clock) (λ t. event-time t l) (event-agrees l)
+  ruled-agrees role.Satellites stage i = then-time ls l (fLine l) (moved stage st) (satelliteChecks l) (w .clock) (λ t. satellites-time t l) (satellites-agree l)
   ruled-agrees role.Differential stage i = search agreeing depth 20
   ruled-agrees role.Seals stage i = search agreeing depth 20
   ruled-agrees role.Remark stage i = search agreeing depth 20
@@ -420,7 +455,7 @@ module _ (ls : List (List ℕ)) (l : List ℕ) (st : State) (w : Stands ls st) w
 
 -- ---- the first that fails, told apart
 
-fails-first : (cs : List Check) (n b : ℕ) → First cs n b → FailsFirst cs n b
+pub fails-first : (cs : List Check) (n b : ℕ) → First cs n b → FailsFirst cs n b
 fails-first [] n b f = absurd f
 fails-first (c ∷ cs) n b (inl f) = record { before = []; failed = c; after = cs; order = refl; passed = tt; fails = f .0; numbered = f .1; placed = f .2 }
 fails-first (c ∷ cs) n b (inr f) =
@@ -428,7 +463,7 @@ fails-first (c ∷ cs) n b (inr f) =
     let order = ap (λ x. c ∷ x) (r .order) in
     record { before = c ∷ r .before; failed = r .failed; after = r .after; order = order; passed = (f .0, r .passed); fails = r .fails; numbered = r .numbered; placed = r .placed }
 
-first-fails : (cs : List Check) (n b : ℕ) → FailsFirst cs n b → First cs n b
+pub first-fails : (cs : List Check) (n b : ℕ) → FailsFirst cs n b → First cs n b
 first-fails cs n b w =
     subst (λ x. First x n b) (sym (w .order)) (first-join (w .before) (w .failed ∷ w .after) n b (w .passed) (inl (w .fails, w .numbered, w .placed)))
 
@@ -445,11 +480,11 @@ one-first (x ∷ cs) n b m c (inl f) (inr g) = absurd (false-true (sym (f .0) �
 one-first (x ∷ cs) n b m c (inr f) (inl g) = absurd (false-true (sym (g .0) ∙ f .0))
 one-first (x ∷ cs) n b m c (inr f) (inr g) = one-first cs n b m c (f .1) (g .1)
 
-agrees-one : {A : Type 0} (s : Said A) (cs : List Check) (n b : ℕ) → Agrees s cs → First cs n b → s ≡ refuses n 0 b
+pub agrees-one : {A : Type 0} (s : Said A) (cs : List Check) (n b : ℕ) → Agrees s cs → First cs n b → s ≡ refuses n 0 b
 agrees-one (says v) cs n b h f = absurd (none-fails cs n b h f)
 agrees-one (refuses m k c) cs n b h f = let o = one-first cs m c n b (h .1) f in let z = h .0 in cc
 
-agrees-all : {A : Type 0} (s : Said A) (cs : List Check) → Agrees s cs → AllPass cs → (v : A) × (s ≡ says v)
+pub agrees-all : {A : Type 0} (s : Said A) (cs : List Check) → Agrees s cs → AllPass cs → (v : A) × (s ≡ says v)
 agrees-all (says v) cs h p = (v, refl)
 agrees-all (refuses n k b) cs h p = absurd (none-fails cs n b p (h .1))
 

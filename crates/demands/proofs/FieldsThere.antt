@@ -1,22 +1,18 @@
 -- Each field could be read exactly where the text of a value within its limits stands. From the laws of each field both ways. Assumes nothing.
-use Prim.Native.Nat.{ℕ, zero, suc, _+_, _≤_, _^_}
+use Prim.Native.Nat.{ℕ, _+_, _≤_, _<_, _^_}
 use Prim.Native.Char.{code}
-use mathlib.Core.Bool.{Bool, true, false, _||_, or-true}
-use mathlib.Core.List.{List, [], _∷_, _++_}
-use mathlib.Core.Logic.{_↔_, _⊎_, inl, inr}
+use mathlib.Core.Bool.{Bool, true}
+use mathlib.Core.List.{List, [], _∷_}
+use mathlib.Core.Logic.{_↔_}
 use mathlib.Core.Option.{Option, none, some}
-use mathlib.Core.Path.{_≡_, refl, _∙_, ap}
+use mathlib.Core.Path.{_≡_, refl, ap}
 use native.Mathlib.Omega.{arith}
-use borrow.Author.Tests.{lt-ltb, ltb-true, eqb-true, eq-eqb}
-use lib.Dec.{eqb, ltb}
 use lib.ListN.{length, drop}
-use Rattle.rules.specs.Choice.{leads, Each}
-use Rattle.rules.specs.Chars.{isCode, codesAt}
 use Rattle.rules.specs.Numbers.{numberAt, digitsOf}
-use Rattle.rules.specs.Listed.{codeAt, codeText, isCodeWord}
+use Rattle.rules.specs.Choice.{Each}
+use Rattle.rules.specs.Listed.{codeAt, codeText}
 use Rattle.rules.specs.Lines.{isDateMark}
-use Rattle.rules.specs.Fields.{isEither}
-use Rattle.rules.proofs.Inverse.{false-true, and-inv}
+use Rattle.rules.proofs.Inverse.{false-true}
 use Rattle.trips.proofs.Digits.{number-there, number-here}
 use Rattle.trips.proofs.Trip.{Trip}
 use Rattle.trips.proofs.Times.{time-trip}
@@ -25,73 +21,52 @@ use Rattle.trips.proofs.Plans.{planned-trip}
 use Rattle.trips.proofs.Positions.{latitude-trip, longitude-trip}
 use Rattle.trips.proofs.Altitudes.{altitude-trip}
 use Rattle.sound.proofs.Entries.{code-there, code-here}
+use Rattle.words.specs.Characters.{IsCode}
+use Rattle.words.proofs.Characters.{codes-exactly, word-exactly}
+use Rattle.words.proofs.Values.{either-exactly, time-exactly, latitude-exactly, longitude-exactly, altitude-exactly}
 use Rattle.demands.specs.Checks.{isThere}
-use Rattle.demands.specs.FieldTexts.{Stood, Field, Codes, FieldsTold}
+use Rattle.demands.specs.FieldTexts.{Stood, Field, FieldsTold}
+use Rattle.demands.proofs.Laws.{day-exactly, planned-exactly}
 use Rattle.demands.proofs.EachLine.{mark-there}
 use Rattle.demands.proofs.Leading.{letter}
 
 -- ---- a field that reads both ways
 
-module _ {A : Type 0} (read : List ℕ → ℕ → Option A) (text : A → List ℕ) (within : A → Bool) where
-  is-field : ((l : List ℕ) (at : ℕ) (v : A) → read l at ≡ some v → (within v ≡ true) × Stood l at (text v))
-      → ((l : List ℕ) (at : ℕ) (v : A) → (within v ≡ true) × Stood l at (text v) → read l at ≡ some v)
-      → Field read text within
+module _ {A : Type 0} (read : List ℕ → ℕ → Option A) (text : A → List ℕ) (Within : A → Type 0) where
+  is-field : ((l : List ℕ) (at : ℕ) (v : A) → read l at ≡ some v → Within v × Stood l at (text v))
+      → ((l : List ℕ) (at : ℕ) (v : A) → Within v × Stood l at (text v) → read l at ≡ some v)
+      → Field read text Within
   is-field out in-again = record {
     reads = λ l at v. (out l at v, in-again l at v);
     there = λ l at. (read-there l at (read l at) refl, λ w. ap isThere (in-again l at (w .0) (w .1, w .2)));
   }
     where
-      read-there : (l : List ℕ) (at : ℕ) (o : Option A) → read l at ≡ o → isThere o ≡ true → (v : A) × (within v ≡ true) × Stood l at (text v)
+      read-there : (l : List ℕ) (at : ℕ) (o : Option A) → read l at ≡ o → isThere o ≡ true → (v : A) × Within v × Stood l at (text v)
       read-there l at (some v) q h = let r = out l at v q in (v, r .0, r .1)
       read-there l at none q h = absurd (false-true h)
 
-  trip-field : (width : ℕ) → Trip read text width within → Field read text within
-  trip-field width t =
+  -- the test of the limits says what they are
+  trip-field : (width : ℕ) (within : A → Bool) → Trip read text width within → ((v : A) → (within v ≡ true) ↔ Within v) → Field read text Within
+  trip-field width within t m =
       is-field
-      (λ l at v e. (t .limits l at v e, record { rest = drop (at + width) l; bytes = t .there l at (at + width) v refl e }))
-      (λ l at v w. t .here l at v (w .1 .rest) (w .0) (w .1 .bytes))
+      (λ l at v e. (m v .0 (t .limits l at v e), record { rest = drop (at + width) l; bytes = t .there l at (at + width) v refl e }))
+      (λ l at v w. t .here l at v (w .1 .rest) (m v .1 (w .0)) (w .1 .bytes))
 
-number-field : (n : ℕ) → n ≤ 18 → Field (λ l at. numberAt l at n) (digitsOf n) (λ v. ltb v (10 ^ n))
+number-field : (n : ℕ) → n ≤ 18 → Field (λ l at. numberAt l at n) (digitsOf n) (λ v. v < 10 ^ n)
 number-field n h =
-    is-field (λ l at. numberAt l at n) (digitsOf n) (λ v. ltb v (10 ^ n))
+    is-field (λ l at. numberAt l at n) (digitsOf n) (λ v. v < 10 ^ n)
     (λ l at v e.
     let r = number-there l at n (at + n) v refl e in
-    (lt-ltb v (10 ^ n) (r .1), record { rest = drop (at + n) l; bytes = r .0 }))
-    (λ l at v w. number-here l at n v (w .1 .rest) h (ltb-true v (10 ^ n) (w .0)) (w .1 .bytes))
+    (r .1, record { rest = drop (at + n) l; bytes = r .0 }))
+    (λ l at v w. number-here l at n v (w .1 .rest) h (w .0) (w .1 .bytes))
 
-word-field : Field codeAt codeText isCodeWord
+word-field : Field codeAt codeText (λ x. Each IsCode (codeText x))
 word-field =
-    is-field codeAt codeText isCodeWord
+    is-field codeAt codeText (λ x. Each IsCode (codeText x))
     (λ l at v e.
     let r = code-there l at (at + 3) v refl e in
-    (r .1, record { rest = drop (at + 3) l; bytes = r .0 }))
-    (λ l at v w. code-here l at v (w .1 .rest) (w .0) (w .1 .bytes))
-
--- ---- code characters
-
--- the first n of a list
-front-there : (n : ℕ) (l : List ℕ) → leads isCode n l ≡ true → (text rest : List ℕ) × Codes n text × (l ≡ text ++ rest)
-unfolding leads
-front-there zero l e = ([], l, record { count = refl; each = tt }, refl)
-front-there (suc n) [] e = absurd (false-true e)
-front-there (suc n) (b ∷ l) e =
-    let a = and-inv (isCode b) (leads isCode n l) e in
-    let r = front-there n l (a .1) in
-    (b ∷ r .0, r .1, record { count = ap suc (r .2 .count); each = (a .0, r .2 .each) }, ap (λ x. b ∷ x) (r .3))
-
-front-here : (n : ℕ) (t r : List ℕ) → length t ≡ n → Each (λ b. isCode b ≡ true) t → leads isCode n (t ++ r) ≡ true
-unfolding leads
-front-here zero [] r e h = refl
-front-here zero (b ∷ t) r e h = absurd (omega arith)
-front-here (suc n) [] r e h = absurd (omega arith)
-front-here (suc n) (b ∷ t) r e h = rw (h .0) (front-here n t r (omega arith) (h .1))
-
-codes-field : (l : List ℕ) (at n : ℕ) → (codesAt l at n ≡ true) ↔ ((t : List ℕ) × Codes n t × Stood l at t)
-unfolding codesAt
-codes-field l at n = (
-  λ e. let f = front-there n (drop at l) e in (f .0, f .2, record { rest = f .1; bytes = f .3 }),
-  λ w. ap (leads isCode n) (w .2 .bytes) ∙ front-here n (w .0) (w .2 .rest) (w .1 .count) (w .1 .each),
-)
+    (word-exactly v .0 (r .1), record { rest = drop (at + 3) l; bytes = r .0 }))
+    (λ l at v w. code-here l at v (w .1 .rest) (word-exactly v .1 (w .0)) (w .1 .bytes))
 
 -- ---- the date line's mark
 
@@ -103,35 +78,20 @@ mark-field l = (λ e. record { rest = drop 5 l; bytes = mark-there l e }, in-aga
     in-again [] w = let n = ap length (w .bytes) in absurd (omega arith)
     in-again (x ∷ t) w = ap (λ y. isDateMark (x ∷ y)) (w .bytes)
 
--- ---- one of two letters
-
-either-field : (x a b : ℕ) → (isEither x a b ≡ true) ↔ ((x ≡ a) ⊎ (x ≡ b))
-unfolding isEither
-either-field x a b = (out (eqb x a) (eqb x b) refl refl, back)
-  where
-    out : (s t : Bool) → eqb x a ≡ s → eqb x b ≡ t → (s || t) ≡ true → (x ≡ a) ⊎ (x ≡ b)
-    out true t p q e = inl (eqb-true x a p)
-    out false true p q e = inr (eqb-true x b q)
-    out false false p q e = absurd (false-true e)
-
-    back : (x ≡ a) ⊎ (x ≡ b) → (eqb x a || eqb x b) ≡ true
-    back (inl h) = rw (eq-eqb x a h)
-    back (inr h) = rw (eq-eqb x b h) (or-true (eqb x a))
-
 -- ---- all of them
 
 pub fields-told : FieldsTold
 fields-told = record {
   role = letter;
-  time = trip-field _ _ _ 6 time-trip;
-  date = trip-field _ _ _ 6 date-trip;
-  planned = trip-field _ _ _ 6 planned-trip;
-  latitude = trip-field _ _ _ 8 latitude-trip;
-  longitude = trip-field _ _ _ 9 longitude-trip;
-  altitude = trip-field _ _ _ 5 altitude-trip;
+  time = trip-field _ _ _ 6 _ time-trip time-exactly;
+  date = trip-field _ _ _ 6 _ date-trip day-exactly;
+  planned = trip-field _ _ _ 6 _ planned-trip planned-exactly;
+  latitude = trip-field _ _ _ 8 _ latitude-trip latitude-exactly;
+  longitude = trip-field _ _ _ 9 _ longitude-trip longitude-exactly;
+  altitude = trip-field _ _ _ 5 _ altitude-trip altitude-exactly;
   number = number-field;
   word = word-field;
-  codes = codes-field;
-  either = either-field;
+  codes = codes-exactly;
+  either = either-exactly;
   mark = mark-field;
 }

@@ -29,13 +29,15 @@ use Rattle.rules.proofs.Inverse.{refuses-says, given-inv, need-inv, then-inv, a
 use Rattle.trips.proofs.Laws.{past, byte-there}
 use Rattle.trips.proofs.Texts.{areValid, both-valid, shaped-here}
 use Rattle.trips.proofs.Digits.{digits-length, number-there, number-here, digits-clean}
+use Rattle.words.proofs.Characters.{word-exactly}
+use Rattle.words.proofs.Codes.{width-exactly}
 use Rattle.demands.specs.Grammar.{widthOf, IsEntry, Tiles, laid, IsLayoutLine, AtMostOne, absent}
 use Rattle.demands.specs.Grammar as grammar
 use Rattle.demands.specs.Coming.{orZero, entryOf, entriesIn}
 use Rattle.sound.proofs.Each.{each-map, each-both, each-join, each-cut}
 use Rattle.sound.proofs.Entries.{code-range, Fits, entry-length, entry-there, Tiled, withAll, entries-here}
 use Rattle.sound.proofs.Placed.{with-laid, all-laid, entries-laid, carries-none, none-carries, Sound, allowed-there, sound-line, sound-empty}
-use Rattle.demands.proofs.Laws.{width-exactly, shape-there}
+use Rattle.demands.proofs.Laws.{shape-there}
 
 -- ---- the entries that a line has
 
@@ -78,7 +80,7 @@ tiles-there (e ∷ es) start pre n w =
     let r = tiles-there es (e .last + 1) (pre ++ (e ∷ [])) (omega (arith, length-append pre (e ∷ []))) (subst (Tiled es (e .last + 1)) (with-laid pre e (omega arith)) (w .2)) in
     let c = each-map es (λ x. each-cut (λ a. a .code ≡ x .code → ⊥) pre (e ∷ [])) (r .1) in (
       (
-        record { starts = f .starts; ends = f .ends; spelt = leb-true _ _ (s .0); word = s .1; wide = width-exactly (e .code) (widthOf e) .0 (f .wide) },
+        record { starts = f .starts; ends = f .ends; spelt = leb-true _ _ (s .0); word = word-exactly (e .code) .0 (s .1); wide = width-exactly (e .code) (widthOf e) .0 (f .wide) },
         each-map es (λ x h i. h .1 .0 (sym i)) c,
         r .0,
       ),
@@ -94,7 +96,7 @@ tiles-here (e ∷ es) start pre n w c =
     let d = each-both es (λ x. Each (λ a. a .code ≡ x .code → ⊥) pre) (λ x. x .code ≡ e .code → ⊥) (c .1) (w .1) in
     let r = tiles-here es (e .last + 1) (pre ++ (e ∷ [])) (omega (arith, length-append pre (e ∷ []))) (w .2)
     (each-map es (λ x h. each-join (λ a. a .code ≡ x .code → ⊥) pre (e ∷ []) (h .0) ((λ i. h .1 (sym i)), tt)) d) in (
-      rw (le-leb _ _ (f .spelt), f .word),
+      rw (le-leb _ _ (f .spelt)) (word-exactly (e .code) .1 (f .word)),
       record { starts = f .starts; ends = f .ends; once = none-carries pre (e .code) (c .0); wide = width-exactly (e .code) (widthOf e) .1 (f .wide) },
       subst (Tiled es (e .last + 1)) (sym (with-laid pre e (omega arith))) r,
     )
@@ -234,7 +236,7 @@ module _ (f : Family) (layout : Layout) where
   unfolding layoutSaid
   line-reads l w = let s = layout-said f layout l w in rw (eq-eqb _ _ (s .0)) (s .1)
 
-  own-line : IsTold f layout → IsLayoutLine f layout (layoutText f layout)
+  pub own-line : IsTold f layout → IsLayoutLine f layout (layoutText f layout)
   unfolding layoutText
   own-line i =
       let a = allowed-there (firstStart f) layout (i .right) (i .full) in

@@ -16,7 +16,7 @@ use Rattle.rules.specs.Families.{lineLetter, layoutLetter, layoutOf, withLayout
 use Rattle.rules.specs.Files.{hasRoom}
 use Rattle.rules.specs.Refusals.{says}
 use Rattle.rules.specs.Lines.{kindOf}
-use Rattle.rules.specs.Roles.{roleOf, isRole, isDeclaring, isOf, sameFamily, afterA, afterH, afterLayout, inBody, afterG, atStart, afterLastG, leading, stageAfter}
+use Rattle.rules.specs.Roles.{roleOf, isRole, isDeclaring, isTimed, isOf, sameFamily, afterA, afterH, afterLayout, inBody, afterG, atStart, afterLastG, leading, stageAfter}
 use Rattle.rules.specs.Order.{judge, start, fitsDeclaration, orderOf, withFlight, moved, dated, laidOut, counted, begun, pointed, clocked, onward, nextDay, back, passing, isBack}
 use Rattle.rules.specs.declared.Layout.{Layout}
 use Rattle.rules.specs.declared.Layouts.{Layouts}
@@ -34,7 +34,7 @@ use Rattle.rules.proofs.Inverse.{false-true, none-some, need-inv, and-inv, not-
 use Rattle.laws.proofs.Passing.{roleIn, leading-so, leading-inv, Onward, Leaves, judged, judged-so}
 use Rattle.laws.proofs.Counted.{judged-more}
 use Rattle.laws.proofs.Passing as passes
-use Rattle.demands.specs.Coming.{isAmong, lettersBefore}
+use Rattle.demands.specs.Coming.{isAmong, lettersBefore, timedLetters}
 use Rattle.demands.specs.FieldTexts.{Letter}
 use Rattle.demands.specs.Grammar.{Follows, IsALine, IsDateLine, IsHLine, IsLayoutLine, IsHeadLine, IsPointLine, IsLLine, IsGLine, Timed, columned, event, satellites, Untimed, differential, remark, other, AtMostOne, Parts, Fits}
 use Rattle.sound.proofs.Placed.{sound-empty}
@@ -65,7 +65,7 @@ fits-so none n h = refl
 fits-so (some most) n h = le-leb n most h
 
 -- a test that each of them passes, and one that each fails
-pub all-pass : (test : Family → Bool) → (test family.B && test family.K) ≡ true → (f : Family) → test f ≡ true
+all-pass : (test : Family → Bool) → (test family.B && test family.K) ≡ true → (f : Family) → test f ≡ true
 all-pass test e = let a = and-inv (test family.B) (test family.K) e in every (λ f. test f ≡ true) (a .0) (a .1)
 
 pub none-pass : (test : Family → Bool) → (not (test family.B) && not (test family.K)) ≡ true → (f : Family) → test f ≡ false
@@ -92,10 +92,6 @@ is-same family.K = every (λ g. sameFamily g family.K ≡ true → g ≡ family.
 
 pub put-others : (f : Family) (i : Layout) (ls : Layouts) (g : Family) → sameFamily g f ≡ false → layoutOf g (withLayout f i ls) ≡ layoutOf g ls
 put-others f i ls = put-by (λ g x. sameFamily g f ≡ false → x ≡ layoutOf g ls) f i ls (λ n. absurd (false-true (sym n ∙ same-family f))) (λ g n m. refl)
-
-pub same-letter : (f g : Family) → lineLetter f ≡ lineLetter g → f ≡ g
-same-letter family.B = every (λ g. lineLetter family.B ≡ lineLetter g → family.B ≡ g) (λ e. refl) (λ e. absurd (omega arith))
-same-letter family.K = every (λ g. lineLetter family.K ≡ lineLetter g → family.K ≡ g) (λ e. absurd (omega arith)) (λ e. refl)
 
 -- ---- the role of a letter
 
@@ -157,10 +153,6 @@ not-empty (b ∷ l) h = omega arith
 abbrev pub isTelling : Family → Role → Bool
 isTelling g = elim [ role.Opens ↦ false | role.Heads ↦ false | role.Tells f ↦ sameFamily g f | role.Columned f ↦ false | role.Declares ↦ false | role.Event ↦ false | role.Satellites ↦ false | role.Differential ↦ false | role.Seals ↦ false | role.Remark ↦ false | role.Other ↦ false | role.NoRole ↦ false ]
 
--- has a time
-abbrev pub isTiming : Role → Bool
-isTiming = elim [ role.Opens ↦ false | role.Heads ↦ false | role.Tells f ↦ false | role.Columned f ↦ true | role.Declares ↦ false | role.Event ↦ true | role.Satellites ↦ true | role.Differential ↦ false | role.Seals ↦ false | role.Remark ↦ false | role.Other ↦ false | role.NoRole ↦ false ]
-
 -- the first part of a file that a line of this role leads to
 abbrev pub leadsTo : Role → ℕ
 leadsTo = elim [ role.Opens ↦ afterA | role.Heads ↦ afterH | role.Tells f ↦ afterLayout f | role.Columned f ↦ inBody | role.Declares ↦ inBody | role.Event ↦ inBody | role.Satellites ↦ inBody | role.Differential ↦ inBody | role.Seals ↦ afterG | role.Remark ↦ inBody | role.Other ↦ inBody | role.NoRole ↦ inBody ]
@@ -170,7 +162,7 @@ isSealing r = eqb (leadsTo r) afterG
 
 -- the tests of a first byte by the role, and those that ask for a family
 abbrev Plainly : Role → ℕ → Type 0
-Plainly r b = (eqb b (code "C") ≡ isDeclaring r) × (eqb b (code "G") ≡ isSealing r) × (isAmong (bytes "BEFK") b ≡ isTiming r)
+Plainly r b = (eqb b (code "C") ≡ isDeclaring r) × (eqb b (code "G") ≡ isSealing r) × (isAmong timedLetters b ≡ isTimed r)
 
 abbrev ByFamily : Role → ℕ → Family → Type 0
 ByFamily r b f = (eqb b (lineLetter f) ≡ isOf f r) × (eqb b (layoutLetter f) ≡ isTelling f r) × (isAmong (lettersBefore f) b ≡ leb (leadsTo r) (afterLayout f - 1))
@@ -227,7 +219,7 @@ counts-more l st after e f = rw (letter-tests l .2 f .0) (judged-more l st after
 
 -- the part of the file that a line leads to
 pub data Part : Type 0 where
-  recorder header body seal remarks : Part
+  recorder header body seals remarks : Part
   telling : Family → Part
 
 -- a line with a time is counted in its family, where it has one
@@ -236,15 +228,16 @@ countedBy (columned f w) ns = oneMore f ns
 countedBy (event w) ns = ns
 countedBy (satellites w) ns = ns
 
-abbrev pub noted : {layouts : Layouts} {t : ℕ} {l : List ℕ} → Timed layouts t l → State → State
-noted {t = t} w st =
+-- the state behind it: it is counted, and the clock stands at its time
+abbrev pub afterTimed : {layouts : Layouts} {t : ℕ} {l : List ℕ} → Timed layouts t l → State → State
+afterTimed {t = t} w st =
     clocked t (withFlight st (record { date = st .flight .date; layouts = st .flight .layouts; lines = st .flight .lines; counts = countedBy w (st .flight .counts) }))
 
 -- a line of the body may come, and the state after it
 pub data InBody (st : State) (l : List ℕ) : State → Type 0 where
   head : (h : Head) → st .points ≡ 0 → st .declared ≡ false → countOf family.B (st .flight .counts) ≡ 0 → IsHeadLine h l → InBody st l (begun h (moved inBody st))
   point : 1 ≤ st .points → IsPointLine l → InBody st l (pointed (moved inBody st))
-  timed : (t : ℕ) (w : Timed (st .flight .layouts) t l) → st .points ≡ 0 → Follows (st .clock) t → InBody st l (noted w (moved inBody st))
+  timed : (t : ℕ) (w : Timed (st .flight .layouts) t l) → st .points ≡ 0 → Follows (st .clock) t → InBody st l (afterTimed w (moved inBody st))
   quiet : st .points ≡ 0 → Untimed l → InBody st l (moved inBody st)
 
 -- a line may come, its part, and the state after it
@@ -255,7 +248,7 @@ pub data Leads (st : State) (l : List ℕ) : Part → State → Type 0 where
   layout-line : (f : Family) (i : Layout) → afterH ≤ st .stage → st .stage ≤ afterLayout f - 1 → st .points ≡ 0 → IsLayoutLine f i l
       → Leads st l (telling f) (laidOut f i (moved (afterLayout f) st))
   body-line : {m : State} → afterH ≤ st .stage → st .stage ≤ inBody → InBody st l m → Leads st l body m
-  g-line : afterH ≤ st .stage → st .stage ≤ afterG → st .points ≡ 0 → IsGLine l → Leads st l seal (moved afterG st)
+  g-line : afterH ≤ st .stage → st .stage ≤ afterG → st .points ≡ 0 → IsGLine l → Leads st l seals (moved afterG st)
   l-line : afterG ≤ st .stage → st .stage ≤ afterLastG → st .points ≡ 0 → IsLLine l → Leads st l remarks (moved afterLastG st)
 
 -- each layout is one that a line can tell
@@ -358,7 +351,7 @@ module _ (l : List ℕ) (st : State) where
   by-role stage g k f o (passes.differential e) = to-body (λ c. moved c st) stage o (quiet (plain-fits st f) (differential (d-there l tt k e)))
   by-role stage g k f o (passes.seals e) =
       let s = leading-inv afterH afterG afterG (st .stage) stage o in
-      rw (← s .2) (seal, g-line (s .0) (s .1) (plain-fits st f) (g-there l tt k e))
+      rw (← s .2) (seals, g-line (s .0) (s .1) (plain-fits st f) (g-there l tt k e))
   by-role stage g k f o (passes.remark e) = l-led stage (leb (st .stage) inBody) (plain-fits st f) (l-there l tt k e) o
   by-role stage g k f o (passes.other e) = to-body (λ c. moved c st) stage o (quiet (plain-fits st f) (other (other-there l tt (k .0) (k .1) e)))
 

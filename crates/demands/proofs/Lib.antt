@@ -2,6 +2,7 @@ pub mod Laws
 pub mod LayoutLines
 pub mod Columns
 pub mod EachLine
+pub mod Readers
 pub mod Leading
 pub mod Sections
 pub mod Accepted
@@ -9,8 +10,13 @@ pub mod FieldsThere
 pub mod Standing
 pub mod Faulty
 pub mod Refusing
+pub mod ByLayout
 pub mod Reading
 pub mod Writers
 pub mod Worked
+pub mod Endings
+pub mod ReadersRefuse
 pub mod Demands
 pub mod Promised
+pub mod Left
+pub mod DemandOne

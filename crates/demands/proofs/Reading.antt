@@ -1,44 +1,53 @@
--- What can be read from an accepted file: its lines by number and step by step; each B line and each K line, by the layouts of the answer, as the value whose line it
--- is, column by column; and its declaration, a head with its points. Assumes nothing.
-use Prim.Native.Nat.{ℕ, zero, suc, _+_, _-_, _<_}
+-- What can be read from an accepted file: its lines by number and step by step; its date and its layouts, from the lines that tell them; each B line and each K line, by these
+-- layouts, as the value whose line it is, column by column; each E and F line; and its declaration, a head with its points. Assumes nothing.
+use Prim.Native.Nat.{ℕ, zero, suc, _+_, _-_, _≤_, _<_}
 use Prim.Native.Char.{code}
-use mathlib.Core.Bool.{true, false}
+use mathlib.Core.Bool.{Bool, true, false, _&&_}
 use mathlib.Core.List.{List, [], _∷_, _++_, append-assoc}
 use mathlib.Core.Option.{some}
-use mathlib.Core.Path.{_≡_, refl, sym, _∙_, ap, subst}
+use mathlib.Core.Path.{_≡_, refl, sym, _∙_, ap, ap₂, subst}
 use native.Mathlib.Nat.{zero-add}
 use native.Mathlib.Omega.{arith}
-use borrow.Author.Tests.{ne-eqb, eqb-false}
-use lib.Dec.{eqb}
+use borrow.Author.Tests.{ne-eqb, eqb-false, ltb-true, leb-true}
+use lib.Dec.{eqb, ltb}
 use lib.ListN.{length, getD, take, drop}
 use Rattle.rules.specs.Choice.{bytes, Each}
-use Rattle.rules.specs.Families.{firstStart, lineLetter, layoutLetter, familyOf, layoutOf}
+use Rattle.rules.specs.Families.{firstStart, lineLetter, layoutLetter, layoutOf}
 use Rattle.rules.specs.Refusals.{says}
-use Rattle.rules.specs.Layouts.{entriesOf}
-use Rattle.rules.specs.Split.{end, linesOf, offsets}
-use Rattle.rules.specs.Reads.{entriesSaid}
-use Rattle.rules.specs.Files.{verdict, goodLines}
+use Rattle.rules.specs.Layouts.{emptyLayout, entriesOf}
+use Rattle.rules.specs.Split.{Lines, end, linesOf, offsets}
+use Rattle.rules.specs.Reads.{dateSaid, headRest, pointRest}
+use Rattle.rules.specs.Fixes.{fieldsOf}
+use Rattle.rules.specs.Files.{verdict, goodLines, tableAfter}
 use Rattle.rules.specs.declared.Date.{Date}
 use Rattle.rules.specs.declared.Layout.{Layout}
 use Rattle.rules.specs.declared.Family.{Family}
 use Rattle.rules.specs.declared.Family.the-variants as family
 use Rattle.rules.specs.declared.Layouts.{Layouts}
+use Rattle.rules.specs.declared.Fix.{Fix}
+use Rattle.rules.specs.declared.Head.{Head}
 use Rattle.rules.specs.declared.Seal.{Seal}
 use Rattle.rules.specs.declared.Flight.{Flight}
-use Rattle.rules.proofs.Inverse.{false-true}
+use Rattle.rules.proofs.Inverse.{false-true, and-inv}
 use Rattle.laws.proofs.Splitting.{textsOf, steps, lengths-total}
 use Rattle.laws.proofs.Splitting as splitting
-use Rattle.laws.proofs.Counted.{accepted-whole, goodIn, table-length, entry-put, entry-kept, line-by-number}
+use Rattle.laws.proofs.Counted.{accepted-whole, goodIn, textOf, offsetOf, Numbered, table-length, entry-put, entry-kept, line-by-number}
+use Rattle.trips.proofs.Columned.{entries-said}
 use Rattle.trips.proofs.Fixes.{fix-trip}
 use Rattle.trips.proofs.Extras.{extra-trip}
-use Rattle.demands.specs.Grammar.{Columns, IsColumned, IsGLine, IsLLine, AtMostOne, absent, given, Timed, Untimed, differential, remark, other, Items, done, timed, untimed, Body, undeclared, Parts, linesIn, Keeps, Meets}
+use Rattle.trips.proofs.Heads.{head-trip}
+use Rattle.trips.proofs.Points.{point-trip}
+use Rattle.demands.specs.Grammar.{IsDateLine, IsLayoutLine, IsHeadLine, IsPointLine, IsELine, IsFLine, Columns, IsBLine, IsKLine, IsColumned, IsGLine, IsLLine, AtMostOne, absent, given, Timed, Untimed, differential, remark, other, Items, done, timed, untimed, Body, undeclared, Parts, linesIn, Keeps, Meets}
 use Rattle.demands.specs.Grammar as grammar
 use Rattle.demands.specs.Coming.{isAmong}
-use Rattle.demands.specs.Readings.{ReadsFix, ReadsExtra, ReadsColumns, ReadsLine, NoC, ReadsDeclaration, nowhere, declared, total, Steps, Readable}
-use Rattle.sound.proofs.Each.{each-map, each-join}
-use Rattle.demands.proofs.EachLine.{e-said, f-said, start-low, fix-reads, extra-reads, columned-letter, columned-said, head-reads, point-reads, head-said, point-said}
-use Rattle.demands.proofs.LayoutLines.{IsTold, layout-said, told}
-use Rattle.demands.proofs.Leading.{every, told-of, same-letter, all-pass, none-pass}
+use Rattle.demands.specs.Readings.{Entered, ReadsFix, ReadsExtra, ReadsColumns, ReadsValue, ReadsLayout, ReadsPresence, ReadsLine, ReadsHead, ReadsPoint, NoC, ReadsDeclaration, nowhere, declared, total, Steps, Readable}
+use Rattle.sound.proofs.Each.{each-map, each-join, each-cut}
+use Rattle.demands.proofs.EachLine.{e-said, f-said, start-low, fix-reads, extra-reads, columned-letter, columned-fields, head-reads, point-reads, head-said, point-said}
+use Rattle.demands.proofs.Readers.{date-exactly, event-exactly, satellite-exactly, on-map}
+use Rattle.demands.proofs.ByLayout.{presence-reads}
+use Rattle.demands.proofs.ByLayout as by-layout
+use Rattle.demands.proofs.LayoutLines.{IsTold, layout-said, layout-line-exactly, told}
+use Rattle.demands.proofs.Leading.{told-of, none-pass}
 use Rattle.demands.proofs.Sections.{before}
 use Rattle.demands.proofs.Accepted.{lines-cut, accepted-as}
 use Rattle.demands.proofs.Columns.{columns-read}
@@ -54,11 +63,12 @@ lines-are file m = ap textsOf (lines-cut file m) ∙ texts-before (linesIn (m .p
 
 -- ---- their offsets, and the steps over them
 
-offset-is : (ls : List (List ℕ)) (at n : ℕ) → n < length ls → getD (offsets at (before ls end)) n 0 ≡ at + total (take n ls)
+-- whatever comes behind them
+pub offset-is : (k : Lines) (ls : List (List ℕ)) (at n : ℕ) → n < length ls → getD (offsets at (before ls k)) n 0 ≡ at + total (take n ls)
 unfolding offsets total
-offset-is [] at n h = absurd (omega arith)
-offset-is (l ∷ ls) at zero h = omega arith
-offset-is (l ∷ ls) at (suc n) h = offset-is ls (at + length l + 2) n (omega arith) ∙ omega arith
+offset-is k [] at n h = absurd (omega arith)
+offset-is k (l ∷ ls) at zero h = omega arith
+offset-is k (l ∷ ls) at (suc n) h = offset-is k ls (at + length l + 2) n (omega arith) ∙ omega arith
 
 steps-over : (file : List ℕ) (ls : List (List ℕ)) (at : ℕ) → splitting.Steps file at (before ls end) → Steps file at ls
 unfolding Steps
@@ -72,32 +82,51 @@ total-is (l ∷ ls) = ap (λ n. length l + 2 + n) (total-is ls)
 
 -- ---- lines with columns
 
--- the columns of a line of a family that passes its checks
-line-columns : (f : Family) (layout : Layout) (t : ℕ) (l tail : List ℕ) → IsTold f layout → IsColumned f layout t l → drop (firstStart f - 1) l ≡ tail → Columns (entriesOf layout) tail
+-- the columns of a line that stand in its tail
+tail-columns : (f : Family) (layout : Layout) (t : ℕ) (l tail : List ℕ) → IsTold f layout → IsColumned f layout t l → drop (firstStart f - 1) l ≡ tail → Columns (entriesOf layout) tail
     → ReadsColumns f layout l
-unfolding entriesSaid familyOf
-line-columns f layout t l tail i w d c =
-    let k = columned-letter f layout t l w in
-    columns-read f layout l tail (start-low f) i d c (rw (k, every (λ f. familyOf (lineLetter f) ≡ some f) refl refl f, i .right, columned-said f layout t l i w))
+tail-columns f layout t l tail i w d c =
+    let r = columned-fields f layout t l i w in
+    columns-read f layout l tail (start-low f) i d c (entries-said f l layout (r .0) (r .1))
 
--- a line of a family, by its layout
-abbrev ReadsColumned : Family → Layout → List ℕ → Type 0
-ReadsColumned family.B layout l = ReadsFix layout l
-ReadsColumned family.K layout l = ReadsExtra layout l
+-- the columns of a line that is, by the grammar, one of the family
+pub line-columns : (f : Family) (layout : Layout) (t : ℕ) (l : List ℕ) → IsTold f layout → IsColumned f layout t l → ReadsColumns f layout l
+line-columns family.B layout t l i w =
+    tail-columns family.B layout t l (w .2 .tail) i w (ap (drop 35) (w .2 .text) ∙ fix-trip layout .behind (w .0) (w .2 .tail)) (w .2 .columns)
+line-columns family.K layout t l i w = tail-columns family.K layout t l (w .tail) i w (ap (drop 7) (w .text) ∙ extra-trip layout .behind t (w .tail)) (w .columns)
 
-reads-columned : (f : Family) (layout : Layout) (t : ℕ) (l : List ℕ) → IsTold f layout → IsColumned f layout t l → ReadsColumned f layout l
-reads-columned family.B layout t l i (f, e, w) = record {
+-- a B line, and a K line
+reads-fix : (layout : Layout) (f : Fix) (l : List ℕ) → IsTold family.B layout → IsBLine layout f l → ReadsFix layout l
+unfolding fieldsOf
+reads-fix layout f l i w = record {
   fix = f;
   is = w;
   reads = fix-reads layout i f l w;
-  columns = line-columns family.B layout t l (w .tail) i (f, e, w) (ap (drop 35) (w .text) ∙ fix-trip layout .behind f (w .tail)) (w .columns);
+  map = on-map (f .lat) (f .lon) (w .fields .lat) (w .fields .lon);
+  columns = line-columns family.B layout (f .time) l i (f, refl, w);
 }
-reads-columned family.K layout t l i w = record {
+
+reads-extra : (layout : Layout) (t : ℕ) (l : List ℕ) → IsTold family.K layout → IsKLine layout t l → ReadsExtra layout l
+reads-extra layout t l i w = record {
   time = t;
   is = w;
   reads = extra-reads layout i t l w;
-  columns = line-columns family.K layout t l (w .tail) i w (ap (drop 7) (w .text) ∙ extra-trip layout .behind t (w .tail)) (w .columns);
+  columns = line-columns family.K layout t l i w;
 }
+
+-- ---- a head and its points, with the texts behind their fields
+
+reads-head : (h : Head) (l : List ℕ) → IsHeadLine h l → ReadsHead h l
+unfolding headRest
+reads-head h l w =
+    let r = head-reads h l w in
+    record { is = w; reads = r; text = rw r (ap (drop 25) (w .text) ∙ head-trip .behind h (w .rest)) }
+
+reads-point : (l : List ℕ) → IsPointLine l → ReadsPoint l
+unfolding pointRest
+reads-point l w =
+    let r = point-reads l w in
+    record { is = w; reads = r; map = on-map (w .point .lat) (w .point .lon) (w .lat) (w .lon); text = rw r (ap (drop 18) (w .text) ∙ point-trip .behind (w .point) (w .rest)) }
 
 -- ---- lines that are none of these
 
@@ -108,61 +137,120 @@ Aside l = isAmong (bytes "BCGK") (getD l 0 0) ≡ false
 pub other-than : (xs : List ℕ) (l : List ℕ) (x : ℕ) → isAmong xs x ≡ true → isAmong xs (getD l 0 0) ≡ false → getD l 0 0 ≡ x → ⊥
 other-than xs l x y n e = false-true (sym n ∙ ap (isAmong xs) e ∙ y)
 
+allBelow : ℕ → List ℕ → Bool
+allBelow n [] = true
+allBelow n (x ∷ xs) = ltb x n && allBelow n xs
+
+-- "M to Z are 'other'": none of the letters before M
+above : (xs l : List ℕ) → code "M" ≤ getD l 0 0 → allBelow 77 xs ≡ true → isAmong xs (getD l 0 0) ≡ false
+unfolding isAmong allBelow
+above [] l h e = refl
+above (x ∷ xs) l h e =
+    let a = and-inv (ltb x 77) (allBelow 77 xs) e in
+    let b = ltb-true x 77 (a .0) in
+    rw (ne-eqb (getD l 0 0) x (λ z. omega arith)) (above xs l h (a .1))
+
 pub untimed-aside : {l : List ℕ} → Untimed l → Aside l
-unfolding isAmong bytes
+unfolding isAmong bytes allBelow
 untimed-aside (differential w) = rw (w .letter)
 untimed-aside (remark w) = rw (w .letter)
-untimed-aside {l} (other w) = let no : (x : ℕ) → x < 77 → eqb (getD l 0 0) x ≡ false = λ x h. ne-eqb _ x (λ z. omega (arith, w .from)) in simp (no 66 (omega arith), no 67 (omega arith), no 71 (omega arith), no 75 (omega arith))
+untimed-aside {l} (other w) = above (bytes "BCGK") l (w .from) refl
+
+untimed-idle : {l : List ℕ} → Untimed l → isAmong (bytes "BEFIJK") (getD l 0 0) ≡ false
+unfolding isAmong bytes allBelow
+untimed-idle (differential w) = rw (w .letter)
+untimed-idle (remark w) = rw (w .letter)
+untimed-idle {l} (other w) = above (bytes "BEFIJK") l (w .from) refl
+
+-- what is so of the line that tells a layout is so of each of its lines
+one-by : (f : Family) {P : List ℕ → Type 0} {layout : Layout} {ls : List (List ℕ)} → AtMostOne f layout ls → ((l : List ℕ) → IsLayoutLine f layout l → P l) → Each P ls
+one-by f absent h = tt
+one-by f (given {l = l} w) h = (h l w, tt)
 
 one-aside : (f : Family) {layout : Layout} {ls : List (List ℕ)} → AtMostOne f layout ls → Each Aside ls
 unfolding isAmong bytes
-one-aside f absent = tt
-one-aside f (given {layout = i} {l = l} w) = (rw (layout-said f i l w .0) (none-pass (λ f. isAmong (bytes "BCGK") (layoutLetter f)) refl f), tt)
-
--- ---- the lines of a body
-
-abbrev LineReads : Layouts → List ℕ → Type 0
-LineReads layouts l = (f : Family) → getD l 0 0 ≡ lineLetter f → ReadsColumned f (layoutOf f layouts) l
-
-no-family : (l : List ℕ) → isAmong (bytes "BK") (getD l 0 0) ≡ false → (layouts : Layouts) → LineReads layouts l
-unfolding isAmong bytes
-no-family l n layouts f z = absurd (other-than (bytes "BK") l (lineLetter f) (all-pass (λ f. isAmong (bytes "BK") (lineLetter f)) refl f) n z)
-
-aside-reads : (layouts : Layouts) (l : List ℕ) → Aside l → LineReads layouts l
-unfolding isAmong bytes
-aside-reads layouts l n f z = absurd (other-than (bytes "BCGK") l (lineLetter f) (all-pass (λ f. isAmong (bytes "BCGK") (lineLetter f)) refl f) n z)
+one-aside f {layout} o = one-by f o (λ l w. rw (layout-said f layout l w .0) (none-pass (λ f. isAmong (bytes "BCGK") (layoutLetter f)) refl f))
 
 aside-no-c : (l : List ℕ) → Aside l → NoC l
 unfolding isAmong bytes
 aside-no-c l n = other-than (bytes "BCGK") l (code "C") refl n
 
+-- ---- each line as it may be read, by its letter
+
+module _ (layouts : Layouts) (l : List ℕ) where
+  -- a line of none of the letters
+  unread : {A : Type 0} → isAmong (bytes "BEFIJK") (getD l 0 0) ≡ false → (x : ℕ) → isAmong (bytes "BEFIJK") x ≡ true → getD l 0 0 ≡ x → A
+  unread n x y z = absurd (other-than (bytes "BEFIJK") l x y n z)
+
+  idle : isAmong (bytes "BEFIJK") (getD l 0 0) ≡ false → ReadsLine layouts l
+  unfolding isAmong bytes
+  idle n = record { b = unread n 66 refl; k = unread n 75 refl; i = unread n 73 refl; j = unread n 74 refl; e = unread n 69 refl; f = unread n 70 refl }
+
+  -- a line of one letter has no other
+  not : {A : Type 0} {x : ℕ} → getD l 0 0 ≡ x → (y : ℕ) → eqb x y ≡ false → getD l 0 0 ≡ y → A
+  not k y n z = absurd (eqb-false _ y n (sym k ∙ z))
+
+  columned-reads : (f : Family) (t : ℕ) → IsTold f (layoutOf f layouts) → IsColumned f (layoutOf f layouts) t l → ReadsLine layouts l
+  columned-reads family.B t i w =
+      let k = columned-letter family.B (layouts .b) t l w in
+      record { b = λ z. reads-fix (layouts .b) (w .0) l i (w .2); k = not k 75 refl; i = not k 73 refl; j = not k 74 refl; e = not k 69 refl; f = not k 70 refl }
+  columned-reads family.K t i w =
+      let k = columned-letter family.K (layouts .k) t l w in
+      record { b = not k 66 refl; k = λ z. reads-extra (layouts .k) t l i w; i = not k 73 refl; j = not k 74 refl; e = not k 69 refl; f = not k 70 refl }
+
+  layout-reads : (f : Family) → IsLayoutLine f (layoutOf f layouts) l → ReadsLine layouts l
+  layout-reads family.B w =
+      let k = layout-said family.B (layouts .b) l w .0 in
+      record { b = not k 66 refl; k = not k 75 refl; i = λ z. record { is = w; reads = layout-line-exactly family.B (layouts .b) l .1 w }; j = not k 74 refl; e = not k 69 refl; f = not k 70 refl }
+  layout-reads family.K w =
+      let k = layout-said family.K (layouts .k) l w .0 in
+      record { b = not k 66 refl; k = not k 75 refl; i = not k 73 refl; j = λ z. record { is = w; reads = layout-line-exactly family.K (layouts .k) l .1 w }; e = not k 69 refl; f = not k 70 refl }
+
+  event-reads : (t : ℕ) → IsELine t l → ReadsLine layouts l
+  event-reads t w =
+      let k = e-said l t w .0 in
+      record { b = not k 66 refl; k = not k 75 refl; i = not k 73 refl; j = not k 74 refl; e = λ z. (t, record { is = w; reads = event-exactly t l .1 w }); f = not k 70 refl }
+
+  satellite-reads : (t : ℕ) → IsFLine t l → ReadsLine layouts l
+  satellite-reads t w =
+      let k = f-said l t w .0 in
+      record { b = not k 66 refl; k = not k 75 refl; i = not k 73 refl; j = not k 74 refl; e = not k 69 refl; f = λ z. (t, record { is = w; reads = satellite-exactly t l .1 w }) }
+
+-- with no line that tells it a layout is empty
+none-told : (f : Family) {layout : Layout} {ls : List (List ℕ)} → AtMostOne f layout ls → Each (λ l. getD l 0 0 ≡ layoutLetter f → ⊥) ls → layout ≡ emptyLayout
+none-told f absent h = refl
+none-told f (given {layout = i} {l = l} w) h = absurd (h .0 (layout-said f i l w .0))
+
+-- ---- the lines of a body
+
 module _ (layouts : Layouts) (can-tell : (f : Family) → IsTold f (layoutOf f layouts)) where
   -- each line is read as it may be, and is no C line
   abbrev Item : List ℕ → Type 0
-  Item l = LineReads layouts l × NoC l
+  Item l = ReadsLine layouts l × NoC l
 
   timed-item : {t : ℕ} (l : List ℕ) → Timed layouts t l → Item l
   unfolding isAmong bytes
   timed-item {t} l (grammar.columned f w) =
-      let k = columned-letter f (layoutOf f layouts) t l w in (
-        (λ g z. subst (λ x. ReadsColumned x (layoutOf x layouts) l) (same-letter f g (sym k ∙ z)) (reads-columned f (layoutOf f layouts) t l (can-tell f) w)),
-        λ z. eqb-false (lineLetter f) (code "C") (none-pass (λ f. eqb (lineLetter f) (code "C")) refl f) (sym k ∙ z),
-      )
-  timed-item {t} l (grammar.event w) = let h : Aside l = rw (e-said l t w .0) in (aside-reads layouts l h, aside-no-c l h)
-  timed-item {t} l (grammar.satellites w) = let h : Aside l = rw (f-said l t w .0) in (aside-reads layouts l h, aside-no-c l h)
+      let k = columned-letter f (layoutOf f layouts) t l w in
+      (columned-reads layouts l f t (can-tell f) w, λ z. eqb-false (lineLetter f) (code "C") (none-pass (λ f. eqb (lineLetter f) (code "C")) refl f) (sym k ∙ z))
+  timed-item {t} l (grammar.event w) = (event-reads layouts l t w, aside-no-c l (rw (e-said l t w .0)))
+  timed-item {t} l (grammar.satellites w) = (satellite-reads layouts l t w, aside-no-c l (rw (f-said l t w .0)))
+
+  untimed-item : {l : List ℕ} → Untimed l → Item l
+  untimed-item {l} w = (idle layouts l (untimed-idle w), aside-no-c l (untimed-aside w))
 
   items-read : {ls : List (List ℕ)} {ts : List ℕ} → Items layouts ls ts → Each Item ls
   items-read done = tt
   items-read (timed {l = l} w r) = (timed-item l w, items-read r)
-  items-read (untimed {l = l} w r) = let h = untimed-aside w in ((aside-reads layouts l h, aside-no-c l h), items-read r)
+  items-read (untimed w r) = (untimed-item w, items-read r)
 
-  body-reads : {ls : List (List ℕ)} {ts : List ℕ} → Body layouts ls ts → Each (LineReads layouts) ls
+  body-reads : {ls : List (List ℕ)} {ts : List ℕ} → Body layouts ls ts → Each (ReadsLine layouts) ls
   unfolding isAmong bytes
   body-reads (undeclared {ls = ls} i) = each-map ls (λ l x. x .0) (items-read i)
   body-reads (grammar.declared pre hd points after h i no-b w ps c j) =
-      each-join (LineReads layouts) pre (hd ∷ (points ++ after)) (each-map pre (λ l x. x .0) (items-read i)) (
-        no-family hd (rw (head-said h hd w .0)) layouts,
-        each-join (LineReads layouts) points after (each-map points (λ l v. no-family l (rw (point-said l v .0)) layouts) ps) (each-map after (λ l x. x .0) (items-read j)),
+      each-join (ReadsLine layouts) pre (hd ∷ (points ++ after)) (each-map pre (λ l x. x .0) (items-read i)) (
+        idle layouts hd (rw (head-said h hd w .0)),
+        each-join (ReadsLine layouts) points after (each-map points (λ l v. idle layouts l (rw (point-said l v .0))) ps) (each-map after (λ l x. x .0) (items-read j)),
       )
 
   -- the declaration of a body, between lines that are no C lines
@@ -172,9 +260,8 @@ module _ (layouts : Layouts) (can-tell : (f : Family) → IsTold f (layoutOf f l
       declared (a ++ pre) hd points (after ++ z) h
       (simp append-assoc)
       (each-join NoC a pre p (each-map pre (λ l x. x .1) (items-read i)))
-      w
-      (head-reads h hd w)
-      (each-map points (λ l v. record { is = v; reads = point-reads l v }) ps)
+      (reads-head h hd w)
+      (each-map points reads-point ps)
       c
       (each-join NoC after z (each-map after (λ l x. x .1) (items-read j)) q)
 
@@ -185,7 +272,7 @@ module _ {seal : Seal} {p : Parts} {date : Date} {layouts : Layouts} {times : Li
   front = p .recorder ∷ p .day ∷ (p .headers ++ (p .told family.B ++ p .told family.K))
 
   abbrev pub back : List (List ℕ)
-  back = p .seal ++ p .remarks
+  back = p .seals ++ p .remarks
 
   pub in-three : linesIn p ≡ front ++ (p .body ++ back)
   in-three = simp append-assoc
@@ -203,23 +290,51 @@ module _ {seal : Seal} {p : Parts} {date : Date} {layouts : Layouts} {times : Li
 
   -- G and L lines
   pub back-by : (P : List ℕ → Type 0) → ((l : List ℕ) → IsGLine l → P l) → ((l : List ℕ) → IsLLine l → P l) → Each P back
-  back-by P g r = each-join P (p .seal) (p .remarks) (each-map (p .seal) g (w .seals)) (each-map (p .remarks) r (w .remarks))
+  back-by P g r = each-join P (p .seals) (p .remarks) (each-map (p .seals) g (w .seals)) (each-map (p .remarks) r (w .remarks))
 
-  keeps-reads : Each (LineReads layouts) (linesIn p)
+  can-tell-of : (f : Family) → IsTold f (layoutOf f layouts)
+  can-tell-of f = told f (told-of layouts p (w .told) f)
+
+  front-reads : Each (ReadsLine layouts) front
+  unfolding isAmong bytes
+  front-reads = (
+    idle layouts (p .recorder) (rw (w .recorder .letter)),
+    (
+      idle layouts (p .day) (rw (w .day .text)),
+      each-join (ReadsLine layouts) (p .headers) (p .told family.B ++ p .told family.K) (each-map (p .headers) (λ l h. idle layouts l (rw (h .letter))) (w .headers))
+          (each-join (ReadsLine layouts) (p .told family.B) (p .told family.K) (one-by family.B (w .told .0) (λ l. layout-reads layouts l family.B)) (one-by family.K (w .told .1) (λ l. layout-reads layouts l family.K))),
+    ),
+  )
+
+  keeps-reads : Each (ReadsLine layouts) (linesIn p)
   unfolding isAmong bytes
   keeps-reads =
-      subst (Each (LineReads layouts)) (sym in-three)
-      (each-join (LineReads layouts) front (p .body ++ back) (each-map front (aside-reads layouts) front-aside)
-      (each-join (LineReads layouts) (p .body) back (body-reads layouts (λ f. told f (told-of layouts p (w .told) f)) (w .body))
-      (back-by (LineReads layouts) (λ l h. no-family l (rw (h .letter)) layouts) (λ l h. no-family l (rw (h .letter)) layouts))))
+      subst (Each (ReadsLine layouts)) (sym in-three)
+      (each-join (ReadsLine layouts) front (p .body ++ back) front-reads
+      (each-join (ReadsLine layouts) (p .body) back (body-reads layouts can-tell-of (w .body))
+      (back-by (ReadsLine layouts) (λ l h. idle layouts l (rw (h .letter))) (λ l h. idle layouts l (rw (h .letter))))))
+
+  -- where no line tells a layout, it is empty
+  untold : (f : Family) → Each (λ l. getD l 0 0 ≡ layoutLetter f → ⊥) (linesIn p) → layoutOf f layouts ≡ emptyLayout
+  untold family.B h = none-told family.B (w .told .0) (each-cut _ (p .told family.B) _ (each-cut _ (p .headers) _ (h .1 .1) .1) .0)
+  untold family.K h = none-told family.K (w .told .1) (each-cut _ (p .told family.K) _ (each-cut _ (p .told family.B) _ (each-cut _ (p .headers) _ (h .1 .1) .1) .1) .0)
 
   keeps-declares : ReadsDeclaration (linesIn p)
   keeps-declares =
       subst ReadsDeclaration (sym in-three)
-      (body-declares layouts (λ f. told f (told-of layouts p (w .told) f)) front back (each-map front aside-no-c front-aside)
+      (body-declares layouts can-tell-of front back (each-map front aside-no-c front-aside)
       (back-by NoC (λ l h e. omega (arith, h .letter)) (λ l h e. omega (arith, h .letter))) (w .body))
 
 -- ---- the theorem
+
+-- the good lines have their entries, whatever comes behind them
+pub entered : (seal : Seal) (file table : List ℕ) (ls : List (List ℕ)) (k : Lines) → linesOf file ≡ before ls k → goodIn seal file table ≡ length ls → length ls ≤ length table → Entered ls table (tableAfter seal file table)
+entered seal file table ls k e g h = record {
+  entries = λ n i. entry-put seal file table n 0 (rw g i) ∙ ap (λ x. getD (offsets 0 x) n 0) e ∙ offset-is k ls 0 n i ∙ zero-add (total (take n ls));
+  unchanged = λ n i. entry-kept seal file table n 0 (rw g i);
+  long = table-length seal file table;
+  room = h;
+}
 
 -- what can be read from an accepted file, by the layouts of the answer
 pub readable : (seal : Seal) (file table : List ℕ) (f : Flight) → verdict seal file (some (length table)) ≡ says f → Readable seal file table f
@@ -232,6 +347,11 @@ readable seal file table f e =
     let t = lines-are file m in
     let n : f .lines ≡ length ls = sym (ap (λ x. x .lines) (w .2)) in
     let g : goodIn seal file table ≡ f .lines = rw e in
+    let here : (i : ℕ) → i + 1 - 1 ≡ i = λ i. omega arith in
+    let number : (i : ℕ) → i < length ls → Numbered seal file table (i + 1) = λ i h. line-by-number seal file table (i + 1) (omega arith) (omega arith) in
+    let text : (i : ℕ) → textOf file (i + 1) ≡ getD ls i [] = λ i. ap (λ x. getD x (i + 1 - 1) []) t ∙ ap (λ x. getD ls x []) (here i) in
+    let offset-at : (i : ℕ) → i < length ls → getD (offsets 0 (linesOf file)) i 0 ≡ total (take i ls) = λ i h. ap (λ x. getD (offsets 0 x) i 0) c ∙ offset-is end ls 0 i h ∙ zero-add (total (take i ls)) in
+    let offset : (i : ℕ) → i < length ls → offsetOf file (i + 1) ≡ total (take i ls) = λ i h. ap (λ x. getD (offsets 0 (linesOf file)) x 0) (here i) ∙ offset-at i h in
     record {
       lines = ls;
       bytes = m .bytes;
@@ -240,13 +360,15 @@ readable seal file table f e =
       counted = n;
       bs = sym (ap (λ x. x .counts .b) (w .2));
       ks = sym (ap (λ x. x .counts .k) (w .2));
-      entries = λ i h. entry-put seal file table i 0 (omega arith) ∙ ap (λ x. getD (offsets 0 x) i 0) c ∙ offset-is ls 0 i h ∙ zero-add (total (take i ls));
-      unchanged = λ i h. entry-kept seal file table i 0 (omega arith);
-      long = table-length seal file table;
-      numbered = λ i h.
-          let k : i + 1 - 1 ≡ i = omega arith in
-          line-by-number seal file table (i + 1) (omega arith) (omega arith) .bytes ∙ ap (λ x. getD x (i + 1 - 1) []) t ∙ ap (λ x. getD ls x []) k;
+      entered = entered seal file table ls end c (g ∙ n) (leb-true _ _ (w .1));
+      bounds = λ i h. number i h .bounds ∙ ap₂ (λ o x. says (record { from = o; to = o + length x })) (offset i h) (text i);
+      numbered = λ i h. number i h .bytes ∙ text i;
       stepping = steps-over file ls 0 (subst (splitting.Steps file 0) c (steps file));
-      reads = subst (λ (x : Flight). Each (ReadsLine (x .layouts)) ls) (w .2) (each-map ls (λ l h. record { b = h family.B; k = h family.K }) (keeps-reads (m .keeps)));
+      date = subst (λ (x : Flight). ReadsValue dateSaid IsDateLine (x .date) (m .parts .day)) (w .2) (record { is = m .keeps .day; reads = date-exactly (m .date) (m .parts .day) .1 (m .keeps .day) });
+      reads = subst (λ (x : Flight). Each (ReadsLine (x .layouts)) ls) (w .2) (keeps-reads (m .keeps));
+      no-i = λ h. subst (λ (x : Flight). x .layouts .b ≡ emptyLayout) (w .2) (untold (m .keeps) family.B h);
+      no-j = λ h. subst (λ (x : Flight). x .layouts .k ≡ emptyLayout) (w .2) (untold (m .keeps) family.K h);
+      layouts = λ g. subst (λ (x : Flight). ReadsLayout g (layoutOf g (x .layouts))) (w .2) (by-layout.layout-reads g (layoutOf g (m .layouts)) (can-tell-of (m .keeps) g));
+      presence = subst (λ (x : Flight). ReadsPresence (x .layouts .b)) (w .2) (presence-reads (m .layouts .b) (can-tell-of (m .keeps) family.B));
       declaration = keeps-declares (m .keeps);
     }

@@ -30,7 +30,7 @@ use Rattle.laws.proofs.Chains.{by-need, by-test}
 use Rattle.laws.proofs.Splitting.{cut, none-left, lines-of-line}
 use Rattle.laws.proofs.Counted.{judged-more}
 use Rattle.demands.specs.Grammar.{Follows, AtMostOne, given, beginning, IsText}
-use Rattle.demands.specs.Coming.{isAmong, pointsOf, isOpen, Open, those, lastTime, NoTime, Latest, isInTime, Meant}
+use Rattle.demands.specs.Coming.{isAmong, pointsOf, isOpen, Open, those, timedLetters, lastTime, NoTime, Latest, isInTime, Meant}
 use Rattle.demands.specs.Faults.{PassAfter, Before, NoEnd, none-comes, lf-alone, cr-alone, Unsealed, Refused, empty, too-long, line-end, in-line, table-full, ends-early}
 use Rattle.demands.proofs.EachLine.{head-said}
 use Rattle.demands.proofs.Leading.{fits-there, fits-so, some-points}
@@ -90,7 +90,7 @@ Timing ls (some t) = Latest ls t
 Timing ls none = Each NoTime ls
 
 -- one line in front of lines whose last time is o
-timing-more : (l : List ℕ) (ls : List (List ℕ)) (o : Option ℕ) (b : Bool) (u : Option ℕ) → isAmong (66 ∷ 69 ∷ 70 ∷ 75 ∷ []) (getD l 0 0) ≡ b → timeAt l (byte 2) ≡ u → Timing ls o
+timing-more : (l : List ℕ) (ls : List (List ℕ)) (o : Option ℕ) (b : Bool) (u : Option ℕ) → isAmong timedLetters (getD l 0 0) ≡ b → timeAt l (byte 2) ≡ u → Timing ls o
     → Timing (l ∷ ls) (choice.given o (cond b u none) λ t. some t)
 timing-more l ls (some t) b u p q w =
     record { before = l ∷ w .before; line = w .line; after = w .after; order = ap (λ x. l ∷ x) (w .order); timed = w .timed; time = w .time; no-later = w .no-later }

@@ -35,7 +35,7 @@ use Rattle.laws.proofs.Counted.{judged-more}
 use Rattle.demands.specs.Grammar.{IsText, joinLines, Follows, OrderFrom, IsHLine, IsPointLine, IsLLine, IsGLine, AtMostOne, absent, given, Timed, columned, event, satellites, Untimed, differential, remark, other, Items, Body, undeclared, declared, SealedBy}
 use Rattle.demands.specs.Grammar as grammar
 use Rattle.demands.proofs.EachLine.{e-said, f-said, columned-letter}
-use Rattle.demands.proofs.Leading.{put-own, put-others, Part, recorder, header, telling, body, seal, remarks, countedBy, noted, InBody, head, point, timed, quiet, Leads, a-line, date-line, h-line, layout-line, body-line, g-line, l-line, Sound, judge-leads, leads-judge, stays-sound}
+use Rattle.demands.proofs.Leading.{put-own, put-others, Part, recorder, header, telling, body, seals, remarks, countedBy, afterTimed, InBody, head, point, timed, quiet, Leads, a-line, date-line, h-line, layout-line, body-line, g-line, l-line, Sound, judge-leads, leads-judge, stays-sound}
 
 -- ---- a run of good lines
 
@@ -173,11 +173,11 @@ rank recorder = afterA
 rank header = afterH
 rank (telling f) = afterLayout f
 rank body = inBody
-rank seal = afterG
+rank seals = afterG
 rank remarks = afterLastG
 
 part-of : ℕ → Part
-part-of n = getD (recorder ∷ recorder ∷ header ∷ telling family.B ∷ telling family.K ∷ body ∷ seal ∷ remarks ∷ []) n recorder
+part-of n = getD (recorder ∷ recorder ∷ header ∷ telling family.B ∷ telling family.K ∷ body ∷ seals ∷ remarks ∷ []) n recorder
 
 part-back : (p : Part) → part-of (rank p) ≡ p
 unfolding part-of
@@ -186,7 +186,7 @@ part-back header = refl
 part-back (telling family.B) = refl
 part-back (telling family.K) = refl
 part-back body = refl
-part-back seal = refl
+part-back seals = refl
 part-back remarks = refl
 
 same-part : (p q : Part) → rank p ≡ rank q → p ≡ q
@@ -441,7 +441,7 @@ module _ (layouts : Layouts) where
   items-here us st c grammar.done i e a b p o = (st, empty, subst (λ x. OrderFrom x us) (sym i) o, p, refl, λ n. refl)
   items-here us st c (grammar.timed {l = l} {t = t} w r) i e a b p o =
       let v : Timed (st .flight .layouts) t l = rw e w in
-      let x = items-here us (noted v (moved inBody st)) t r refl e (omega arith) (omega arith) p (o .1) in
+      let x = items-here us (afterTimed v (moved inBody st)) t r refl e (omega arith) (omega arith) p (o .1) in
       let q = counted-by l v (st .flight .counts) in
       (x .0, also {st = st} (body-line a b (timed t v p (rw i (o .0)))) (x .1), x .2, x .3, x .4, λ n. x .5 (n .1) ∙ omega (arith, rw (ne-eqb _ _ (n .0)) at q))
   items-here us st c (grammar.untimed w r) i e a b p o =
@@ -475,15 +475,15 @@ module _ (layouts : Layouts) where
 
 -- ---- G lines, and L lines behind them
 
-pub seal-there : {st m : State} {ls : List (List ℕ)} → Section seal st ls m → Each IsGLine ls × Same st m × (m .points ≡ st .points)
-seal-there empty = (tt, (refl, refl), refl)
-seal-there (also (g-line a b p w) r) = let x = seal-there r in ((w, x .0), x .1, x .2)
+pub seals-there : {st m : State} {ls : List (List ℕ)} → Section seals st ls m → Each IsGLine ls × Same st m × (m .points ≡ st .points)
+seals-there empty = (tt, (refl, refl), refl)
+seals-there (also (g-line a b p w) r) = let x = seals-there r in ((w, x .0), x .1, x .2)
 
-pub seal-here : (ls : List (List ℕ)) (st : State) → Each IsGLine ls → afterH ≤ st .stage → st .stage ≤ afterG
-    → st .points ≡ 0 → (m : State) × Section seal st ls m × (st .stage ≤ m .stage) × (m .stage ≤ afterG) × (1 ≤ length ls → afterG ≤ m .stage)
-seal-here [] st h a b p = (st, empty, omega arith, b, λ n. absurd (omega arith))
-seal-here (l ∷ ls) st h a b p =
-    let r = seal-here ls (moved afterG st) (h .1) (omega arith) (omega arith) p in
+pub seals-here : (ls : List (List ℕ)) (st : State) → Each IsGLine ls → afterH ≤ st .stage → st .stage ≤ afterG
+    → st .points ≡ 0 → (m : State) × Section seals st ls m × (st .stage ≤ m .stage) × (m .stage ≤ afterG) × (1 ≤ length ls → afterG ≤ m .stage)
+seals-here [] st h a b p = (st, empty, omega arith, b, λ n. absurd (omega arith))
+seals-here (l ∷ ls) st h a b p =
+    let r = seals-here ls (moved afterG st) (h .1) (omega arith) (omega arith) p in
     (r .0, also (g-line a b p (h .0)) (r .1), omega arith, r .3, λ n. r .2)
 
 pub remarks-there : {st m : State} {ls : List (List ℕ)} → Section remarks st ls m → Each IsLLine ls × Same st m × (m .points ≡ st .points)
@@ -491,7 +491,7 @@ remarks-there empty = (tt, (refl, refl), refl)
 remarks-there (also (l-line a b p w) r) = let x = remarks-there r in ((w, x .0), x .1, x .2)
 
 -- the file has what it must have at its end
-pub seal-needed : (needs : Seal) {b g r : State} {gs ls : List (List ℕ)} → b .stage ≤ inBody → Section seal b gs g → Section remarks g ls r → endsAfter needs ≤ r .stage → SealedBy needs gs
+pub seal-needed : (needs : Seal) {b g r : State} {gs ls : List (List ℕ)} → b .stage ≤ inBody → Section seals b gs g → Section remarks g ls r → endsAfter needs ≤ r .stage → SealedBy needs gs
 seal-needed needs.Strict h empty empty k = absurd (omega arith)
 seal-needed needs.Strict h empty (also (l-line a b p w) r) k = absurd (omega arith)
 seal-needed needs.Strict h (also w r) t k = omega arith

@@ -15,7 +15,7 @@ use Rattle.rules.specs.Families.{lineLetter, layoutLetter, layoutOf, countOf}
 use Rattle.rules.specs.Refusals.{says}
 use Rattle.rules.specs.Numbers.{numberAt}
 use Rattle.rules.specs.Fields.{timeAt}
-use Rattle.rules.specs.Roles.{isDeclaring, sameFamily, atStart, afterA, afterH, afterLayout, inBody, afterG, afterLastG, leading, stageAfter}
+use Rattle.rules.specs.Roles.{isDeclaring, isTimed, sameFamily, atStart, afterA, afterH, afterLayout, inBody, afterG, afterLastG, leading, stageAfter}
 use Rattle.rules.specs.Order.{start, fitsDeclaration, moved, judge}
 use Rattle.rules.specs.declared.Layout.{Layout}
 use Rattle.rules.specs.declared.Family.{Family}
@@ -27,15 +27,16 @@ use Rattle.rules.proofs.Inverse.{none-some, false-true, and-inv, bool-eq}
 use Rattle.laws.proofs.Passing.{roleIn, leading-inv, Leaves, Judged, judged}
 use Rattle.laws.proofs.Passing as passes
 use Rattle.laws.proofs.Counted.{judged-more}
+use Rattle.laws.proofs.Walking.{left-clock}
 use Rattle.trips.proofs.Heads as heads
 use Rattle.demands.specs.Grammar.{IsHeadLine, IsPointLine, AtMostOne, absent, laid, beginning}
 use Rattle.demands.specs.Grammar as grammar
-use Rattle.demands.specs.Coming.{orZero, isAmong, only, without, endsWith, pointsOf, isOpen, lettersBefore, those, firstEntries, lastTime}
+use Rattle.demands.specs.Coming.{orZero, isAmong, only, without, endsWith, pointsOf, isOpen, lettersBefore, those, firstEntries, timedLetters, lastTime}
 use Rattle.demands.specs.FieldTexts.{Letter}
 use Rattle.sound.proofs.Each.{each-join}
-use Rattle.demands.proofs.EachLine.{e-inv, f-inv, columned-time, head-reads, head-said, head-there, point-there}
+use Rattle.demands.proofs.EachLine.{head-reads, head-said, head-there, point-there}
 use Rattle.demands.proofs.LayoutLines.{there, layout-laid, layout-there, layout-said}
-use Rattle.demands.proofs.Leading.{every, put-by, same-family, is-same, letter, tells-letter, isTelling, isTiming, isSealing, leadsTo, letter-tests, counts-more, Sound, sound-start, some-points, plain-fits, head-fits, order-inv, judge-leads, stays-sound, none-pass}
+use Rattle.demands.proofs.Leading.{every, put-by, same-family, is-same, letter, tells-letter, isTelling, isSealing, leadsTo, letter-tests, counts-more, Sound, sound-start, some-points, plain-fits, head-fits, order-inv, judge-leads, stays-sound, none-pass}
 use Rattle.demands.proofs.Sections.{layout-stage}
 
 -- ---- what a line tells of itself
@@ -110,17 +111,17 @@ those-next x l (a ∷ ls) = go (eqb (getD a 0 0) x) (those-next x l ls)
 
 module _ (l : List ℕ) where
   -- the last line's time, where it has one
-  time-next : (ls : List (List ℕ)) → lastTime (ls ++ (l ∷ [])) ≡ given (cond (isAmong (bytes "BEFK") (getD l 0 0)) (timeAt l 1) none) (lastTime ls) (λ t. some t)
+  time-next : (ls : List (List ℕ)) → lastTime (ls ++ (l ∷ [])) ≡ given (cond (isAmong timedLetters (getD l 0 0)) (timeAt l 1) none) (lastTime ls) (λ t. some t)
   unfolding lastTime bytes
-  time-next [] = go (cond (isAmong (bytes "BEFK") (getD l 0 0)) (timeAt l 1) none)
+  time-next [] = go (cond (isAmong timedLetters (getD l 0 0)) (timeAt l 1) none)
     where
       go : (o : Option ℕ) → o ≡ given o none (λ t. some t)
       go (some t) = refl
       go none = refl
-  time-next (a ∷ ls) = rw (time-next ls) (go (cond (isAmong (bytes "BEFK") (getD l 0 0)) (timeAt l 1) none))
+  time-next (a ∷ ls) = rw (time-next ls) (go (cond (isAmong timedLetters (getD l 0 0)) (timeAt l 1) none))
     where
-      go : (o : Option ℕ) → given (given o (lastTime ls) (λ t. some t)) (cond (isAmong (bytes "BEFK") (getD a 0 0)) (timeAt a 1) none) (λ t. some t)
-          ≡ given o (given (lastTime ls) (cond (isAmong (bytes "BEFK") (getD a 0 0)) (timeAt a 1) none) (λ t. some t)) (λ t. some t)
+      go : (o : Option ℕ) → given (given o (lastTime ls) (λ t. some t)) (cond (isAmong timedLetters (getD a 0 0)) (timeAt a 1) none) (λ t. some t)
+          ≡ given o (given (lastTime ls) (cond (isAmong timedLetters (getD a 0 0)) (timeAt a 1) none) (λ t. some t)) (λ t. some t)
       go (some t) = refl
       go none = refl
 
@@ -312,7 +313,7 @@ laid-out f (grammar.given {layout = i} {l = l} w) = layout-laid f i l (layout-sa
 record Left (ls : List (List ℕ)) (l : List ℕ) (m : State) (r : Role) (after : State) : Type 0 where
   stage : after .stage ≡ m .stage
   declaration : Declaration (ls ++ (l ∷ [])) (after .declared) (after .points)
-  clock : after .clock ≡ given (cond (isTiming r) (timeAt l 1) none) (m .clock) (λ t. t)
+  clock : after .clock ≡ given (cond (isTimed r) (timeAt l 1) none) (m .clock) (λ t. t)
   told : (g : Family) (ks : List (List ℕ)) → (isTelling g r ≡ true → ks ≡ []) → AtMostOne g (layoutOf g (m .flight .layouts)) ks
       → AtMostOne g (layoutOf g (after .flight .layouts)) (ks ++ cond (isTelling g r) (l ∷ []) [])
 
@@ -331,11 +332,11 @@ module _ (ls : List (List ℕ)) (l : List ℕ) (m : State) (d : Declaration ls (
         (λ g n ks q a. rw (n, append-nil) a);
   }
   left k c f (passes.columned x t e o) =
-      record { stage = refl; declaration = silent ls l c (plain-fits m f) d; clock = rw (columned-time x _ t l e); told = λ g ks n a. rw append-nil a }
+      record { stage = refl; declaration = silent ls l c (plain-fits m f) d; clock = left-clock l m (passes.columned x t e o); told = λ g ks n a. rw append-nil a }
   left k c f (passes.head h n e) = record { stage = refl; declaration = begins-one ls l h (head-there h l k e) (head-fits m n f .0) d; clock = refl; told = λ g ks n a. rw append-nil a }
   left k c f (passes.point p n e) = record { stage = refl; declaration = goes-on ls l (point-there p l k e) (some-points (m .points) n) d; clock = refl; told = λ g ks n a. rw append-nil a }
-  left k c f (passes.event t e o) = record { stage = refl; declaration = silent ls l c (plain-fits m f) d; clock = rw (e-inv l t e .1); told = λ g ks n a. rw append-nil a }
-  left k c f (passes.satellites t e o) = record { stage = refl; declaration = silent ls l c (plain-fits m f) d; clock = rw (f-inv l t e .1); told = λ g ks n a. rw append-nil a }
+  left k c f (passes.event t e o) = record { stage = refl; declaration = silent ls l c (plain-fits m f) d; clock = left-clock l m (passes.event t e o); told = λ g ks n a. rw append-nil a }
+  left k c f (passes.satellites t e o) = record { stage = refl; declaration = silent ls l c (plain-fits m f) d; clock = left-clock l m (passes.satellites t e o); told = λ g ks n a. rw append-nil a }
   left k c f (passes.differential e) = record { stage = refl; declaration = silent ls l c (plain-fits m f) d; clock = refl; told = λ g ks n a. rw append-nil a }
   left k c f (passes.seals e) = record { stage = refl; declaration = silent ls l c (plain-fits m f) d; clock = refl; told = λ g ks n a. rw append-nil a }
   left k c f (passes.remark e) = record { stage = refl; declaration = silent ls l c (plain-fits m f) d; clock = refl; told = λ g ks n a. rw append-nil a }
@@ -358,7 +359,7 @@ module _ (ls : List (List ℕ)) (l : List ℕ) (st after : State) (w : Stands ls
   by-role = left ls l (moved (so .stage) st) (w .declaration) (letter (getD l 0 0)) (letter-tests l .1 .0) (order .0) (so .left)
 
   clock-next : after .clock ≡ orZero (lastTime (ls ++ (l ∷ [])))
-  clock-next = by-role .clock ∙ rw (time-next l, letter-tests l .1 .2, w .clock) (go (cond (isTiming (roleIn l)) (timeAt l 1) none))
+  clock-next = by-role .clock ∙ rw (time-next l, letter-tests l .1 .2, w .clock) (go (cond (isTimed (roleIn l)) (timeAt l 1) none))
     where
       go : (o : Option ℕ) → given o (orZero (lastTime ls)) (λ t. t) ≡ orZero (given o (lastTime ls) (λ t. some t))
       go (some t) = refl

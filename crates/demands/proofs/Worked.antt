@@ -21,14 +21,18 @@ use Rattle.rules.specs.declared.Seal.{Seal}
 use Rattle.rules.specs.declared.Seal.the-variants as seal
 use Rattle.rules.proofs.Computed.{everything, fileOf}
 use Rattle.rules.proofs.Damaged.{fiveLines, fiveLayout}
+use Rattle.rules.specs.Fixes.{fieldsOf}
 use Rattle.rules.specs.Limits.{isAltitude, goodFixFields}
 use Rattle.trips.proofs.Texts.{areValid}
+use Rattle.words.proofs.Characters.{codes-exactly, word-exactly}
+use Rattle.words.proofs.Codes.{width-exactly, rule-exactly}
+use Rattle.words.proofs.Values.{fix-exactly}
 use Rattle.demands.specs.Coming.{isAmong}
-use Rattle.demands.specs.Grammar.{IsText, july, AtMostOne, absent, given, Timed, columned, event, satellites, Items, done, timed, untimed, Body, undeclared, declared, none, column, linesIn, Meets, joinLines}
+use Rattle.demands.specs.Grammar.{IsText, july, absent, given, Timed, columned, event, satellites, Items, done, timed, untimed, Body, undeclared, declared, none, column, linesIn, Meets, joinLines}
 use Rattle.laws.proofs.Splitting.{lines-are-text}
 use Rattle.demands.proofs.Sections.{text-is}
 use Rattle.sound.proofs.Each.{each-map, each-join, each-cut}
-use Rattle.demands.proofs.Laws.{are-valid, width-exactly, rule-exactly}
+use Rattle.demands.proofs.Laws.{are-valid}
 use Rattle.demands.proofs.Leading.{every, none-pass}
 use Rattle.demands.proofs.EachLine.{columned-letter, head-said, point-said}
 use Rattle.demands.proofs.Reading.{Aside, other-than, untimed-aside, front, back, in-three, front-aside, back-by}
@@ -62,7 +66,7 @@ five-meet = record {
     headers = [];
     told = every (λ f. List (List ℕ)) (bytes "I023638FXA3940SIU" ∷ []) [];
     body = bytes "B1200005130000N00015000WA001000012001208" ∷ [];
-    seal = bytes "GABC" ∷ [];
+    seals = bytes "GABC" ∷ [];
     remarks = [];
   };
   bytes = refl;
@@ -77,8 +81,8 @@ five-meet = record {
     recorder = record {
       letter = refl;
       shape = record { long = lit≤ tt; short = lit≤ tt; valid = are-valid (bytes "AXYZ001") refl };
-      maker = refl;
-      serial = refl;
+      maker = codes-exactly (bytes "AXYZ001") 1 3 .0 refl;
+      serial = codes-exactly (bytes "AXYZ001") 4 3 .0 refl;
     };
     day = record { text = refl; day = record { from = lit≤ tt; to = lit≤ tt; days = 31; month = july; low = lit≤ tt; high = lit≤ tt } };
     headers = tt;
@@ -86,9 +90,9 @@ five-meet = record {
       given (record {
         entries = fxa ∷ siu ∷ [];
         tiles = (
-          record { starts = refl; ends = lit≤ tt; spelt = lit≤ tt; word = refl; wide = width-exactly 0x465841 3 .0 refl },
+          record { starts = refl; ends = lit≤ tt; spelt = lit≤ tt; word = word-exactly 0x465841 .0 refl; wide = width-exactly 0x465841 3 .0 refl },
           ((λ e. omega arith), tt),
-          (record { starts = refl; ends = lit≤ tt; spelt = lit≤ tt; word = refl; wide = width-exactly 0x534955 2 .0 refl }, tt, tt),
+          (record { starts = refl; ends = lit≤ tt; spelt = lit≤ tt; word = word-exactly 0x534955 .0 refl; wide = width-exactly 0x534955 2 .0 refl }, tt, tt),
         );
         text = refl;
         short = lit≤ tt;
@@ -102,7 +106,7 @@ five-meet = record {
       record {
         tail = bytes "01208";
         text = refl;
-        fields = refl;
+        fields = fix-exactly (fieldsOf theFix) .0 refl;
         columns = column (bytes "012") refl (are-valid (bytes "012") refl) (rule-exactly 0x465841 (bytes "012") .0 refl)
             (column (bytes "08") refl (are-valid (bytes "08") refl) (rule-exactly 0x534955 (bytes "08") .0 refl) none);
       },

@@ -60,12 +60,12 @@ module _ (text : List ℕ) (place : ℕ) (out : List ℕ) (room : place + length
 
 -- ---- the three ways to answer
 
-data Answer (good : Bool) (text : List ℕ) (place : ℕ) (out : List ℕ) (a : Said ℕ) (after : List ℕ) : Type 0 where
+pub data Answer (good : Bool) (text : List ℕ) (place : ℕ) (out : List ℕ) (a : Said ℕ) (after : List ℕ) : Type 0 where
   bad : good ≡ false → a ≡ no BadValue 0 → after ≡ out → Answer good text place out a after
   full : good ≡ true → length out < place + length text + 2 → a ≡ no NoRoom 0 → after ≡ out → Answer good text place out a after
   wrote : good ≡ true → place + length text + 2 ≤ length out → InOutput text place out a after → Answer good text place out a after
 
-answer : (good : Bool) (text : List ℕ) (place : ℕ) (out : List ℕ) (r : Wrote) (after : List ℕ) → Written good text place out r after
+pub answer : (good : Bool) (text : List ℕ) (place : ℕ) (out : List ℕ) (r : Wrote) (after : List ℕ) → Written good text place out r after
     → Answer good text place out (wroteTold r) after
 unfolding written outAfter to
 answer false text place out r after w = bad refl (w .told) (w .bytes)

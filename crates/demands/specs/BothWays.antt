@@ -1,6 +1,6 @@
 -- Document 01, the paragraph after the refusal table: what the reader and the writer of a kind of line have to do with one another. Said once, over what a line
 -- reads as (`Reads l v`), the text of what is given, the test that the writer makes, and the limits of what is given. The limits
--- of a fix, a time, a head and a point know nothing of the reader; of a layout both test and limits are `allowed`, which the face ties to the grammar (`layouts-exactly`).
+-- of a fix, a time, a head and a point know nothing of the reader; of a layout both test and limits are `allowed`, which the face ties to the grammar (`allowed-exactly`).
 use Prim.Native.Nat.{ℕ, _+_, _<_, _≤_}
 use mathlib.Core.Bool.{Bool, true}
 use mathlib.Core.List.{List, _++_}

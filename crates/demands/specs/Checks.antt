@@ -18,6 +18,8 @@ use Rattle.rules.specs.Listed.{codeAt, widthFits, keepsRule}
 use Rattle.rules.specs.Layouts.{spanOf, columnText}
 use Rattle.rules.specs.Lines.{kindOf, isDateMark, plannedAt}
 use Rattle.rules.specs.Roles.{roleOf}
+use Rattle.rules.specs.declared.Class.{Class}
+use Rattle.rules.specs.declared.Class.the-variants as class
 use Rattle.rules.specs.declared.Entry.{Entry}
 use Rattle.rules.specs.declared.Family.{Family}
 use Rattle.rules.specs.declared.Family.the-variants as family
@@ -34,6 +36,18 @@ pub record Check : Type 0 where
 -- a check by its number, its byte and its test
 abbrev pub check : ℕ → ℕ → Bool → Check
 check n b t = record { number = n; byte = b; passes = t }
+
+-- "9 FORM: first field against its rule; line, field's first byte": the number by which a field of a class is refused. Every class has 9
+abbrev pub formNumber : Class → ℕ
+formNumber class.Time = 9
+formNumber class.Position = 9
+formNumber class.Altitude = 9
+formNumber class.Date = 9
+formNumber class.Other = 9
+
+-- the check of a field, by its class, its first byte and its test
+abbrev pub field : Class → ℕ → Bool → Check
+field c b t = check (formNumber c) b t
 
 -- every check passes
 abbrev pub AllPass : List Check → Type 0
@@ -80,7 +94,7 @@ timeCheck ls l = check 14 2 (isInTime (lastTime ls) (orZero (timeAt l (byte 2)))
 unfoldable pub pairChecks : ℕ → List ℕ → List Check
 pairChecks at [] = []
 pairChecks at (a ∷ []) = []
-pairChecks at (a ∷ b ∷ l) = check 9 (at + 1) (isCode a && isCode b) ∷ pairChecks (at + 2) l
+pairChecks at (a ∷ b ∷ l) = field class.Other (at + 1) (isCode a && isCode b) ∷ pairChecks (at + 2) l
 
 -- one of these entries has the code
 unfoldable pub hasCode : List Entry → ℕ → Bool
@@ -91,9 +105,9 @@ hasCode (e ∷ es) x = eqb (e .code) x || hasCode es x
 unfoldable pub entryChecks : ℕ → List ℕ → ℕ → ℕ → List Entry → List Check
 entryChecks zero l at start before = []
 entryChecks (suc left) l at start before =
-    check 9 (at + 1) (isThere (numberAt l at 2))
-    ∷ check 9 (at + 3) (isThere (numberAt l (at + 2) 2))
-    ∷ check 9 (at + 5) (isThere (codeAt l (at + 4)))
+    field class.Other (at + 1) (isThere (numberAt l at 2))
+    ∷ field class.Other (at + 3) (isThere (numberAt l (at + 2) 2))
+    ∷ field class.Other (at + 5) (isThere (codeAt l (at + 4)))
     ∷ check 10 (at + 1) (eqb (entryOf l at .first) start)
     ∷ check 10 (at + 1) (leb (entryOf l at .first) (entryOf l at .last))
     ∷ check 11 (at + 1) (not (hasCode before (entryOf l at .code)))
@@ -107,35 +121,35 @@ entryChecks (suc left) l at start before =
 abbrev pub layoutChecks : Family → List ℕ → List Check
 layoutChecks f l =
     shapeChecks 3 99 false l ++ (
-    check 9 2 (isThere (numberAt l (byte 2) 2))
-    ∷ check 9 2 (eqb (length l) (3 + 7 * orZero (numberAt l (byte 2) 2)))
+    field class.Other 2 (isThere (numberAt l (byte 2) 2))
+    ∷ field class.Other 2 (eqb (length l) (3 + 7 * orZero (numberAt l (byte 2) 2)))
     ∷ entryChecks (orZero (numberAt l (byte 2) 2)) l (byte 4) (firstStart f) [])
 
 -- "second line exactly 11"; "Line 2: H, FDTE at 2 to 5 as one field, DDMMYY at 6 to 11; a longer date line is refused (h)."
 abbrev pub dateChecks : List ℕ → List Check
-dateChecks l = shapeChecks 11 11 true l ++ (check 9 2 (isDateMark l) ∷ check 9 6 (isThere (dateAt l (byte 6))) ∷ [])
+dateChecks l = shapeChecks 11 11 true l ++ (field class.Other 2 (isDateMark l) ∷ field class.Date 6 (isThere (dateAt l (byte 6))) ∷ [])
 
 -- "other H 5 to 255"; "Other H: F or O, 3 code characters, text."
 abbrev pub headerChecks : List ℕ → List Check
 headerChecks l =
-    shapeChecks 5 255 true l ++ (check 9 2 (isEither (getD l (byte 2) 0) (code "F") (code "O")) ∷ check 9 3 (codesAt l (byte 3) 3) ∷ [])
+    shapeChecks 5 255 true l ++ (field class.Other 2 (isEither (getD l (byte 2) 0) (code "F") (code "O")) ∷ field class.Other 3 (codesAt l (byte 3) 3) ∷ [])
 
 -- "C head 25 to 255"; "C head: declared date, time, flight date (000000 means not given; every other value must be a date, and the declared date always), 4-digit
 -- task number, 2-digit number of turn points, text."
 abbrev pub headChecks : List ℕ → List Check
 headChecks l =
     shapeChecks 25 255 false l ++ (
-    check 9 2 (isThere (dateAt l (byte 2)))
-    ∷ check 9 8 (isThere (timeAt l (byte 8)))
-    ∷ check 9 14 (isThere (plannedAt l (byte 14)))
-    ∷ check 9 20 (isThere (numberAt l (byte 20) 4))
-    ∷ check 9 24 (isThere (numberAt l (byte 24) 2))
+    field class.Date 2 (isThere (dateAt l (byte 2)))
+    ∷ field class.Time 8 (isThere (timeAt l (byte 8)))
+    ∷ field class.Date 14 (isThere (plannedAt l (byte 14)))
+    ∷ field class.Other 20 (isThere (numberAt l (byte 20) 4))
+    ∷ field class.Other 24 (isThere (numberAt l (byte 24) 2))
     ∷ [])
 
 -- "C point 18 to 255"; "C point: latitude, longitude, text."
 abbrev pub pointChecks : List ℕ → List Check
 pointChecks l =
-    shapeChecks 18 255 false l ++ (check 9 2 (isThere (latitudeAt l (byte 2))) ∷ check 9 10 (isThere (longitudeAt l (byte 10))) ∷ [])
+    shapeChecks 18 255 false l ++ (field class.Position 2 (isThere (latitudeAt l (byte 2))) ∷ field class.Position 10 (isThere (longitudeAt l (byte 10))) ∷ [])
 
 -- "B and K exactly what their layout gives"
 abbrev pub sizeChecks : Family → List Entry → List ℕ → List Check
@@ -144,18 +158,18 @@ sizeChecks f es l = shapeChecks (sizeOf f es) (sizeOf f es) false l
 -- "B: time 2 to 7; latitude DDMMmmm and N or S, 8 to 15; longitude DDDMMmmm and E or W, 16 to 24; A or V, 25; pressure altitude 26 to 30; GNSS altitude 31 to 35"
 abbrev pub fixChecks : List ℕ → List Check
 fixChecks l =
-    check 9 2 (isThere (timeAt l (byte 2)))
-    ∷ check 9 8 (isThere (latitudeAt l (byte 8)))
-    ∷ check 9 16 (isThere (longitudeAt l (byte 16)))
-    ∷ check 9 25 (isEither (getD l (byte 25) 0) (code "A") (code "V"))
-    ∷ check 9 26 (isThere (altitudeAt l (byte 26)))
-    ∷ check 9 31 (isThere (altitudeAt l (byte 31)))
+    field class.Time 2 (isThere (timeAt l (byte 2)))
+    ∷ field class.Position 8 (isThere (latitudeAt l (byte 8)))
+    ∷ field class.Position 16 (isThere (longitudeAt l (byte 16)))
+    ∷ field class.Other 25 (isEither (getD l (byte 25) 0) (code "A") (code "V"))
+    ∷ field class.Altitude 26 (isThere (altitudeAt l (byte 26)))
+    ∷ field class.Altitude 31 (isThere (altitudeAt l (byte 31)))
     ∷ []
 
 -- the fields of a line of a family: of a B line those of a fix; "K: time 2 to 7"
 abbrev pub fieldChecks : Family → List ℕ → List Check
 fieldChecks family.B l = fixChecks l
-fieldChecks family.K l = check 9 2 (isThere (timeAt l (byte 2))) ∷ []
+fieldChecks family.K l = field class.Time 2 (isThere (timeAt l (byte 2))) ∷ []
 
 -- "B and K exactly what their layout gives"; "columns from 36", "columns from 8"
 abbrev pub lineChecks : Family → List Entry → List ℕ → List Check
@@ -163,14 +177,14 @@ lineChecks f es l = sizeChecks f es l ++ (fieldChecks f l ++ columnChecks l es)
 
 -- "E 10 to 255"; "E: time, 3 code characters, text."
 abbrev pub eventChecks : List ℕ → List Check
-eventChecks l = shapeChecks 10 255 false l ++ (check 9 2 (isThere (timeAt l (byte 2))) ∷ check 9 8 (codesAt l (byte 8) 3) ∷ [])
+eventChecks l = shapeChecks 10 255 false l ++ (field class.Time 2 (isThere (timeAt l (byte 2))) ∷ field class.Other 8 (codesAt l (byte 8) 3) ∷ [])
 
 -- "F 7 to 255"; "F with an odd half pair is 9 at byte 8, after its time and before its pairs."
 abbrev pub satelliteChecks : List ℕ → List Check
 satelliteChecks l =
     shapeChecks 7 255 false l ++ (
-    check 9 2 (isThere (timeAt l (byte 2)))
-    ∷ check 9 8 (eqb ((length l - 7) % 2) 0)
+    field class.Time 2 (isThere (timeAt l (byte 2)))
+    ∷ field class.Other 8 (eqb ((length l - 7) % 2) 0)
     ∷ pairChecks (byte 8) (drop (byte 8) l))
 
 -- 7 to 13 of a line with a time, and then 14
@@ -180,7 +194,7 @@ thenTime cs ls l = cs ++ (timeCheck ls l ∷ [])
 -- 7 to 14 of a line of this role that comes after the lines ls
 abbrev pub roleChecks : Role → List (List ℕ) → List ℕ → List Check
 -- "A 7 to 255"; "A: 3 code characters for the maker, 3 for the serial, then text."
-roleChecks role.Opens ls l = shapeChecks 7 255 false l ++ (check 9 2 (codesAt l (byte 2) 3) ∷ check 9 5 (codesAt l (byte 5) 3) ∷ [])
+roleChecks role.Opens ls l = shapeChecks 7 255 false l ++ (field class.Other 2 (codesAt l (byte 2) 3) ∷ field class.Other 5 (codesAt l (byte 5) 3) ∷ [])
 -- "line 2 is H, then further H lines"
 roleChecks role.Heads ls l = cond (eqb (length ls) 1) (dateChecks l) (headerChecks l)
 roleChecks (role.Tells f) ls l = layoutChecks f l
@@ -192,7 +206,7 @@ roleChecks role.Event ls l = thenTime (eventChecks l) ls l
 roleChecks role.Satellites ls l = thenTime (satelliteChecks l) ls l
 -- "D 6"; "D: 1 or 2, then 4 code characters."
 roleChecks role.Differential ls l =
-    shapeChecks 6 6 false l ++ (check 9 2 (isEither (getD l (byte 2) 0) (code "1") (code "2")) ∷ check 9 3 (codesAt l (byte 3) 4) ∷ [])
+    shapeChecks 6 6 false l ++ (field class.Other 2 (isEither (getD l (byte 2) 0) (code "1") (code "2")) ∷ field class.Other 3 (codesAt l (byte 3) 4) ∷ [])
 -- "G 2 to 255"; "The G code is carried and never judged."
 roleChecks role.Seals ls l = shapeChecks 2 255 false l
 -- "L 1 to 99"

@@ -145,15 +145,18 @@ sizeOf family.K es = endsAt 7 es
 
 -- ---- the time order
 
+-- "B, E, F and K lines run in time order."
+abbrev pub timedLetters : List ℕ
+timedLetters = code "B" ∷ code "E" ∷ code "F" ∷ code "K" ∷ []
+
 -- the time, at 2 to 7, of the last B, E, F or K line, where there is one
 unfoldable pub lastTime : List (List ℕ) → Option ℕ
-unfolding bytes
 lastTime [] = none
-lastTime (l ∷ ls) = given (lastTime ls) (cond (isAmong (bytes "BEFK") (getD l 0 0)) (timeAt l (byte 2)) none) λ t. some t
+lastTime (l ∷ ls) = given (lastTime ls) (cond (isAmong timedLetters (getD l 0 0)) (timeAt l (byte 2)) none) λ t. some t
 
--- "B, E, F and K lines run in time order."
+-- a B, E, F or K line
 abbrev pub IsTimed : List ℕ → Type 0
-IsTimed l = isAmong (code "B" ∷ code "E" ∷ code "F" ∷ code "K" ∷ []) (getD l 0 0) ≡ true
+IsTimed l = isAmong timedLetters (getD l 0 0) ≡ true
 
 abbrev pub NoTime : List ℕ → Type 0
 NoTime l = IsTimed l → timeAt l (byte 2) ≡ none

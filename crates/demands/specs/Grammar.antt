@@ -1,5 +1,7 @@
 -- Document 01's rules of a whole file as a grammar, apart from any check: what a line of each kind is, which kind may follow which, and the order of times.
--- A line with a date, a time, a layout or a position is the text of such values within their limits; the limits of a time, a position and an altitude are those of the rules (Limits).
+-- A line with a date, a time, a layout or a position is the text of such values within their limits; the listed codes, the characters and the limits are document 01's own
+-- words (crate words). Of the rules it has types; the texts of values; `firstStart` and `layoutLetter`, which `starts-exactly` and `letters-exactly` hold; `layoutOf`,
+-- `entriesOf`, `emptyLayout` and `unused`, the parts of the answer's layouts; and `fieldsOf`, which `fix-fields-exactly` holds.
 use Prim.Native.Nat.{ℕ, _+_, _-_, _%_, _≤_, _<_}
 use Prim.Native.Char.{code}
 use mathlib.Core.Bool.{Bool, true, false, cond}
@@ -11,11 +13,11 @@ use lib.Dec.{eqb}
 use lib.ListN.{length, getD, replicate}
 use Rattle.rules.specs.Families.{firstStart, layoutLetter, layoutOf}
 use Rattle.rules.specs.Choice.{byte, Each}
-use Rattle.rules.specs.Chars.{isValid, isCode, codesAt}
-use Rattle.rules.specs.Fields.{timeText, dateText, isEither}
+use Rattle.rules.specs.Fields.{timeText, dateText}
 use Rattle.rules.specs.Numbers.{digitsOf}
-use Rattle.rules.specs.Listed.{isCodeWord, listed}
+use Rattle.rules.specs.Listed.{codeText}
 use Rattle.rules.specs.Layouts.{unused, emptyLayout, entriesOf}
+use Rattle.rules.specs.Fixes.{fieldsOf}
 use Rattle.rules.specs.Writes.{fixText, extraText, entryTexts, headText, pointText}
 use Rattle.rules.specs.declared.Date.{Date}
 use Rattle.rules.specs.declared.Entry.{Entry}
@@ -24,7 +26,6 @@ use Rattle.rules.specs.declared.Family.{Family}
 use Rattle.rules.specs.declared.Family.the-variants as family
 use Rattle.rules.specs.declared.Layouts.{Layouts}
 use Rattle.rules.specs.declared.Fix.{Fix}
-use Rattle.rules.specs.declared.Listed.{Listed}
 use Rattle.rules.specs.declared.Planned.{Planned}
 use Rattle.rules.specs.declared.Planned.the-variants as planned
 use Rattle.rules.specs.declared.Head.{Head}
@@ -32,22 +33,24 @@ use Rattle.rules.specs.declared.Point.{Point}
 use Rattle.rules.specs.declared.Flight.{Flight}
 use Rattle.rules.specs.declared.Seal.{Seal}
 use Rattle.rules.specs.declared.Seal.the-variants as seal
-use Rattle.rules.specs.Limits.{isTime, goodFixFields, goodPoint}
+use Rattle.words.specs.Characters.{IsValid, IsCode, CodesAt}
+use Rattle.words.specs.Codes.{RowSays, Holds}
+use Rattle.words.specs.Values.{IsTime, IsLatitude, IsLongitude, IsFixFields}
 
 -- ---- 'Lines' and 'Fields': a line of each kind, without its CR LF
 
--- "Lengths below leave CR LF out"; "Valid characters (000, A6): hex 20 to 7D without 21, 24, 2A, 5C, 5E. Comma (2C) .. is valid in H lines only (h)."
+-- "Lengths below leave CR LF out": from least to most bytes, each a valid character; in an H line the comma is one
 pub record Shaped (least most : ℕ) (inH : Bool) (l : List ℕ) : Type 0 where
   pub long : least ≤ length l
   pub short : length l ≤ most
-  pub valid : Each (λ b. isValid inH b ≡ true) l
+  pub valid : Each (IsValid inH) l
 
 -- "A 7 to 255"; "A: 3 code characters for the maker, 3 for the serial, then text."
 pub record IsALine (l : List ℕ) : Type 0 where
   pub letter : getD l 0 0 ≡ code "A"
   pub shape : Shaped 7 255 false l
-  pub maker : codesAt l (byte 2) 3 ≡ true
-  pub serial : codesAt l (byte 5) 3 ≡ true
+  pub maker : CodesAt l (byte 2) 3
+  pub serial : CodesAt l (byte 5) 3
 
 -- how many days a month of a year has; from 1980 to 2079 a year that 4 divides is a leap year
 pub data Days (year : ℕ) : ℕ → ℕ → Type 0 where
@@ -83,25 +86,21 @@ pub record IsDateLine (d : Date) (l : List ℕ) : Type 0 where
 pub record IsHLine (l : List ℕ) : Type 0 where
   pub letter : getD l 0 0 ≡ code "H"
   pub shape : Shaped 5 255 true l
-  pub source : isEither (getD l (byte 2) 0) (code "F") (code "O") ≡ true
-  pub subject : codesAt l (byte 3) 3 ≡ true
+  pub source : (getD l (byte 2) 0 ≡ code "F") ⊎ (getD l (byte 2) 0 ≡ code "O")
+  pub subject : CodesAt l (byte 3) 3
 
--- what every row of the listed codes with this code says; of an unlisted code nothing. The table itself (`listed`, in the rules) can only be read.
-abbrev pub Listing : ℕ → (Listed → Type 0) → Type 0
-Listing x P = Each (λ r. r .code ≡ x → P r) listed
-
--- how many bytes a column has
+-- how many bytes a column has, the first and the last among them
 abbrev pub widthOf : Entry → ℕ
 widthOf e = e .last - e .first + 1
 
--- "start SS, finish FF and a code CCC of 3 code characters"; "FF is not below SS"; "Listed codes, .. with least and most width"; "An unlisted code may have any
--- width"
+-- "start SS, finish FF and a code CCC of 3 code characters", FF in two digits; "FF is not below SS"; "Listed codes, .. with least and most width"; "An unlisted code may have
+-- any width"
 pub record IsEntry (start : ℕ) (e : Entry) : Type 0 where
   pub starts : e .first ≡ start
   pub ends : e .first ≤ e .last
   pub spelt : e .last ≤ 99
-  pub word : isCodeWord (e .code) ≡ true
-  pub wide : Listing (e .code) (λ r. (r .least ≤ widthOf e) × (widthOf e ≤ r .most))
+  pub word : Each IsCode (codeText (e .code))
+  pub wide : RowSays (e .code) (λ p. (p .least ≤ widthOf e) × (widthOf e ≤ p .most))
 
 -- "each next starts one past the last finish (h)"; "No code comes twice in one layout."
 abbrev pub Tiles : ℕ → List Entry → Type 0
@@ -131,7 +130,7 @@ pub record IsHeadLine (h : Head) (l : List ℕ) : Type 0 where
   pub rest : List ℕ
   pub text : l ≡ headText h rest
   pub declared : IsDay (h .declared)
-  pub time : isTime (h .time) ≡ true
+  pub time : IsTime (h .time)
   pub flight : IsPlanned (h .flight)
   pub task : h .task ≤ 9999
   pub turns : h .turns ≤ 99
@@ -142,70 +141,63 @@ pub record IsPointLine (l : List ℕ) : Type 0 where
   pub point : Point
   pub rest : List ℕ
   pub text : l ≡ pointText point rest
-  pub good : goodPoint point rest ≡ true
+  pub lat : IsLatitude (point .lat)
+  pub lon : IsLongitude (point .lon)
+  pub shape : Shaped 18 255 false l
 
 -- "D 6"; "D: 1 or 2, then 4 code characters."
 pub record IsDLine (l : List ℕ) : Type 0 where
   pub letter : getD l 0 0 ≡ code "D"
   pub shape : Shaped 6 6 false l
-  pub qualifier : isEither (getD l (byte 2) 0) (code "1") (code "2") ≡ true
-  pub station : codesAt l (byte 3) 4 ≡ true
+  pub qualifier : (getD l (byte 2) 0 ≡ code "1") ⊎ (getD l (byte 2) 0 ≡ code "2")
+  pub station : CodesAt l (byte 3) 4
 
 -- "E 10 to 255"; "E: time, 3 code characters, text."
 pub record IsELine (t : ℕ) (l : List ℕ) : Type 0 where
   pub rest : List ℕ
   pub text : l ≡ code "E" ∷ (timeText t ++ rest)
-  pub good : isTime t ≡ true
+  pub time : IsTime t
   pub shape : Shaped 10 255 false l
-  pub event : codesAt l (byte 8) 3 ≡ true
+  pub event : CodesAt l (byte 8) 3
 
 -- "F 7 to 255"; "F: time, then pairs of code characters, perhaps none."
 pub record IsFLine (t : ℕ) (l : List ℕ) : Type 0 where
   pub pairs : List ℕ
   pub text : l ≡ code "F" ∷ (timeText t ++ pairs)
-  pub good : isTime t ≡ true
+  pub time : IsTime t
   pub shape : Shaped 7 255 false l
   pub even : length pairs % 2 ≡ 0
-  pub codes : Each (λ b. isCode b ≡ true) pairs
+  pub codes : Each IsCode pairs
 
--- "Digit fields hold 0 to 9 only."
-abbrev pub IsDigit : ℕ → Type 0
-IsDigit b = (code "0" ≤ b) × (b ≤ code "9")
-
--- "Their columns hold digits; FLP, DAE, DAN may have a minus first with at least one digit after it."
-pub data Holds (sign : Bool) : List ℕ → Type 0 where
-  digits : {t : List ℕ} → Each IsDigit t → Holds sign t
-  minus : {d : ℕ} {t : List ℕ} → sign ≡ true → IsDigit d → Each IsDigit t → Holds sign (code "-" ∷ d ∷ t)
-
--- The columns of a line, one behind the other, each of its entry's bytes from SS to FF: "A line of that kind ends at the last FF". Valid characters, and the rule of a
--- listed code.
+-- The columns of a line, one behind the other, each as many bytes as from its entry's SS to its FF, and none behind the last: "A line of that kind ends at the last FF". Each
+-- holds valid characters, and that of a listed code keeps its rule.
 pub data Columns : List Entry → List ℕ → Type 0 where
   none : Columns [] []
   column : {e : Entry} {es : List Entry} {t : List ℕ} (c : List ℕ)
       → length c ≡ widthOf e
-      → Each (λ b. isValid false b ≡ true) c
-      → Listing (e .code) (λ r. Holds (r .sign) c)
+      → Each (IsValid false) c
+      → RowSays (e .code) (λ p. Holds (p .name) c)
       → Columns es t
       → Columns (e ∷ es) (c ++ t)
 
 -- "B: time 2 to 7; latitude DDMMmmm and N or S, 8 to 15; longitude DDDMMmmm and E or W, 16 to 24; A or V, 25; pressure altitude 26 to 30; GNSS altitude 31 to 35;
--- columns from 36."; "B .. exactly what [its] layout gives"
+-- columns from 36."; "B and K exactly what their layout gives"
 pub record IsBLine (layout : Layout) (f : Fix) (l : List ℕ) : Type 0 where
   pub tail : List ℕ
   pub text : l ≡ fixText f tail
-  pub fields : goodFixFields f ≡ true
+  pub fields : IsFixFields (fieldsOf f)
   pub columns : Columns (entriesOf layout) tail
 
--- "K: time 2 to 7, columns from 8."; "K .. exactly what [its] layout gives"
+-- "K: time 2 to 7, columns from 8."; "B and K exactly what their layout gives"
 pub record IsKLine (layout : Layout) (t : ℕ) (l : List ℕ) : Type 0 where
   pub tail : List ℕ
   pub text : l ≡ extraText t tail
-  pub time : isTime t ≡ true
+  pub time : IsTime t
   pub columns : Columns (entriesOf layout) tail
 
--- a line of a family, by its layout, and its time
+-- a B line or a K line, by its layout, and its time
 abbrev pub IsColumned : Family → Layout → ℕ → List ℕ → Type 0
-IsColumned family.B layout t l = (f : Fix) × (f .time ≡ t) × IsBLine layout f l
+IsColumned family.B layout t l = (f : Fix) × (fieldsOf f .time ≡ t) × IsBLine layout f l
 IsColumned family.K layout t l = IsKLine layout t l
 
 -- "L 1 to 99"
@@ -259,13 +251,13 @@ pub data Untimed (l : List ℕ) : Type 0 where
   remark : IsLLine l → Untimed l
   other : IsOtherLine l → Untimed l
 
--- "D, E, F, B, K, L and other" in any order, and their times in the order of the lines
+-- "C, D, E, F, B, K, L and other", all but C, in any order; and their times in the order of the lines
 pub data Items (layouts : Layouts) : List (List ℕ) → List ℕ → Type 0 where
   done : Items layouts [] []
   timed : {l : List ℕ} {ls : List (List ℕ)} {t : ℕ} {ts : List ℕ} → Timed layouts t l → Items layouts ls ts → Items layouts (l ∷ ls) (t ∷ ts)
   untimed : {l : List ℕ} {ls : List (List ℕ)} {ts : List ℕ} → Untimed l → Items layouts ls ts → Items layouts (l ∷ ls) ts
 
--- "At most one declaration (h), begun before the first B: a C head, then at once its point lines, as many as its turn points plus 4"
+-- "At most one declaration (h), begun before the first B: a C head, then at once its point lines, as many as its turn points plus 4 (take-off, start, finish, landing)."
 pub data Body (layouts : Layouts) : List (List ℕ) → List ℕ → Type 0 where
   undeclared : {ls : List (List ℕ)} {ts : List ℕ} → Items layouts ls ts → Body layouts ls ts
   declared : {ts us : List ℕ} (before : List (List ℕ)) (head : List ℕ) (points after : List (List ℕ)) (h : Head)
@@ -285,19 +277,19 @@ pub record Parts : Type 0 where
   -- the lines that tell each family's layout
   pub told : Family → List (List ℕ)
   pub body : List (List ℕ)
-  pub seal : List (List ℕ)
+  pub seals : List (List ℕ)
   pub remarks : List (List ℕ)
 
 -- in their order
 abbrev pub linesIn : Parts → List (List ℕ)
-linesIn p = p .recorder ∷ p .day ∷ (p .headers ++ (p .told family.B ++ (p .told family.K ++ (p .body ++ (p .seal ++ p .remarks)))))
+linesIn p = p .recorder ∷ p .day ∷ (p .headers ++ (p .told family.B ++ (p .told family.K ++ (p .body ++ (p .seals ++ p .remarks)))))
 
 -- "At least one G is needed (h)."
 abbrev pub SealedBy : Seal → List (List ℕ) → Type 0
 SealedBy seal.Strict gs = 1 ≤ length gs
 
 -- "Line 1 is A, line 2 is H, then further H lines, then at most one I, then at most one J. After these come C, D, E, F, B, K, L and other, with no further A, H,
--- I, J." "Then one or more G lines. After the first G only G or L; after an L that follows a G, only L."
+-- I, J." "Then one or more G lines. After the first G only G or L; after an L that follows a G, only L." How many G lines are needed, the seal says.
 pub record Keeps (seal : Seal) (p : Parts) (date : Date) (layouts : Layouts) (times : List ℕ) : Type 0 where
   pub recorder : IsALine (p .recorder)
   pub day : IsDateLine date (p .day)
@@ -305,8 +297,8 @@ pub record Keeps (seal : Seal) (p : Parts) (date : Date) (layouts : Layouts) (ti
   pub told : AtMostOne family.B (layouts .b) (p .told family.B) × AtMostOne family.K (layouts .k) (p .told family.K)
   pub body : Body layouts (p .body) times
   pub order : InOrder times
-  pub seals : Each IsGLine (p .seal)
-  pub sealed : SealedBy seal (p .seal)
+  pub seals : Each IsGLine (p .seals)
+  pub sealed : SealedBy seal (p .seals)
   pub remarks : Each IsLLine (p .remarks)
 
 -- ---- the file

@@ -5,3 +5,6 @@ pub mod FieldTexts
 pub mod Faults
 pub mod Readings
 pub mod BothWays
+pub mod Endings
+pub mod ReadersRefuse
+pub mod Left

@@ -1,4 +1,5 @@
--- Document 01, 'The file we take and what we do with it': what can be read from an accepted file, line by line, with the layouts of the answer.
+-- Document 01, 'The file we take and what we do with it': what can be read from an accepted file, line by line, with the layouts of the answer. Each reader says the value whose
+-- line, by the grammar, it is given.
 use Prim.Native.Nat.{ℕ, _+_, _-_, _^_, _≤_, _<_}
 use Prim.Native.Char.{code}
 use mathlib.Core.List.{List, [], _∷_, _++_}
@@ -6,27 +7,33 @@ use mathlib.Core.Option.{none, some}
 use mathlib.Core.Path.{_≡_}
 use lib.IntN.{pos, negℤ}
 use lib.ListN.{length, getD, take, drop}
-use Rattle.rules.specs.Families.{firstStart, lineLetter, layoutOf}
+use Rattle.rules.specs.Families.{firstStart, layoutOf}
 use Rattle.rules.specs.Choice.{part, Each}
 use Rattle.rules.specs.Refusals.{Said, says, refuses, no}
 use Rattle.rules.specs.Numbers.{digitsOf}
+use Rattle.rules.specs.Degrees.{degreesOf}
 use Rattle.rules.specs.Listed.{codeText}
-use Rattle.rules.specs.Layouts.{spanOf, entriesOf, columnText}
+use Rattle.rules.specs.Layouts.{emptyLayout, spanOf, entriesOf, columnText, lengthSaid, lookSaid, presenceSaid}
 use Rattle.rules.specs.Split.{boundsOf, lineText, stepAt}
 use Rattle.rules.specs.Files.{tableAfter}
-use Rattle.rules.specs.Reads.{fixSaid, extraSaid, headSaid, pointSaid, columnSaid, columnTextSaid, numberSaid}
+use Rattle.rules.specs.Reads.{fixSaid, extraSaid, dateSaid, eventSaid, satellitesSaid, layoutSaid, headSaid, headRest, pointSaid, pointRest, columnSaid, columnTextSaid, numberSaid}
 use Rattle.rules.specs.declared.Reason.the-variants.{Absent, NotNumber}
 use Rattle.rules.specs.declared.Signed.{Signed}
 use Rattle.rules.specs.declared.Entry.{Entry}
 use Rattle.rules.specs.declared.Layout.{Layout}
 use Rattle.rules.specs.declared.Family.{Family}
 use Rattle.rules.specs.declared.Family.the-variants as family
+use Rattle.rules.specs.declared.Position.{Position}
+use Rattle.rules.specs.declared.Degrees.{Degrees}
 use Rattle.rules.specs.declared.Fix.{Fix}
 use Rattle.rules.specs.declared.Head.{Head}
 use Rattle.rules.specs.declared.Layouts.{Layouts}
 use Rattle.rules.specs.declared.Flight.{Flight}
 use Rattle.rules.specs.declared.Seal.{Seal}
-use Rattle.demands.specs.Grammar.{IsText, widthOf, IsBLine, IsKLine, IsHeadLine, IsPointLine, joinLines, beginning}
+use Rattle.words.specs.Codes.{Row, rows}
+use Rattle.words.specs.Values.{IsLatitude, IsLongitude, IsAngle}
+use Rattle.demands.specs.Grammar.{IsText, IsDateLine, widthOf, IsLayoutLine, IsELine, IsFLine, IsBLine, IsKLine, IsHeadLine, IsPointLine, joinLines, beginning}
+use Rattle.demands.specs.Coming.{sizeOf}
 
 -- ---- a column
 
@@ -65,13 +72,59 @@ pub record ReadsColumns (f : Family) (layout : Layout) (l : List ℕ) : Type 0 w
   -- together they are the line's tail
   pub tail : columnTexts l (entriesOf layout) ≡ drop (firstStart f - 1) l
 
+-- ---- what a layout says by itself
+
+-- an entry of this code stands among the entries
+pub record Carries (es : List Entry) (name : List ℕ) : Type 0 where
+  pub before : List Entry
+  pub entry : Entry
+  pub after : List Entry
+  pub order : es ≡ before ++ (entry ∷ after)
+  pub coded : codeText (entry .code) ≡ name
+
+-- "One u32 word tells which listed codes an I line carries, a bit for each number, with the count of those columns: bit n, worth 2^n, for number n.": of these rows, the first
+-- of which has the number n, the word and the count
+pub data Present (es : List Entry) : List Row → ℕ → ℕ → ℕ → Type 0 where
+  no-rows : {n : ℕ} → Present es [] n 0 0
+  carried : {r : Row} {rs : List Row} {n word count : ℕ} → Carries es (r .name) → Present es rs (n + 1) word count → Present es (r ∷ rs) n (2 ^ n + word) (count + 1)
+  absent : {r : Row} {rs : List Row} {n word count : ℕ} → Each (λ e. codeText (e .code) ≡ r .name → ⊥) es → Present es rs (n + 1) word count → Present es (r ∷ rs) n word count
+
+-- the listed codes of an I line
+pub record ReadsPresence (layout : Layout) : Type 0 where
+  pub word : ℕ
+  pub count : ℕ
+  pub is : Present (entriesOf layout) rows 0 word count
+  pub reads : presenceSaid layout ≡ says (record { word = word; count = count })
+
+-- the length of a family's lines, and where the column of each code stands
+pub record ReadsLayout (f : Family) (layout : Layout) : Type 0 where
+  -- "A line of that kind ends at the last FF; with NN 00, or no such line, B has 35 and K has 7."
+  pub long : lengthSaid f layout ≡ says (sizeOf f (entriesOf layout))
+  pub carried : Each (λ e. lookSaid f layout (codeText (e .code)) ≡ says (spanOf e)) (entriesOf layout)
+  -- "19 ABSENT: code (any 3 bytes) not in the layout"
+  pub absent : (name : List ℕ) → IsName name → Each (λ e. codeText (e .code) ≡ name → ⊥) (entriesOf layout) → lookSaid f layout name ≡ no Absent 0
+
 -- ---- "any fix, column, K line or declaration read"
+
+-- "For the map, a position also comes as a pair of f64 degrees": a latitude and a longitude within their limits, and of each its degrees
+pub record OnMap (lat lon : Position) (d : Degrees) : Type 0 where
+  pub latitude : IsLatitude lat
+  pub longitude : IsLongitude lon
+  pub lat-angle : IsAngle lat (d .lat)
+  pub lon-angle : IsAngle lon (d .lon)
+
+-- of positions that were read it is never refused
+pub record ReadsMap (lat lon : Position) : Type 0 where
+  pub degrees : Degrees
+  pub is : OnMap lat lon degrees
+  pub reads : degreesOf lat lon ≡ says degrees
 
 -- a B line reads, by the I layout, as the fix whose line it is
 pub record ReadsFix (layout : Layout) (l : List ℕ) : Type 0 where
   pub fix : Fix
   pub is : IsBLine layout fix l
   pub reads : fixSaid l layout ≡ says fix
+  pub map : ReadsMap (fix .lat) (fix .lon)
   pub columns : ReadsColumns family.B layout l
 
 -- a K line, by the J layout, as the time whose line it is
@@ -81,15 +134,36 @@ pub record ReadsExtra (layout : Layout) (l : List ℕ) : Type 0 where
   pub reads : extraSaid l layout ≡ says time
   pub columns : ReadsColumns family.K layout l
 
--- a B line by the I layout, a K line by the J layout
+-- a line reads as the value whose line it is
+pub record ReadsValue {A : Type 0} (said : List ℕ → Said A) (Is : A → List ℕ → Type 0) (v : A) (l : List ℕ) : Type 0 where
+  pub is : Is v l
+  pub reads : said l ≡ says v
+
+-- an E line or an F line as its time
+abbrev pub ReadsTime : (List ℕ → Said ℕ) → (ℕ → List ℕ → Type 0) → List ℕ → Type 0
+ReadsTime said Is l = (t : ℕ) × ReadsValue said Is t l
+
+-- a B line by the I layout, a K line by the J layout; the I line as the one layout, the J line as the other; an E line and an F line
 pub record ReadsLine (layouts : Layouts) (l : List ℕ) : Type 0 where
   pub b : getD l 0 0 ≡ code "B" → ReadsFix (layouts .b) l
   pub k : getD l 0 0 ≡ code "K" → ReadsExtra (layouts .k) l
+  pub i : getD l 0 0 ≡ code "I" → ReadsValue (layoutSaid family.B) (IsLayoutLine family.B) (layouts .b) l
+  pub j : getD l 0 0 ≡ code "J" → ReadsValue (layoutSaid family.K) (IsLayoutLine family.K) (layouts .k) l
+  pub e : getD l 0 0 ≡ code "E" → ReadsTime eventSaid IsELine l
+  pub f : getD l 0 0 ≡ code "F" → ReadsTime satellitesSaid IsFLine l
 
--- a C point line reads as the point whose line it is
+-- a C head reads as the head whose line it is, and as the text behind its fields
+pub record ReadsHead (h : Head) (l : List ℕ) : Type 0 where
+  pub is : IsHeadLine h l
+  pub reads : headSaid l ≡ says h
+  pub text : headRest l (headSaid l) ≡ is .rest
+
+-- a C point line as the point whose line it is, and as the text behind its fields
 pub record ReadsPoint (l : List ℕ) : Type 0 where
   pub is : IsPointLine l
   pub reads : pointSaid l ≡ says (is .point)
+  pub map : ReadsMap (is .point .lat) (is .point .lon)
+  pub text : pointRest l (pointSaid l) ≡ is .rest
 
 -- a line of another kind than C
 abbrev pub NoC : List ℕ → Type 0
@@ -102,8 +176,7 @@ pub data ReadsDeclaration (lines : List (List ℕ)) : Type 0 where
   declared : (before : List (List ℕ)) (head : List ℕ) (points after : List (List ℕ)) (h : Head)
       → lines ≡ before ++ (head ∷ (points ++ after))
       → Each NoC before
-      → IsHeadLine h head
-      → headSaid head ≡ says h
+      → ReadsHead h head
       → Each ReadsPoint points
       → length points ≡ h .turns + 4
       → Each NoC after
@@ -116,11 +189,18 @@ unfoldable pub total : List (List ℕ) → ℕ
 total [] = 0
 total (l ∷ ls) = length l + 2 + total ls
 
+-- the lent table afterwards: "for each line .. the offset of its first byte", as many bytes as the lines before it have with their CR LF; the rest as lent; as many entries
+pub record Entered (lines : List (List ℕ)) (table after : List ℕ) : Type 0 where
+  pub entries : (n : ℕ) → n < length lines → getD after n 0 ≡ total (take n lines)
+  pub unchanged : (n : ℕ) → length lines ≤ n → getD after n 0 ≡ getD table n 0
+  pub long : length after ≡ length table
+  pub room : length lines ≤ length table
+
 -- "A reading place over the lines .. comes back at each step with the next line, or with the news that none is left"
 unfoldable pub Steps : List ℕ → ℕ → List (List ℕ) → Type 0
-Steps file at [] = stepAt file at ≡ says none
+Steps file at [] = stepAt file at ≡ says (record { found = none; next = at })
 Steps file at (l ∷ ls) =
-    (stepAt file at ≡ says (some (record { from = at; to = at + length l; next = at + length l + 2 })))
+    (stepAt file at ≡ says (record { found = some (record { from = at; to = at + length l }); next = at + length l + 2 }))
     × (part at (at + length l) file ≡ l)
     × Steps file (at + length l + 2) ls
 
@@ -138,12 +218,19 @@ pub record Readable (seal : Seal) (file table : List ℕ) (f : Flight) : Type 0 
   pub bs : f .counts .b ≡ beginning (code "B") lines
   pub ks : f .counts .k ≡ beginning (code "K") lines
   -- "a lent table of u32 numbers whose entry for each line is the offset of its first byte"; the rest unchanged
-  pub entries : (n : ℕ) → n < length lines → getD (tableAfter seal file table) n 0 ≡ total (take n lines)
-  pub unchanged : (n : ℕ) → length lines ≤ n → getD (tableAfter seal file table) n 0 ≡ getD table n 0
-  pub long : length (tableAfter seal file table) ≡ length table
-  -- "any line, without its CR LF, can be asked for as a part of the lent file": line n + 1, with the table
+  pub entered : Entered lines table (tableAfter seal file table)
+  -- "any line, without its CR LF, can be asked for as a part of the lent file": line n + 1, with the table; from where its bytes stand and up to where, and the bytes
+  pub bounds : (n : ℕ) → n < length lines → boundsOf file (tableAfter seal file table) (n + 1)
+      ≡ says (record { from = total (take n lines); to = total (take n lines) + length (getD lines n []) })
   pub numbered : (n : ℕ) → n < length lines → lineText file (boundsOf file (tableAfter seal file table) (n + 1)) ≡ getD lines n []
   -- stepping from place 0 gives exactly the lines in their order, and then none
   pub stepping : Steps file 0 lines
+  -- "the date, the I and J layouts": the date is read from line 2; the layouts from the I and the J line, and where there is "no such line" they are empty
+  pub date : ReadsValue dateSaid IsDateLine (f .date) (getD lines 1 [])
   pub reads : Each (ReadsLine (f .layouts)) lines
+  pub no-i : Each (λ l. getD l 0 0 ≡ code "I" → ⊥) lines → f .layouts .b ≡ emptyLayout
+  pub no-j : Each (λ l. getD l 0 0 ≡ code "J" → ⊥) lines → f .layouts .k ≡ emptyLayout
+  -- what is read of the layouts themselves
+  pub layouts : (g : Family) → ReadsLayout g (layoutOf g (f .layouts))
+  pub presence : ReadsPresence (f .layouts .b)
   pub declaration : ReadsDeclaration lines

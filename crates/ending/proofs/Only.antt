@@ -2,8 +2,8 @@
 use Prim.Native.Nat.{ℕ}
 use mathlib.Core.List.{List}
 use Rattle.rules.specs.declared.Reason.{Reason}
-use Rattle.laws.proofs.Only.{Only, same, alike}
-use Rattle.laws.proofs.Told.{wrote-one}
+use Rattle.only.proofs.Only.{Only, same, alike}
+use Rattle.only.proofs.Told.{wrote-one}
 use Rattle.ending.specs.Ends.{LineClosed, WriteRefused}
 
 pub only-line-closed : (rest : List ℕ) (at : ℕ) (out : List ℕ) → Only (LineClosed rest at out)

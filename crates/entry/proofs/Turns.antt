@@ -1,21 +1,17 @@
 -- One turn of a loop over the entries of a layout: the entry at the place i decides, or those behind it do. Assumes nothing.
 use Prim.Native.Nat.{ℕ, _+_, _≤_, _<_}
 use mathlib.Core.Bool.{Bool, true, false}
-use mathlib.Core.List.{List, map}
 use mathlib.Core.Option.{none, some}
-use mathlib.Core.Path.{_≡_, sym, _∙_, ap}
+use mathlib.Core.Path.{_≡_, _∙_, ap}
 use native.Mathlib.Omega.{arith}
-use lib.ListN.{length, getD, drop, length-take, length-map}
+use lib.ListN.{length, getD, drop, length-take}
 use lib.Seq.{getD-take}
 use Rattle.rules.specs.Choice.{firstOf}
 use Rattle.rules.specs.Layouts.{unused, entriesOf}
 use Rattle.rules.specs.declared.Entry.{Entry}
 use Rattle.rules.specs.declared.Layout.{Layout}
+pub use Rattle.basics.proofs.Laws.{unmapped}
 use Rattle.chars.proofs.Laws.{hit, miss, past}
-
--- what owning an array of structs tells is the length of a mapped list
-pub unmapped : {X Y : Type 0} (f : X → Y) (l : List X) (n : ℕ) → length (map f l) ≡ n → length l ≡ n
-unmapped f l n e = sym (length-map l f) ∙ e
 
 -- an entry that counts stands among those of the layout
 module _ (l : Layout) (i : ℕ) where

@@ -8,7 +8,7 @@ use Rattle.rules.specs.Families.{firstStart}
 use Rattle.rules.specs.Choice.{given}
 use Rattle.rules.specs.Listed.{packedOf, codeAt}
 use Rattle.rules.specs.Refusals.{Said, says, no, refusal}
-use Rattle.rules.specs.Layouts.{Span, look, carries, placed, entryAt, columnTold, emptyLayout}
+use Rattle.rules.specs.Layouts.{Span, look, carries, placed, entryAt, columnTold}
 use Rattle.rules.specs.declared.Reason.the-variants.{Absent}
 use Rattle.rules.specs.declared.Entry.{Entry}
 use Rattle.rules.specs.declared.Layout.{Layout}
@@ -20,10 +20,6 @@ use Rattle.entry.specs.declared.EntryRead.{EntryRead}
 use Rattle.entry.specs.declared.EntryRead.the-variants as entryRead
 use Rattle.entry.specs.declared.Letters.{Letters}
 use Rattle.entry.specs.declared.Letters.the-variants as letters
-
--- no columns
-abbrev pub NoColumns : Layout → Type 0
-NoColumns r = r ≡ emptyLayout
 
 -- where the first column of a family starts
 abbrev pub StartGiven : Family → ℕ → Type 0

@@ -2,7 +2,8 @@
 ghost use Prim.Native.Nat.{_≤_};
 ghost use mathlib.Core.Path.{_≡_};
 ghost use Rattle.rules.specs.Refusals.{no};
-ghost use Rattle.entry.specs.Parts.{NoColumns, StartGiven, SpotFound, CarriesTest, ColumnFound, EntryPlaced, CodeGiven, EntryGiven, entryTold};
+ghost use Rattle.entry.specs.Parts.{StartGiven, SpotFound, CarriesTest, ColumnFound, EntryPlaced, CodeGiven, EntryGiven, entryTold};
+pub use basics::empty_layout;
 use rules::ColumnRead;
 use rules::Entry;
 use rules::Family;
@@ -21,19 +22,6 @@ pub enum Spot {
 pub enum EntryRead {
     Is(Entry),
     Refused(Refusal),
-}
-
-// No columns.
-pub fn empty_layout() -> Layout
-    ensures { λ r. ⌜ NoColumns r ⌝ }
-{
-    let unused = Entry {
-        first: 0,
-        last: 0,
-        code: 0,
-    };
-    let entries = [unused; 13];
-    Layout { count: 0, entries }
 }
 
 // Where the column of a code stands. Nowhere, where no entry has the code.

@@ -1,6 +1,6 @@
 -- Document 01, 'Lines': the text of the line that a refusal names.
 use Prim.Native.Nat.{ℕ, zero, suc, _+_, _-_, _≤_}
-use mathlib.Core.Bool.{Bool, _||_, cond}
+use mathlib.Core.Bool.{cond}
 use mathlib.Core.List.{List, [], _∷_}
 use mathlib.Core.Path.{_≡_}
 use lib.Dec.{eqb}
@@ -20,21 +20,18 @@ textBehind (suc k) (line t ls) file = textBehind k ls (drop (length t + 2) file)
 unfoldable pub textOf : List ℕ → ℕ → List ℕ
 textOf file n = cond (eqb n 0) [] (textBehind (n - 1) (linesOf file) file)
 
-abbrev pub LineTextGiven : List ℕ → ℕ → List ℕ → Type 0
-LineTextGiven file n r = r ≡ textOf file n
+abbrev pub FaultyTextGiven : List ℕ → ℕ → List ℕ → Type 0
+FaultyTextGiven file n r = r ≡ textOf file n
 
--- ---- what the functions behind it find
+-- ---- where the line starts and where its text ends
 
--- CR or LF
-unfoldable pub isEnd : ℕ → Bool
-isEnd b = eqb b 13 || eqb b 10
-
--- how many bytes stand before the first CR or LF
-unfoldable pub textLength : List ℕ → ℕ
-textLength [] = 0
-textLength (b ∷ l) = cond (isEnd b) 0 (suc (textLength l))
-
--- r is a place in the file from which the line behind k lines is the one that stands behind k more lines from `at` on
-pub record Onward (file : List ℕ) (at more r : ℕ) : Type 0 where
+-- the line from r on is the one behind k lines; r is the file's end where there is none
+pub record LineStartGiven (file : List ℕ) (k r : ℕ) : Type 0 where
   pub within : r ≤ length file
-  pub same : (k : ℕ) → textBehind (more + k) (linesOf (drop at file)) (drop at file) ≡ textBehind k (linesOf (drop r file)) (drop r file)
+  pub same : textBehind k (linesOf file) file ≡ textBehind 0 (linesOf (drop r file)) (drop r file)
+
+-- the text of the line from `at` on ends at r
+pub record TextEndGiven (file : List ℕ) (at r : ℕ) : Type 0 where
+  pub start : at ≤ r
+  pub within : r ≤ length file
+  pub text : take (r - at) (drop at file) ≡ textBehind 0 (linesOf (drop at file)) (drop at file)

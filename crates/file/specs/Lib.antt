@@ -1,2 +1,2 @@
--- What a turn of the check says, in the paper's terms.
-pub mod Turns
+-- What the check of a file's lines says, in the paper's terms.
+pub mod Checks

@@ -1,6 +1,6 @@
 // A file in lent memory: the check of the whole file, with a table of its lines' offsets or without one.
 ghost use Rattle.rules.specs.Promises.{FileChecked, FileJudged};
-ghost use Rattle.file.specs.Turns.{LinesChecked};
+ghost use Rattle.file.specs.Checks.{LinesChecked};
 use rules::Checked;
 use rules::Reason;
 use rules::Seal;

@@ -2,12 +2,12 @@
 use Prim.Native.Nat.{ℕ}
 use mathlib.Core.List.{List}
 use Rattle.rules.specs.declared.Class.{Class}
-use Rattle.laws.proofs.Only.{Only, same, alike}
-use Rattle.laws.proofs.Told.{fix-one}
+use Rattle.only.proofs.Only.{Only, same, alike}
+use Rattle.only.proofs.Told.{fix-fields-one}
 use Rattle.fix.specs.Parts.{FormGiven, FieldsGiven}
 
 pub only-form-given : (c : Class) (first : ℕ) → Only (FormGiven c first)
 only-form-given c first = same
 
 pub only-fields-given : (l : List ℕ) → Only (FieldsGiven l)
-only-fields-given l = alike fix-one
+only-fields-given l = alike fix-fields-one

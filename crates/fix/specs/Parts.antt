@@ -3,11 +3,11 @@ use Prim.Native.Nat.{ℕ}
 use mathlib.Core.List.{List}
 use mathlib.Core.Path.{_≡_}
 use Rattle.rules.specs.Lines.{fixFields}
-use Rattle.rules.specs.Reads.{fixTold}
+use Rattle.rules.specs.Reads.{fixFieldsTold}
 use Rattle.rules.specs.Refusals.{reasonOf}
 use Rattle.rules.specs.declared.Class.{Class}
 use Rattle.rules.specs.declared.Refusal.{Refusal}
-use Rattle.rules.specs.declared.FixRead.{FixRead}
+use Rattle.rules.specs.declared.FixFieldsRead.{FixFieldsRead}
 
 -- "9 FORM: first field against its rule; line, field's first byte", with 0 for the line number
 abbrev pub formAt : Class → ℕ → Refusal
@@ -17,5 +17,5 @@ abbrev pub FormGiven : Class → ℕ → Refusal → Type 0
 FormGiven c first r = r ≡ formAt c first
 
 -- the fields of a B line before its columns
-abbrev pub FieldsGiven : List ℕ → FixRead → Type 0
-FieldsGiven l r = fixTold r ≡ fixFields l
+abbrev pub FieldsGiven : List ℕ → FixFieldsRead → Type 0
+FieldsGiven l r = fixFieldsTold r ≡ fixFields l

@@ -4,8 +4,8 @@ ghost use Rattle.rules.specs.Refusals.{reasonOf};
 ghost use Rattle.fix.specs.Parts.{FormGiven, FieldsGiven};
 use rules::Altitude;
 use rules::Class;
-use rules::Fix;
-use rules::FixRead;
+use rules::FixFields;
+use rules::FixFieldsRead;
 use rules::PositionField;
 use rules::Reason;
 use rules::Refusal;
@@ -36,29 +36,29 @@ pub fn form(class: Class, byte: u32) -> Refusal
 }
 
 // The fields of a B line before its columns.
-pub fn fix_fields(line: &[u8]) -> FixRead
+pub fn fix_fields(line: &[u8]) -> FixFieldsRead
     ensures { λ r. ⌜ FieldsGiven (now (line .entry)) r ⌝ }
 {
     let Time::Secs(time) = field::time_at(line, 1) else {
-        return FixRead::Refused(form(Class::Time, 2));
+        return FixFieldsRead::Refused(form(Class::Time, 2));
     };
     let PositionField::Is(lat) = field::latitude_at(line, 7) else {
-        return FixRead::Refused(form(Class::Position, 8));
+        return FixFieldsRead::Refused(form(Class::Position, 8));
     };
     let PositionField::Is(lon) = field::longitude_at(line, 15) else {
-        return FixRead::Refused(form(Class::Position, 16));
+        return FixFieldsRead::Refused(form(Class::Position, 16));
     };
     let validity = chars::byte(line, 24);
     if !chars::is_either(validity, b'A', b'V') {
-        return FixRead::Refused(form(Class::Other, 25));
+        return FixFieldsRead::Refused(form(Class::Other, 25));
     }
     let Altitude::Metres(pressure) = field::altitude_at(line, 25) else {
-        return FixRead::Refused(form(Class::Altitude, 26));
+        return FixFieldsRead::Refused(form(Class::Altitude, 26));
     };
     let Altitude::Metres(gnss) = field::altitude_at(line, 30) else {
-        return FixRead::Refused(form(Class::Altitude, 31));
+        return FixFieldsRead::Refused(form(Class::Altitude, 31));
     };
-    FixRead::Is(Fix {
+    FixFieldsRead::Is(FixFields {
         time,
         lat,
         lon,

@@ -3,8 +3,8 @@ use Prim.Native.Nat.{ℕ}
 use mathlib.Core.List.{List}
 use mathlib.Core.Path.{refl, ap}
 use Rattle.rules.specs.declared.Family.{Family}
-use Rattle.laws.proofs.Only.{Only, alike, layout-only}
-use Rattle.laws.proofs.Told.{OneToOne, by-back, answerOf, refusal-back, fix-one, timed-one, column-one, value-one, presence-one}
+use Rattle.only.proofs.Only.{Only, alike, layout-only}
+use Rattle.only.proofs.Told.{OneToOne, by-back, answerOf, refusal-back, fix-one, timed-one, column-one, value-one, presence-one}
 use Rattle.given.specs.Given.{columnAtTold, LayoutBy, FixBy, ExtraBy, ColumnBy, NumberBy, EntryBy, PresenceBy}
 use Rattle.given.specs.declared.ColumnAt.the-variants as columnAt
 

@@ -6,7 +6,7 @@ use mathlib.Core.Path.{_≡_}
 use lib.Dec.{eqb, leb}
 use lib.ListN.{length, getD}
 use Rattle.rules.specs.Choice.{given, need}
-use Rattle.rules.specs.Families.{familyOf}
+use Rattle.rules.specs.Families.{familyOf, layoutFamilyOf}
 use Rattle.rules.specs.Layouts.{Span, LayoutTold, emptyLayout, unused, presenceSaid, presenceTold, columnTold}
 use Rattle.rules.specs.Reads.{fixSaid, extraSaid, layoutSaid, columnSaid, numberSaid, fixTold, timeReadTold, numberReadTold}
 use Rattle.rules.specs.Refusals.{Said, says, refuses, no, refusal, andThen}
@@ -24,7 +24,6 @@ use Rattle.rules.specs.declared.PresenceRead.{PresenceRead}
 use Rattle.rules.specs.declared.Reason.the-variants.{BadValue}
 use Rattle.rules.specs.declared.Signed.{Signed}
 use Rattle.rules.specs.declared.TimeRead.{TimeRead}
-use Rattle.known.specs.Known.{layoutFamilyOf}
 use Rattle.given.specs.declared.ColumnAt.{ColumnAt}
 use Rattle.given.specs.declared.ColumnAt.the-variants as columnAt
 
@@ -55,13 +54,9 @@ columnBy line l name = andThen (layoutFor line l) λ layout. columnSaid line lay
 unfoldable pub numberBy : List ℕ → List ℕ → List ℕ → Said Signed
 numberBy line l name = andThen (layoutFor line l) λ layout. numberSaid line layout name
 
--- column n of a layout, counted from 1; there is room for 13 at most
+-- column n of a layout, counted from 1
 unfoldable pub entryAt : Layout → ℕ → Said Entry
-entryAt layout n =
-    need (leb 1 n) (no BadValue 0) λ _.
-    need (leb n (layout .count)) (no BadValue 0) λ _.
-    need (leb n 13) (no BadValue 0) λ _.
-    says (getD (layout .entries) (n - 1) unused)
+entryAt layout n = need (leb n (layout .count)) (no BadValue 0) λ _. says (getD (layout .entries) (n - 1) unused)
 
 -- a column that was asked for, in the paper's terms
 unfoldable pub columnAtTold : ColumnAt → Said Entry
@@ -72,9 +67,12 @@ columnAtTold (columnAt.Refused r) = refusal r
 unfoldable pub toldLayout : List ℕ → Said Layout
 toldLayout l = given (layoutFamilyOf (getD l 0 0)) (no BadValue 0) λ f. layoutSaid f l
 
--- column n of it
+-- column n of it: a number that no layout has, 0 or over 13, is 17 before the line is read
 unfoldable pub entryBy : List ℕ → ℕ → Said Entry
-entryBy l n = andThen (toldLayout l) λ layout. entryAt layout n
+entryBy l n =
+    need (leb 1 n) (no BadValue 0) λ _.
+    need (leb n 13) (no BadValue 0) λ _.
+    andThen (toldLayout l) λ layout. entryAt layout n
 
 -- "which listed codes an I line carries"
 unfoldable pub presenceBy : List ℕ → Said Presence

@@ -1,5 +1,6 @@
 // The readers of a line with its layout given as the text of the file's own I or J line; no bytes stand for no such line. A layout that its line tells is
 // allowed, so it is not tested again.
+ghost use Prim.Native.Nat.{_≤_};
 ghost use mathlib.Core.Path.{_≡_};
 ghost use Rattle.rules.specs.Layouts.{LayoutTold};
 ghost use Rattle.rules.specs.Refusals.{no};
@@ -124,15 +125,10 @@ fn no_column() -> ColumnAt
 
 // Column n of a layout, counted from 1. BAD_VALUE where there is none.
 fn entry_at(l: Layout, n: usize) -> ColumnAt
+    requires { ⌜ (1 ≤ n) × (n ≤ 13) ⌝ }
     ensures { λ r. ⌜ columnAtTold r ≡ entryAt l n ⌝ }
 {
-    if n < 1 {
-        return no_column();
-    }
     if l.count < n {
-        return no_column();
-    }
-    if 13 < n {
         return no_column();
     }
     ColumnAt::Is(l.entries[n - 1])
@@ -152,10 +148,17 @@ fn told_layout(columns: &[u8]) -> LayoutRead
     read::layout_of(f, columns)
 }
 
-// Column n of the layout that a line tells. What its reader refuses, then BAD_VALUE.
+// Column n of the layout that a line tells. BAD_VALUE for a number that no layout has; then what the line's reader refuses; then BAD_VALUE where this layout has
+// no column n.
 pub fn entry(columns: &[u8], n: usize) -> ColumnAt
     ensures { λ r. ⌜ EntryBy (now (columns .entry)) n r ⌝ }
 {
+    if n < 1 {
+        return no_column();
+    }
+    if 13 < n {
+        return no_column();
+    }
     let given = told_layout(columns);
     let outcome = given.outcome;
     let l = given.layout;

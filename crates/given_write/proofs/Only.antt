@@ -4,8 +4,8 @@ use mathlib.Core.List.{List}
 use mathlib.Core.Path.{_≡_, sym, _∙_}
 use Rattle.rules.specs.Refusals.{Said}
 use Rattle.rules.specs.declared.Fix.{Fix}
-use Rattle.laws.proofs.Only.{OnlyBoth}
-use Rattle.laws.proofs.Told.{wrote-one}
+use Rattle.only.proofs.Only.{OnlyBoth}
+use Rattle.only.proofs.Told.{wrote-one}
 use Rattle.given_write.specs.Written.{SaidWritten, FixWrittenBy, ExtraWrittenBy, LayoutWrittenBy}
 
 only-said-written : (said : Said ℕ) (text : List ℕ) (place : ℕ) (out : List ℕ) → OnlyBoth (SaidWritten said text place out)

@@ -4,7 +4,7 @@ use mathlib.Core.List.{List, []}
 use mathlib.Core.Path.{_≡_}
 use lib.ListN.{getD}
 use Rattle.rules.specs.Choice.{given}
-use Rattle.rules.specs.Families.{firstStart}
+use Rattle.rules.specs.Families.{firstStart, layoutFamilyOf}
 use Rattle.rules.specs.Layouts.{emptyLayout, allowed}
 use Rattle.rules.specs.Reads.{layoutSaid}
 use Rattle.rules.specs.Refusals.{Said, no, andThen, valueOr}
@@ -13,7 +13,6 @@ use Rattle.rules.specs.declared.Family.the-variants as family
 use Rattle.rules.specs.declared.Fix.{Fix}
 use Rattle.rules.specs.declared.Reason.the-variants.{BadValue}
 use Rattle.rules.specs.declared.Wrote.{Wrote}
-use Rattle.known.specs.Known.{layoutFamilyOf}
 use Rattle.given.specs.Given.{orBadValue, layoutBy}
 
 -- what is said of a text that is to be written, and the output afterwards

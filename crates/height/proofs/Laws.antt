@@ -1,15 +1,13 @@
 -- Altitudes: how long their text is, what it is by their sign and size, and one put before what follows it. Assumes nothing.
-use Prim.Native.Nat.{ℕ, zero, suc, _+_}
+use Prim.Native.Nat.{ℕ, suc, _+_}
 use mathlib.Core.Bool.{Bool, true, false}
 use mathlib.Core.List.{List, _∷_, _++_}
 use mathlib.Core.Path.{_≡_, refl, sym, _∙_, ap}
 use native.Mathlib.Numerals.{add-one}
 use native.Mathlib.Omega.{arith}
-use borrow.Author.Tests.{le-ltb}
-use lib.Dec.{leb·zero}
-use lib.IntN.{ℤ, pos, negsuc, natAbs, _-ℤ_}
+use lib.IntN.{ℤ, pos, negsuc, natAbs}
 use lib.ListN.{length}
-use lib.Signed.{mag, nonNeg, leZ}
+use lib.Signed.{nonNeg}
 use Rattle.rules.specs.Numbers.{digitsOf}
 use Rattle.rules.specs.Fields.{metresText, altitudeText}
 use Rattle.rules.specs.Writes.{putAt}
@@ -28,22 +26,7 @@ altitude-length h = metres-length (h .metres)
 pub altitude-then : (x l l₁ : List ℕ) (at : ℕ) (h : Height) (b : List ℕ) → l₁ ≡ putAt l at (altitudeText h) → Fills l₁ (at + 5) b x → Fills l at (altitudeText h ++ b) x
 altitude-then x l l₁ at h b = put-then x l l₁ at (altitudeText h) b 5 (altitude-length h)
 
--- ---- signs
-
--- of a negative z: -1 - z is its size less one
-pub turned : (z : ℤ) → nonNeg z ≡ false → negsuc 0 -ℤ z ≡ pos (mag z)
-turned (pos n) h = let e : _≡_ {A = ℕ} 0 1 = cc in absurd (omega arith)
-turned (negsuc k) h = rw (le-ltb (suc k) 1 (omega arith)) (ap pos (omega arith))
-
-pub one-more : (z : ℤ) → nonNeg z ≡ false → mag z + 1 ≡ natAbs z
-one-more (pos n) h = let e : _≡_ {A = ℕ} 0 1 = cc in absurd (omega arith)
-one-more (negsuc k) h = omega arith
-
-pub zero-below : (z : ℤ) → leZ (pos 0) z ≡ nonNeg z
-zero-below (pos n) = leb·zero n
-zero-below (negsuc n) = refl
-
--- an altitude's text by its sign and its size
+-- ---- an altitude's text by its sign and its size
 plain-metres : (z : ℤ) → nonNeg z ≡ true → metresText z ≡ digitsOf 5 (natAbs z)
 plain-metres (pos n) h = refl
 plain-metres (negsuc n) h = let e : _≡_ {A = ℕ} 0 1 = cc in absurd (omega arith)

@@ -3,4 +3,5 @@
 mod columns;
 mod files;
 mod lines;
+mod refusals;
 mod writers;

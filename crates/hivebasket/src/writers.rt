@@ -1,5 +1,5 @@
 // Lines written into a lent output from a place on.
-ghost use Rattle.calls_write.specs.Values.{fixOf, headOf, pointOf};
+ghost use Rattle.calls_write.specs.Values.{fixFrom, headOf, pointOf};
 ghost use Rattle.calls_write.specs.Calls.{WriteFixAnswered, WriteExtraAnswered, WriteLayoutAnswered, WriteHeadAnswered, WritePointAnswered};
 
 // A B line of a fix.
@@ -19,7 +19,7 @@ pub extern "C" fn hive_write_fix(
     out: &mut [u8],
     answer: &mut [u64],
 ) -> u32
-    ensures { λ r. ⌜ WriteFixAnswered (fixOf seconds latitude «n_or_s» longitude «e_or_w» validity pressure gnss) (now (columns .entry)) (now (layout .entry)) place (now (out .entry)) (now (answer .entry)) r (now (out .exit)) (now (answer .exit)) ⌝ }
+    ensures { λ r. ⌜ WriteFixAnswered (fixFrom seconds latitude «n_or_s» longitude «e_or_w» validity pressure gnss) (now (columns .entry)) (now (layout .entry)) place (now (out .entry)) (now (answer .entry)) r (now (out .exit)) (now (answer .exit)) ⌝ }
 {
     calls_write::fix(
         seconds,

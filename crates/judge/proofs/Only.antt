@@ -2,7 +2,7 @@
 use Prim.Native.Nat.{ℕ}
 use mathlib.Core.List.{List}
 use Rattle.rules.specs.declared.State.{State}
-use Rattle.laws.proofs.Only.{Only}
+use Rattle.only.proofs.Only.{Only}
 use Rattle.after.proofs.Only.{judged-only}
 use Rattle.judge.specs.Lines.{LineJudged}
 

@@ -3,13 +3,14 @@ use Prim.Native.Nat.{ℕ}
 use mathlib.Core.Bool.{Bool, true, false}
 use mathlib.Core.List.{List}
 use mathlib.Core.Option.{Option, none, some}
-use mathlib.Core.Path.{_≡_, refl, sym, _∙_}
+use mathlib.Core.Path.{_≡_, refl, sym, _∙_, ap}
 use borrow.Author.Tests.{eq-eqb, ne-eqb}
 use Rattle.rules.proofs.Links.{by-some, by-none, timed-secs, timed-refused, column-between, column-refused}
 use lib.Dec.{eqb}
 use Rattle.rules.specs.Families.{firstStart, familyOf}
 use Rattle.rules.specs.Choice.{need, given}
 use Rattle.rules.specs.Layouts.{Span, entriesOf, lookIn, look, allowed}
+use Rattle.rules.specs.Fixes.{fixOf}
 use Rattle.rules.specs.Lines.{columnedLine}
 use Rattle.rules.specs.Listed.{packedOf}
 use Rattle.rules.specs.Numbers.{wholeOf, wholeTold}
@@ -26,7 +27,7 @@ use lib.ListN.{getD}
 use Rattle.rules.specs.Reads.{ofKind, byLayout, fixSaid, extraSaid, entriesSaid, columnSaid, numberSaid}
 use Rattle.rules.specs.declared.Family.{Family}
 use Rattle.rules.specs.declared.Family.the-variants as family
-use Rattle.known.specs.Known.{familyTold, allowedFor, fixKnown, extraKnown, lineKnown, columnKnown, numberKnown}
+use Rattle.known.specs.Known.{familyTold, allowedFor, fieldsKnown, fixKnown, extraKnown, lineKnown, columnKnown, numberKnown}
 use Rattle.known.specs.declared.FamilyRead.{FamilyRead}
 use Rattle.known.specs.declared.FamilyRead.the-variants as familyRead
 
@@ -107,12 +108,12 @@ module _ {A B : Type 0} (test : Family → Bool) (line : Family → Said A) (v :
 
 module _ (l : List ℕ) (layout : Layout) where
   pub fix-allowed : allowed (firstStart family.B) layout ≡ true → fixKnown l layout ≡ fixSaid l layout
-  unfolding fixKnown fixSaid
-  fix-allowed h = with-allowed l _ layout family.B _ h
+  unfolding fieldsKnown fixKnown fixSaid
+  fix-allowed h = ap (λ s. andThen s λ f. says (fixOf f)) (with-allowed l _ layout family.B _ h)
 
   pub fix-not-allowed : allowed (firstStart family.B) layout ≡ false → no BadValue 0 ≡ fixSaid l layout
   unfolding fixSaid
-  fix-not-allowed h = with-not-allowed l _ layout family.B _ h
+  fix-not-allowed h = ap (λ s. andThen s λ f. says (fixOf f)) (with-not-allowed l _ layout family.B _ h)
 
   pub extra-allowed : allowed (firstStart family.K) layout ≡ true → extraKnown l layout ≡ extraSaid l layout
   unfolding extraKnown extraSaid

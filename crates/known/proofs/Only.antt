@@ -4,8 +4,8 @@ use mathlib.Core.List.{List}
 use mathlib.Core.Path.{refl}
 use Rattle.rules.specs.declared.Layout.{Layout}
 use Rattle.rules.specs.Choice.{given}
-use Rattle.laws.proofs.Only.{Only, alike}
-use Rattle.laws.proofs.Told.{OneToOne, by-back, fix-one, timed-one, column-one, value-one}
+use Rattle.only.proofs.Only.{Only, alike}
+use Rattle.only.proofs.Told.{OneToOne, by-back, fix-one, timed-one, column-one, value-one}
 use Rattle.known.specs.Known.{familyTold, FamilyGiven, LayoutFamilyGiven, FixKnown, ExtraKnown, ColumnKnown, NumberKnown}
 use Rattle.known.specs.declared.FamilyRead.the-variants as familyRead
 

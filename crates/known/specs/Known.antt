@@ -1,15 +1,15 @@
 -- What is said of a line of a family by a layout that is not tested: where the layout is allowed, what the readers of the line say. The promises of this crate.
 use Prim.Native.Nat.{ℕ}
 use Prim.Native.Char.{code}
-use mathlib.Core.Bool.{Bool, false, cond}
+use mathlib.Core.Bool.{Bool, false}
 use mathlib.Core.List.{List}
 use mathlib.Core.Option.{Option, none, some}
 use mathlib.Core.Path.{_≡_}
-use lib.Dec.{eqb}
 use lib.ListN.{getD}
 use Rattle.rules.specs.Choice.{given}
-use Rattle.rules.specs.Families.{firstStart, layoutLetter, familyOf}
+use Rattle.rules.specs.Families.{firstStart, familyOf, layoutFamilyOf}
 use Rattle.rules.specs.Layouts.{Span, allowed, look, columnText, columnTold}
+use Rattle.rules.specs.Fixes.{fixOf}
 use Rattle.rules.specs.Lines.{bLine, kLine, columnedLine}
 use Rattle.rules.specs.Listed.{packedOf}
 use Rattle.rules.specs.Numbers.{wholeOf}
@@ -18,6 +18,7 @@ use Rattle.rules.specs.Refusals.{Said, says, no, andThen}
 use Rattle.rules.specs.declared.ColumnRead.{ColumnRead}
 use Rattle.rules.specs.declared.Family.{Family}
 use Rattle.rules.specs.declared.Family.the-variants as family
+use Rattle.rules.specs.declared.FixFields.{FixFields}
 use Rattle.rules.specs.declared.Fix.{Fix}
 use Rattle.rules.specs.declared.FixRead.{FixRead}
 use Rattle.rules.specs.declared.Layout.{Layout}
@@ -32,18 +33,17 @@ unfoldable pub familyTold : FamilyRead → Option Family
 familyTold (familyRead.Of f) = some f
 familyTold familyRead.NoFamily = none
 
--- the family whose layout a line tells, by the line's first byte
-unfoldable pub layoutFamilyOf : ℕ → Option Family
-layoutFamilyOf b = cond (eqb b (layoutLetter family.B)) (some family.B) (cond (eqb b (layoutLetter family.K)) (some family.K) none)
-
 -- "17 BAD_VALUE: .. layout .. given is not allowed": for the family that a line is of; none is where it is of no family
 unfoldable pub allowedFor : List ℕ → Layout → Bool
 allowedFor l layout = given (familyOf (getD l 0 0)) false λ f. allowed (firstStart f) layout
 
--- each is its namesake of `rules`, fixSaid to numberSaid, without the layout's own test
+-- each is its namesake of `rules`, fieldsSaid and fixSaid to numberSaid, without the layout's own test
+
+unfoldable pub fieldsKnown : List ℕ → Layout → Said FixFields
+fieldsKnown l layout = ofKind (code "B") l λ _. bLine layout l
 
 unfoldable pub fixKnown : List ℕ → Layout → Said Fix
-fixKnown l layout = ofKind (code "B") l λ _. bLine layout l
+fixKnown l layout = andThen (fieldsKnown l layout) λ f. says (fixOf f)
 
 unfoldable pub extraKnown : List ℕ → Layout → Said ℕ
 extraKnown l layout = ofKind (code "K") l λ _. kLine layout l

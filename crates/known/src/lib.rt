@@ -1,10 +1,14 @@
 // The readers of a line of a family by a layout that is known to be allowed: the layout is not tested. On one that is not allowed they are total too, but say nothing of the paper.
 ghost use mathlib.Core.Path.{_≡_};
-ghost use Rattle.rules.specs.Reads.{timeReadTold};
-ghost use Rattle.known.specs.Known.{lineKnown, FamilyGiven, LayoutFamilyGiven, FixKnown, ExtraKnown, ColumnKnown, NumberKnown};
+ghost use Rattle.rules.specs.Fixes.{fixOf};
+ghost use Rattle.rules.specs.Reads.{fixFieldsTold, timeReadTold};
+ghost use Rattle.known.specs.Known.{fieldsKnown, lineKnown, FamilyGiven, LayoutFamilyGiven, FixKnown, ExtraKnown, ColumnKnown, NumberKnown};
 use layout::Spot;
 use rules::ColumnRead;
 use rules::Family;
+use rules::Fix;
+use rules::FixFields;
+use rules::FixFieldsRead;
 use rules::FixRead;
 use rules::Layout;
 use rules::NumberRead;
@@ -41,18 +45,46 @@ pub fn layout_family(line: &[u8]) -> FamilyRead
     }
 }
 
-// The fix of a B line. BAD_VALUE for another kind; then what `line::fix_line` refuses.
-pub fn fix(line: &[u8], layout: Layout) -> FixRead
-    ensures { λ r. ⌜ FixKnown (now (line .entry)) layout r ⌝ }
+// What the reading of a B line gives of its fields.
+fn fix_of(f: FixFields) -> Fix
+    ensures { λ r. ⌜ r ≡ fixOf f ⌝ }
+{
+    let lat = f.lat;
+    let lon = f.lon;
+    let pressure = f.pressure;
+    let gnss = f.gnss;
+    Fix {
+        time: f.time,
+        lat,
+        lon,
+        validity: f.validity,
+        pressure,
+        gnss,
+    }
+}
+
+// The fields of a B line. BAD_VALUE for another kind; then what `line::fix_line` refuses.
+fn fields(line: &[u8], layout: Layout) -> FixFieldsRead
+    ensures { λ r. ⌜ fixFieldsTold r ≡ fieldsKnown (now (line .entry)) layout ⌝ }
 {
     if chars::byte(line, 0) != b'B' {
-        return FixRead::Refused(Refusal {
+        return FixFieldsRead::Refused(Refusal {
             reason: Reason::BadValue,
             line: 0,
             byte: 0,
         });
     }
     line::fix_line(line, layout)
+}
+
+// The fix of a B line. BAD_VALUE for another kind; then what `line::fix_line` refuses.
+pub fn fix(line: &[u8], layout: Layout) -> FixRead
+    ensures { λ r. ⌜ FixKnown (now (line .entry)) layout r ⌝ }
+{
+    match fields(line, layout) {
+        FixFieldsRead::Is(f) => FixRead::Is(fix_of(f)),
+        FixFieldsRead::Refused(r) => FixRead::Refused(r),
+    }
 }
 
 // The time of a K line. BAD_VALUE for another kind; then what `line::extra_line` refuses.

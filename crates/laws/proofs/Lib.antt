@@ -1,5 +1,3 @@
-pub mod Told
-pub mod Only
 pub mod Worked
 pub mod Settled
 pub mod Chains
@@ -7,3 +5,4 @@ pub mod Passing
 pub mod Splitting
 pub mod LineEnds
 pub mod Counted
+pub mod Walking

@@ -29,6 +29,7 @@ use Rattle.rules.specs.declared.Listed.{Listed}
 use Rattle.rules.specs.declared.Family.the-variants as family
 use Rattle.rules.specs.declared.Fix.{Fix}
 use Rattle.rules.specs.declared.Wrote.the-variants as wrote
+use Rattle.rules.proofs.Inverse.{and-inv}
 use Rattle.rules.proofs.Computed.{everything}
 use Rattle.rules.proofs.Damaged.{fiveLayout}
 use Rattle.rules.specs.declared.Seal.{Seal}
@@ -107,14 +108,6 @@ pub named-in-order : map (λ (r : Listed). r .code) listed ≡ map (λ (n : Stri
 unfolding listed bytes
 named-in-order = refl
 
-and-left : (a b : Bool) → (a && b) ≡ true → a ≡ true
-and-left true b e = refl
-and-left false b e = e
-
-and-right : (a b : Bool) → (a && b) ≡ true → b ≡ true
-and-right true b e = e
-and-right false b e = cc
-
 -- a test passes for each number below k
 abbrev below : (ℕ → Bool) → ℕ → Bool
 below test zero = true
@@ -126,7 +119,7 @@ below-at test k n false e h t p = h (omega (arith, eqb-false n k e))
 
 below-all : (test : ℕ → Bool) (k n : ℕ) → below test k ≡ true → n < k → test n ≡ true
 below-all test zero n e p = absurd (omega arith)
-below-all test (suc k) n e p = below-at test k n (eqb n k) refl (below-all test k n (and-right (test k) (below test k) e)) (and-left (test k) (below test k) e) p
+below-all test (suc k) n e p = let t = and-inv (test k) (below test k) e in below-at test k n (eqb n k) refl (below-all test k n (t .1)) (t .0) p
 
 -- the row n has the number n
 abbrev isAt : ℕ → Bool

@@ -177,19 +177,19 @@ line-at file at t ls e =
 
 -- what the steps from a place on find: each line in its order, and then that none is left; nothing is claimed from a broken line on
 abbrev pub Steps : List ℕ → ℕ → Lines → Type 0
-Steps file at end = stepAt file at ≡ says none
+Steps file at end = stepAt file at ≡ says (record { found = none; next = at })
 Steps file at (broken n) = Unit {0}
 Steps file at (line t ls) =
-    (stepAt file at ≡ says (some (record { from = at; to = at + length t; next = at + length t + 2 })))
+    (stepAt file at ≡ says (record { found = some (record { from = at; to = at + length t }); next = at + length t + 2 }))
     × (part at (at + length t) file ≡ t)
     × Steps file (at + length t + 2) ls
 
-step-none : (file : List ℕ) (at : ℕ) → at ≡ length file → stepAt file at ≡ says none
+step-none : (file : List ℕ) (at : ℕ) → at ≡ length file → stepAt file at ≡ says (record { found = none; next = at })
 unfolding stepAt
 step-none file at e = rw (le-leb at (length file) (omega arith), eq-eqb at (length file) e)
 
 step-line : (file : List ℕ) (at e : ℕ) → at < length file → firstCRLF at (drop at file) ≡ some e
-    → stepAt file at ≡ says (some (record { from = at; to = e; next = e + 2 }))
+    → stepAt file at ≡ says (record { found = some (record { from = at; to = e }); next = e + 2 })
 unfolding stepAt
 step-line file at e h f = rw (le-leb at (length file) (omega arith), ne-eqb at (length file) (λ z. omega arith), f)
 

@@ -269,7 +269,7 @@ endOf entries n file = andThen (boundsOf file entries n) λ b. says (pos (b .to)
 
 -- where a step from this place leads; -1 where no line is left
 unfoldable pub stepFrom : ℕ → List ℕ → Said ℤ
-stepFrom at file = andThen (stepAt file at) λ o. says (given o (negsuc 0) λ s. pos (s .next))
+stepFrom at file = andThen (stepAt file at) λ s. says (given (s .found) (negsuc 0) λ _. pos (s .next))
 
 abbrev of : List ℕ → (List ℕ → Said ℤ) → Said ℤ → Example
 of file asked answer = record { given = file; asked = asked; answer = answer }

@@ -8,7 +8,6 @@ use mathlib.Core.Path.{_≡_, refl, sym, _∙_, ap}
 use native.Mathlib.Numerals.{add-one}
 use native.Mathlib.Omega.{arith}
 use borrow.Author.Tests.{leb-true}
-use lib.Count.{ones}
 use lib.Dec.{eqb, leb}
 use lib.ListN.{length, length-set, length-take}
 use lib.Seq.{take-suc-set}
@@ -20,7 +19,7 @@ use Rattle.rules.specs.declared.Reason.the-variants.{Tile, Twice, Width}
 use Rattle.rules.specs.declared.Listed.{Listed}
 use Rattle.rules.specs.declared.Entry.{Entry}
 use Rattle.rules.specs.declared.Layout.{Layout}
-use Rattle.layout.proofs.Words.{carried, word-horner, ones-horner}
+use Rattle.basics.proofs.Presence.{set-bits, count-bits}
 use Rattle.layout.proofs.Common.{member, distinct, common, swap, distinct-snoc, scan-member}
 
 abbrev codesOf : List Entry → List ℕ
@@ -43,8 +42,8 @@ listed-member : (x : ℕ) → _≡_ {A = ℕ} (given (listedNumber x) 0 (λ n. 1
 unfolding listedNumber
 listed-member x = one (listedNumber x) ∙ ap (λ b. cond b 1 0) (scan-member (λ r. r .code) (λ n r. n) x listed 0)
 
-carried-common : (l : Layout) (rs : List Listed) → carried l rs ≡ common (rowCodes rs) (codesOf (entriesOf l))
-unfolding carried
+carried-common : (l : Layout) (rs : List Listed) → set-bits l rs ≡ common (rowCodes rs) (codesOf (entriesOf l))
+unfolding set-bits
 carried-common l [] = refl
 carried-common l (r ∷ rs) = rw (carried-common l rs, carries-member l (r .code))
 
@@ -60,7 +59,7 @@ rows-distinct = refl
 ones-listed : (l : Layout) → distinct (codesOf (entriesOf l)) ≡ true → (presenceOf l) .count ≡ listedIn (entriesOf l)
 unfolding presenceOf
 ones-listed l d =
-    ap ones (word-horner l listed) ∙ ones-horner l listed ∙ carried-common l listed
+    count-bits l listed ∙ carried-common l listed
     ∙ swap (rowCodes listed) (codesOf (entriesOf l)) rows-distinct d ∙ sym (listed-common (entriesOf l))
 
 -- ---- in an allowed layout no code comes twice

@@ -1,4 +1,4 @@
--- The columns of a tail. Assumes nothing.
+-- The fields of a fix, and the columns of a tail. Assumes nothing.
 use Prim.Native.Nat.{ℕ}
 use mathlib.Core.Bool.{Bool, true, false}
 use mathlib.Core.Option.{Option, none, some}
@@ -8,8 +8,17 @@ use lib.Dec.{eqb}
 use Rattle.rules.specs.Families.{firstStart}
 use Rattle.rules.specs.Choice.{given, need}
 use Rattle.rules.specs.Layouts.{allowed, lineLength}
+use Rattle.rules.specs.Fixes.{fieldsOf}
+use Rattle.rules.specs.Limits.{goodFixFields}
 use Rattle.rules.specs.declared.Family.{Family}
 use Rattle.rules.specs.declared.Layout.{Layout}
+use Rattle.rules.specs.declared.FixFields.{FixFields}
+use Rattle.rules.specs.declared.Fix.{Fix}
+
+-- ---- the fields g of a fix f
+
+pub fields-good : (f : Fix) (g : FixFields) (r : Bool) → g ≡ fieldsOf f → r ≡ goodFixFields g → r ≡ goodFixFields (fieldsOf f)
+fields-good f g r e h = rw (← e) h
 
 -- ---- whether a column was found that breaks its rule
 

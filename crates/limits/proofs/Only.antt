@@ -5,14 +5,17 @@ use Rattle.rules.specs.declared.Layout.{Layout}
 use Rattle.rules.specs.declared.Fix.{Fix}
 use Rattle.rules.specs.declared.Head.{Head}
 use Rattle.rules.specs.declared.Point.{Point}
-use Rattle.laws.proofs.Only.{Only, same}
-use Rattle.limits.specs.Tests.{PointTest, HeadTest, FixTest, ExtraTest}
+use Rattle.only.proofs.Only.{Only, same}
+use Rattle.limits.specs.Tests.{PointTest, HeadTest, FieldsSpelt, FixTest, ExtraTest}
 
 pub only-point-test : (p : Point) (rest : List ℕ) → Only (PointTest p rest)
 only-point-test p rest = same
 
 pub only-head-test : (h : Head) (rest : List ℕ) → Only (HeadTest h rest)
 only-head-test h rest = same
+
+pub only-fields-spelt : (f : Fix) → Only (FieldsSpelt f)
+only-fields-spelt f = same
 
 pub only-fix-test : (f : Fix) (tail : List ℕ) (layout : Layout) → Only (FixTest f tail layout)
 only-fix-test f tail layout = same

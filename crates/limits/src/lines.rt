@@ -1,7 +1,7 @@
 // The values of a line, with the text behind its fields.
 ghost use mathlib.Core.Path.{_≡_};
 ghost use Rattle.rules.specs.Limits.{goodHeadFields, goodFixFields};
-ghost use Rattle.limits.specs.Tests.{PointTest, HeadTest, FixTest, ExtraTest};
+ghost use Rattle.limits.specs.Tests.{PointTest, HeadTest, FieldsSpelt, FixTest, ExtraTest};
 use crate::tails::good_tail;
 use range::is_altitude;
 use range::is_clean;
@@ -11,6 +11,7 @@ use range::is_longitude;
 use range::is_planned;
 use rules::Family;
 use rules::Fix;
+use rules::FixFields;
 use rules::Head;
 use rules::Layout;
 use rules::Point;
@@ -65,7 +66,7 @@ pub fn good_head(h: Head, rest: &[u8]) -> bool
 }
 
 // Whether the fields of a B line are within their limits.
-fn good_fix_fields(f: Fix) -> bool
+fn good_fix_fields(f: FixFields) -> bool
     ensures { λ r. ⌜ r ≡ goodFixFields f ⌝ }
 {
     if 86399 < f.time {
@@ -86,11 +87,29 @@ fn good_fix_fields(f: Fix) -> bool
     is_altitude(f.gnss)
 }
 
+// What a writer has to spell of a fix.
+pub fn fields_of(f: Fix) -> FixFields
+    ensures { λ r. ⌜ FieldsSpelt f r ⌝ }
+{
+    let lat = f.lat;
+    let lon = f.lon;
+    let pressure = f.pressure;
+    let gnss = f.gnss;
+    FixFields {
+        time: f.time,
+        lat,
+        lon,
+        validity: f.validity,
+        pressure,
+        gnss,
+    }
+}
+
 // Whether some B line with this layout reads as the fix, with this tail.
 pub fn good_fix(f: Fix, tail: &[u8], l: Layout) -> bool
     ensures { λ r. ⌜ FixTest f (now (tail .entry)) l r ⌝ }
 {
-    if !good_fix_fields(f) {
+    if !good_fix_fields(fields_of(f)) {
         return false;
     }
     good_tail(Family::B, 36, tail, l)

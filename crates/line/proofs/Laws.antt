@@ -22,7 +22,7 @@ use lib.Dec.{eqb}
 use Rattle.chars.proofs.Laws.{and-true, and-false}
 use Rattle.rules.specs.Choice.{given}
 use Rattle.rules.specs.declared.Planned.{Planned}
-use Rattle.rules.proofs.Links.{by-some, by-none, need-true, need-false, cond-eq, cond-ne, on-is, number-value, number-none, time-secs, time-none, day-on, day-none, position-is, position-none, outcome-accepted, outcome-refused, found-at, found-nothing, fix-is, fix-refused}
+use Rattle.rules.proofs.Links.{by-some, by-none, need-true, need-false, cond-eq, cond-ne, on-is, number-value, number-none, time-secs, time-none, day-on, day-none, position-is, position-none, outcome-accepted, outcome-refused, found-at, found-nothing, fix-fields-is, fix-fields-refused}
 use Rattle.fix.proofs.Laws.{refuses-form}
 use Rattle.line.specs.Parts.{plannedTold}
 use Rattle.line.specs.declared.PlannedRead.{PlannedRead}
@@ -110,4 +110,4 @@ pub ruleset points = (refuses-form, outcome-accepted, outcome-refused, position-
 
 pub ruleset columned = (outcome-accepted, outcome-refused)
 
-pub ruleset whole = (outcome-accepted, outcome-refused, fix-is, fix-refused)
+pub ruleset whole = (outcome-accepted, outcome-refused, fix-fields-is, fix-fields-refused)

@@ -7,7 +7,7 @@ ghost use Rattle.rules.specs.Families.{firstStart};
 ghost use Rattle.rules.specs.Lines.{isDateMark, plannedAt, headFields, badPair, shapedBy};
 ghost use Rattle.rules.specs.Layouts.{columns};
 ghost use Rattle.rules.specs.Refusals.{outcomeTold, andThen, says};
-ghost use Rattle.rules.specs.Reads.{headTold, fixTold};
+ghost use Rattle.rules.specs.Reads.{headTold, fixFieldsTold};
 ghost use Rattle.rules.specs.Promises.{RecorderChecked, DateLineChecked, HeaderChecked, HeadChecked, PointChecked, DifferentialChecked, EventChecked, SatellitesChecked, FixChecked, ExtraChecked, ColumnedChecked, KindGiven, foundTold};
 ghost use Rattle.line.specs.Parts.{plannedTold};
 use fix::fix_fields;
@@ -16,8 +16,8 @@ use rules::Class;
 use rules::DateRead;
 use rules::Day;
 use rules::Family;
-use rules::Fix;
-use rules::FixRead;
+use rules::FixFields;
+use rules::FixFieldsRead;
 use rules::Found;
 use rules::Head;
 use rules::HeadRead;
@@ -264,26 +264,26 @@ fn shaped_by(family: Family, layout: Layout, line: &[u8]) -> Outcome
     shape::shaped(line, n, n, false)
 }
 
-// A fix whose line's columns keep their rules.
-fn with_columns(f: Fix, line: &[u8], layout: Layout) -> FixRead
-    ensures { λ r. ⌜ fixTold r ≡ andThen (columns (now (line .entry)) layout) (λ _. says f) ⌝ }
+// The fields of a fix whose line's columns keep their rules.
+fn with_columns(f: FixFields, line: &[u8], layout: Layout) -> FixFieldsRead
+    ensures { λ r. ⌜ fixFieldsTold r ≡ andThen (columns (now (line .entry)) layout) (λ _. says f) ⌝ }
 {
     if let Outcome::Refused(r) = column::columns(line, layout) {
-        return FixRead::Refused(r);
+        return FixFieldsRead::Refused(r);
     }
-    FixRead::Is(f)
+    FixFieldsRead::Is(f)
 }
 
-// A B line by an I layout: its fix. Refusals: LENGTH, CHARACTER, FORM at 2, 8, 16, 25, 26 or 31, COLUMN. Defined for every layout value.
-pub fn fix_line(line: &[u8], layout: Layout) -> FixRead
+// A B line by an I layout: the fields of its fix. Refusals: LENGTH, CHARACTER, FORM at 2, 8, 16, 25, 26 or 31, COLUMN. Defined for every layout value.
+pub fn fix_line(line: &[u8], layout: Layout) -> FixFieldsRead
     ensures { λ r. ⌜ FixChecked (now (line .entry)) layout r ⌝ }
 {
     if let Outcome::Refused(r) = shaped_by(Family::B, layout, line) {
-        return FixRead::Refused(r);
+        return FixFieldsRead::Refused(r);
     }
     match fix_fields(line) {
-        FixRead::Refused(r) => FixRead::Refused(r),
-        FixRead::Is(f) => with_columns(f, line, layout),
+        FixFieldsRead::Refused(r) => FixFieldsRead::Refused(r),
+        FixFieldsRead::Is(f) => with_columns(f, line, layout),
     }
 }
 
@@ -309,8 +309,8 @@ pub fn columned_line(family: Family, line: &[u8], layout: Layout) -> TimeRead
 {
     match family {
         Family::B => match fix_line(line, layout) {
-            FixRead::Is(f) => TimeRead::Secs(f.time),
-            FixRead::Refused(r) => TimeRead::Refused(r),
+            FixFieldsRead::Is(f) => TimeRead::Secs(f.time),
+            FixFieldsRead::Refused(r) => TimeRead::Refused(r),
         },
         Family::K => extra_line(line, layout),
     }

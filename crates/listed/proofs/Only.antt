@@ -1,7 +1,7 @@
 -- One answer at most meets each promise of this crate. Assumes nothing.
 use Prim.Native.Nat.{ℕ}
-use Rattle.laws.proofs.Only.{Only, same, alike}
-use Rattle.laws.proofs.Told.{found-one}
+use Rattle.only.proofs.Only.{Only, same, alike}
+use Rattle.only.proofs.Told.{found-one}
 use Rattle.listed.specs.Parts.{CodePacked, ListedFound, WidthTest}
 
 pub only-code-packed : (a b c : ℕ) → Only (CodePacked a b c)

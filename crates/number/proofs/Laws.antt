@@ -1,41 +1,34 @@
 -- Laws of digits and the numbers that they spell. Assumes nothing.
 use Prim.Native.Nat.{ℕ, zero, suc, _+_, _-_, _*_, _^_, _≤_, _<_}
-use mathlib.Core.Bool.{Bool, true, false, not, cond, _&&_}
+use mathlib.Core.Bool.{Bool, true, false, cond}
 use mathlib.Core.List.{List, [], _∷_}
 use mathlib.Core.Option.{Option, none, some}
-use mathlib.Core.Path.{_≡_, refl, sym, _∙_}
+use mathlib.Core.Path.{_≡_, refl}
 use native.Mathlib.Nat.{pow-suc, pow-succ', pow-le-pow-right, mul-assoc, mul-le-mul-right, lt-of-lt-of-le}
 use native.Mathlib.Numerals.{add-one, sub-one}
 use native.Mathlib.Omega.{arith}
-use borrow.Author.Tests.{le-leb, lt-leb, leb-true}
+use borrow.Author.Tests.{leb-true}
 use lib.Dec.{leb, lit≤}
 use lib.ListN.{length, getD, drop, drop-of-length-le, length-drop}
 use lib.Seq.{drop-cons}
-use mir.Syntax.{w8, w16, w32, w64}
+use mir.Syntax.{w8, w64}
 use mir.Val.{Fits}
 use Rattle.rules.specs.Choice.{need, on}
 use Rattle.rules.specs.Chars.{isDigit}
 use Rattle.rules.specs.Numbers.{spell, numberAt, wholeOf, numberTold}
 use Rattle.rules.specs.declared.Number.{Number}
 use Rattle.rules.specs.declared.Number.the-variants.{Value}
+use Rattle.rules.proofs.Inverse.{and-inv}
 
 -- ---- a digit is 48 to 57
 
-and-left : (a b : Bool) → (a && b) ≡ true → a ≡ true
-and-left true b e = refl
-and-left false b e = e
-
-and-right : (a b : Bool) → (a && b) ≡ true → b ≡ true
-and-right true b e = e
-and-right false b e = cc
-
 pub digit-low : (b : ℕ) → isDigit b ≡ true → 48 ≤ b
 unfolding isDigit
-digit-low b e = leb-true 48 b (and-left (leb 48 b) (leb b 57) e)
+digit-low b e = leb-true 48 b (and-inv (leb 48 b) (leb b 57) e .0)
 
 pub digit-high : (b : ℕ) → isDigit b ≡ true → b ≤ 57
 unfolding isDigit
-digit-high b e = leb-true b 57 (and-right (leb 48 b) (leb b 57) e)
+digit-high b e = leb-true b 57 (and-inv (leb 48 b) (leb b 57) e .1)
 
 -- ---- one turn of the reader
 

@@ -14,9 +14,9 @@ use Rattle.rules.specs.declared.Layouts.{Layouts}
 use Rattle.rules.specs.declared.Role.{Role}
 use Rattle.rules.specs.declared.Seal.{Seal}
 use Rattle.rules.specs.declared.State.{State}
-use Rattle.laws.proofs.Only.{Only, OnlyBoth, same, alike}
+use Rattle.only.proofs.Only.{Only, OnlyBoth, same, alike}
 use Rattle.order.specs.Turns.{entry, EntryPut}
-use Rattle.laws.proofs.Told.{OneToOne, by-back}
+use Rattle.only.proofs.Told.{OneToOne, by-back}
 use Rattle.order.specs.States.{leadingTold, EndGiven, RoleGiven, RoleTest, OrderTold, BackTest, FewCounts, FewTest, NoFlight, BeforeAll, Moved, Dated, LayoutKept, LaidOut, OneCounted, CountedIn, Begun, Pointed, Clocked}
 use Rattle.order.specs.declared.Leading.{Leading}
 use Rattle.order.specs.declared.Leading.the-variants as leading

@@ -1,7 +1,6 @@
 // Which kind of line may follow which, the time order, and the state that the lines so far have left.
 ghost use mathlib.Core.Path.{_≡_};
 ghost use Rattle.rules.specs.Families.{withLayout};
-ghost use Rattle.rules.specs.Layouts.{emptyLayout};
 ghost use Rattle.rules.specs.Order.{fitsDeclaration};
 ghost use Rattle.rules.specs.Roles.{isDeclaring, afterLayout, leading, stageAfter};
 ghost use Rattle.rules.specs.declared.Role.the-variants as role;
@@ -9,7 +8,6 @@ ghost use Rattle.order.specs.Turns.{EntryPut};
 ghost use Rattle.order.specs.States.{leadingTold, EndGiven, RoleGiven, RoleTest, OrderTold, BackTest, FewCounts, FewTest, NoFlight, BeforeAll, Moved, Dated, LayoutKept, LaidOut, OneCounted, CountedIn, Begun, Pointed, Clocked};
 use rules::Counts;
 use rules::Date;
-use rules::Entry;
 use rules::Family;
 use rules::Flight;
 use rules::Head;
@@ -182,20 +180,6 @@ pub fn is_back(before: u32, now: u32) -> bool
     true
 }
 
-fn empty_layout() -> Layout
-    ensures { λ r. ⌜ r ≡ emptyLayout ⌝ }
-{
-    let unused = Entry {
-        first: 0,
-        last: 0,
-        code: 0,
-    };
-    Layout {
-        count: 0,
-        entries: [unused; 13],
-    }
-}
-
 // Whether the counts of each family are few.
 pub fn are_few(counts: Counts) -> bool
     ensures { λ r. ⌜ FewCounts counts r ⌝ }
@@ -227,8 +211,8 @@ pub fn no_flight() -> Flight
         year: 0,
     };
     let layouts = Layouts {
-        b: empty_layout(),
-        k: empty_layout(),
+        b: basics::empty_layout(),
+        k: basics::empty_layout(),
     };
     Flight {
         date,

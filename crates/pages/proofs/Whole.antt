@@ -12,20 +12,24 @@ use lib.Dec.{leb, ltb, eqb}
 use lib.ListN.{length, getD, take, drop, length-drop}
 use Rattle.rules.specs.Choice.{need, part, Each}
 use Rattle.rules.specs.Refusals.{Said, says, refuses, no, valueOr}
-use Rattle.rules.specs.Layouts.{allowed, columns}
+use Rattle.rules.specs.Layouts.{allowed}
 use Rattle.rules.specs.Split.{Lines, end, broken, line, linesOf, offsets}
-use Rattle.rules.specs.Reads.{fixSaid}
-use Rattle.rules.specs.Lines.{shapedBy, fixFields, bLine}
+use Rattle.rules.specs.Fixes.{fieldsOf}
+use Rattle.rules.specs.Reads.{fieldsSaid}
+use Rattle.rules.specs.Lines.{fixFields}
 use Rattle.rules.specs.Order.{noFlight}
 use Rattle.rules.specs.Files.{verdict, tableAfter, goodLines}
 use Rattle.rules.specs.Listing.{okText, lineShown, fixesShown, listedAs, listing}
 use Rattle.rules.specs.declared.Reason.the-variants.{BadValue, InputOver}
 use Rattle.rules.specs.declared.Layout.{Layout}
+use Rattle.rules.specs.declared.Family.the-variants as family
 use Rattle.rules.specs.declared.Flight.{Flight}
 use Rattle.rules.specs.declared.Seal.{Seal}
 use Rattle.rules.specs.declared.Seal.the-variants as seal
 use Rattle.pieces.proofs.Callers.{shown-text}
-use Rattle.rules.proofs.Inverse.{need-inv, then-inv, refuses-says}
+use Rattle.rules.proofs.Inverse.{need-inv, refuses-says}
+use Rattle.trips.proofs.Columned.{by-said}
+use Rattle.trips.proofs.Fixes.{fields-said, fix-front, fix-fields}
 use Rattle.laws.proofs.Splitting.{Whole, textsOf, line-at, none-left}
 use Rattle.laws.proofs.Counted.{lines-counted, entry-put, line-by-number}
 use Rattle.laws.proofs.Counted as counted
@@ -72,21 +76,18 @@ module _ (file table : List ℕ) (lines : ℕ) (layout : Layout) where
   -- ---- what is printed for each
 
   -- a line by the fields alone, where a B line has passed all that the check asks of it
-  as-read : (passed : ℕ) (t : List ℕ) → (getD t 0 0 ≡ code "B" → ReadsFix layout t) → printed passed layout t ≡ lineShown (passed + 1) layout t (fixSaid t layout)
-  unfolding printed lineShown fixSaid bLine
+  as-read : (passed : ℕ) (t : List ℕ) → (getD t 0 0 ≡ code "B" → ReadsFix layout t) → printed passed layout t ≡ lineShown (passed + 1) layout t (fieldsSaid family.B t layout)
+  unfolding printed lineShown
   as-read passed t reads = by (eqb (getD t 0 0) (code "B")) refl
     where
-      by : (b : Bool) → eqb (getD t 0 0) (code "B") ≡ b → (need b [] λ _. lineShown (passed + 1) layout t (fixFields t)) ≡ lineShown (passed + 1) layout t (fixSaid t layout)
+      by : (b : Bool) → eqb (getD t 0 0) (code "B") ≡ b → (need b [] λ _. lineShown (passed + 1) layout t (fixFields t)) ≡ lineShown (passed + 1) layout t (fieldsSaid family.B t layout)
       by false e = rw e
       by true e =
           let r = reads (eqb-true (getD t 0 0) (code "B") e) in
-          let b = need-inv (eqb (getD t 0 0) (code "B")) _ (says (r .fix)) _ refuses-says (r .reads) in
-          let c = need-inv (allowed 36 layout) _ (says (r .fix)) _ refuses-says (b .1) in
-          let d = then-inv (shapedBy 36 layout t) (r .fix) _ (c .1) in
-          let f = then-inv (fixFields t) (r .fix) _ (d .2) in
-          let g = then-inv (columns t layout) (r .fix) _ (f .2) in
-          let same : fixFields t ≡ fixSaid t layout = f .1 ∙ g .2 ∙ sym (r .reads) in
-          ap (lineShown (passed + 1) layout t) same
+          let v = fieldsOf (r .fix) in
+          let said = fix-fields t layout (r .fix) (r .reads) in
+          let c = fix-front .passes layout t v .0 (by-said family.B t layout v said .2) in
+          ap (lineShown (passed + 1) layout t) (fields-said t v (c .fields) ∙ sym said)
 
   abbrev Read : Lines → Type 0
   Read ls = (i : ℕ) → i < length (textsOf ls) → getD (getD (textsOf ls) i []) 0 0 ≡ code "B" → ReadsFix layout (getD (textsOf ls) i [])
@@ -101,7 +102,7 @@ module _ (file table : List ℕ) (lines : ℕ) (layout : Layout) where
       let l = line-at file at t ls e in
       let later : Entered (passed + 1) (at + length t + 2) ls = λ i h. ap (λ (n : ℕ). getD table n 0) (one-on passed i) ∙ g (suc i) (omega (arith, h)) in
       rw (text-there ls t at passed e w c g, as-read passed t (r 0 (omega arith)))
-      (ap (λ (r : List ℕ). lineShown (passed + 1) layout t (fixSaid t layout) ++ r) (lines-printed ls (at + length t + 2) (passed + 1) (l .after) w (omega arith) later (λ i h. r (suc i) (omega (arith, h)))))
+      (ap (λ (r : List ℕ). lineShown (passed + 1) layout t (fieldsSaid family.B t layout) ++ r) (lines-printed ls (at + length t + 2) (passed + 1) (l .after) w (omega arith) later (λ i h. r (suc i) (omega (arith, h)))))
     where
       one-on : (n i : ℕ) → n + 1 + i ≡ n + suc i
       one-on n i = omega arith
@@ -158,8 +159,8 @@ module _ (file table : List ℕ) (lines : ℕ) (layout : Layout) where
   -- ---- a layout that is not allowed reads no fix
 
   module _ (not-ok : allowed 36 layout ≡ false) where
-    no-line : (n : ℕ) (t : List ℕ) → lineShown n layout t (fixSaid t layout) ≡ []
-    unfolding lineShown fixSaid
+    no-line : (n : ℕ) (t : List ℕ) → lineShown n layout t (fieldsSaid family.B t layout) ≡ []
+    unfolding lineShown
     no-line n t = rw not-ok (by (eqb (getD t 0 0) (code "B")))
       where
         by : (b : Bool) → lineShown n layout t (need b (no BadValue 0) λ _. no BadValue 0) ≡ []

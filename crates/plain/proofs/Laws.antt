@@ -47,11 +47,14 @@ module _ (test : ℕ → Bool) (s : List ℕ) (i : ℕ) (ok whole : Bool) (e : (
   unfolding leads
   all-end h = let n : length s - i ≡ 0 = omega arith in sym (and-right ok) ∙ rw n at e
 
--- ---- the digits of a text from an offset on
+-- ---- a text from an offset on
+
+pub from-first : (test : ℕ → Bool) (from : ℕ) (t : List ℕ) → (true && everyFrom test from t) ≡ every test (drop from t)
+from-first test from t = rw length-drop
 
 pub digits-first : (from : ℕ) (t : List ℕ) → (true && everyFrom isDigit from t) ≡ isDigits (drop from t)
 unfolding isDigits
-digits-first from t = rw length-drop
+digits-first = from-first isDigit
 
 pub told-eq : (m n r : ℕ) → r ≡ m → r ≡ n → true ≡ eqb m n
 told-eq m n r e h = sym (eq-eqb m n (sym e ∙ h))

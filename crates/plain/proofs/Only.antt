@@ -2,14 +2,14 @@
 use Prim.Native.Nat.{ℕ}
 use mathlib.Core.Bool.{Bool}
 use mathlib.Core.List.{List}
-use Rattle.laws.proofs.Only.{Only, same}
+use Rattle.only.proofs.Only.{Only, same}
 use Rattle.plain.specs.Plain.{PlainTest, MildTest, DigitsTest, SignTest}
 
 pub only-plain-test : (l : List ℕ) → Only (PlainTest l)
 only-plain-test l = same
 
-pub only-mild-test : (l : List ℕ) → Only (MildTest l)
-only-mild-test l = same
+pub only-mild-test : (l : List ℕ) (from : ℕ) → Only (MildTest l from)
+only-mild-test l from = same
 
 pub only-digits-test : (l : List ℕ) (from : ℕ) → Only (DigitsTest l from)
 only-digits-test l from = same

@@ -27,8 +27,8 @@ everyFrom test from l = leads test (length l - from) (drop from l)
 abbrev pub PlainTest : List ℕ → Bool → Type 0
 PlainTest l r = r ≡ every isPlain l
 
-abbrev pub MildTest : List ℕ → Bool → Type 0
-MildTest l r = r ≡ every isMild l
+abbrev pub MildTest : List ℕ → ℕ → Bool → Type 0
+MildTest l from r = r ≡ every isMild (drop from l)
 
 abbrev pub DigitsTest : List ℕ → ℕ → Bool → Type 0
 DigitsTest l from r = r ≡ isDigits (drop from l)

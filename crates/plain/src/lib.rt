@@ -66,12 +66,13 @@ fn still_mild(ok: bool, b: u8) -> bool
     ok
 }
 
-// Whether every byte of a text is plain, a space, a closing bracket, or from the low line to the closing brace: valid in every line too, and neither CR nor LF.
-pub fn is_mild(text: &[u8]) -> bool
-    ensures { λ r. ⌜ MildTest (now (text .entry)) r ⌝ }
+// Whether every byte of a text from an offset on is plain, a space, a closing bracket, or from the low line to the closing brace: valid in every line too, and neither CR
+// nor LF.
+pub fn is_mild_from(text: &[u8], from: usize) -> bool
+    ensures { λ r. ⌜ MildTest (now (text .entry)) from r ⌝ }
 {
     let mut ok = true;
-    let mut i = 0;
+    let mut i = from;
     while i < text.len() {
         ok = still_mild(ok, text[i]);
         i += 1;

@@ -1,7 +1,7 @@
 -- One output at most meets each promise of this crate. Assumes nothing.
 use Prim.Native.Nat.{ℕ}
 use mathlib.Core.List.{List}
-use Rattle.laws.proofs.Only.{Only, same}
+use Rattle.only.proofs.Only.{Only, same}
 use Rattle.put.specs.Puts.{BytePut, TextPut}
 
 pub only-byte-put : (b at : ℕ) (out : List ℕ) → Only (BytePut b at out)

@@ -5,7 +5,7 @@ use Rattle.rules.specs.declared.Date.{Date}
 use Rattle.rules.specs.declared.Planned.{Planned}
 use Rattle.rules.specs.declared.Position.{Position}
 use Rattle.rules.specs.declared.Height.{Height}
-use Rattle.laws.proofs.Only.{Only, same}
+use Rattle.only.proofs.Only.{Only, same}
 use Rattle.range.specs.Tests.{CleanTest, DateTest, PlannedTest, LatitudeTest, LongitudeTest, AltitudeTest}
 
 pub only-clean-test : (text : List ℕ) → Only (CleanTest text)

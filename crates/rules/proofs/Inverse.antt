@@ -24,6 +24,10 @@ pub given-inv : {A B : Type 0} (o : Option A) (a x : B) (f : A → B) → (a ≡
 given-inv (some v) a x f n e = (v, refl, e)
 given-inv none a x f n e = absurd (n e)
 
+pub given-none : {A B : Type 0} (o : Option A) (a x : B) (f : A → B) → ((v : A) → f v ≡ x → ⊥) → given o a f ≡ x → (o ≡ none) × (a ≡ x)
+given-none (some v) a x f n e = absurd (n v e)
+given-none none a x f n e = (refl, e)
+
 pub need-inv : {A : Type 0} (t : Bool) (a x : A) (f : Unit {0} → A) → (a ≡ x → ⊥) → need t a f ≡ x → (t ≡ true) × (f tt ≡ x)
 need-inv true a x f n e = (refl, e)
 need-inv false a x f n e = absurd (n e)

@@ -1,4 +1,5 @@
 pub mod Inverse
+pub mod Fixes
 pub mod Links
 pub mod Computed
 pub mod Marked

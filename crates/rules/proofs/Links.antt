@@ -11,7 +11,7 @@ use Rattle.rules.specs.Refusals.{Said, says, refuses, andThen, refusal, 
 use Rattle.rules.specs.Numbers.{numberTold, wholeTold}
 use Rattle.rules.specs.Fields.{timeTold, dayTold, positionTold, altitudeTold}
 use Rattle.rules.specs.Promises.{foundTold}
-use Rattle.rules.specs.Reads.{fixTold, timeReadTold, dateReadTold, headTold, pointTold}
+use Rattle.rules.specs.Reads.{fixFieldsTold, timeReadTold, dateReadTold, headTold, pointTold}
 use Rattle.rules.specs.Layouts.{columnTold, Span}
 use Rattle.rules.specs.declared.Refusal.{Refusal}
 use Rattle.rules.specs.declared.Outcome.{Outcome}
@@ -34,9 +34,9 @@ use Rattle.rules.specs.declared.PositionField.the-variants as place
 use Rattle.rules.specs.declared.Height.{Height}
 use Rattle.rules.specs.declared.Altitude.{Altitude}
 use Rattle.rules.specs.declared.Altitude.the-variants as altitude
-use Rattle.rules.specs.declared.Fix.{Fix}
-use Rattle.rules.specs.declared.FixRead.{FixRead}
-use Rattle.rules.specs.declared.FixRead.the-variants as fixRead
+use Rattle.rules.specs.declared.FixFields.{FixFields}
+use Rattle.rules.specs.declared.FixFieldsRead.{FixFieldsRead}
+use Rattle.rules.specs.declared.FixFieldsRead.the-variants as fixFieldsRead
 use Rattle.rules.specs.declared.TimeRead.{TimeRead}
 use Rattle.rules.specs.declared.TimeRead.the-variants as timeRead
 use Rattle.rules.specs.declared.DateRead.{DateRead}
@@ -181,13 +181,13 @@ pub outcome-refused : {B : Type 0} (n : Said (Unit {0})) (r : Outcome) (w : Refu
 unfolding outcomeTold
 outcome-refused n r w x f e g h = by-refuses outcomeTold n r x f e (outcome.Refused w) w refl g h
 
-pub fix-is : {B : Type 0} (n : Said Fix) (r : FixRead) (v : Fix) (x : Said B) (f : Fix → Said B) → fixTold r ≡ n → r ≡ fixRead.Is v → x ≡ f v → x ≡ andThen n f
-unfolding fixTold
-fix-is n r v x f e g h = by-says fixTold n r x f e (fixRead.Is v) v refl g h
+pub fix-fields-is : {B : Type 0} (n : Said FixFields) (r : FixFieldsRead) (v : FixFields) (x : Said B) (f : FixFields → Said B) → fixFieldsTold r ≡ n → r ≡ fixFieldsRead.Is v → x ≡ f v → x ≡ andThen n f
+unfolding fixFieldsTold
+fix-fields-is n r v x f e g h = by-says fixFieldsTold n r x f e (fixFieldsRead.Is v) v refl g h
 
-pub fix-refused : {B : Type 0} (n : Said Fix) (r : FixRead) (w : Refusal) (x : Said B) (f : Fix → Said B) → fixTold r ≡ n → r ≡ fixRead.Refused w → x ≡ refusal w → x ≡ andThen n f
-unfolding fixTold
-fix-refused n r w x f e g h = by-refuses fixTold n r x f e (fixRead.Refused w) w refl g h
+pub fix-fields-refused : {B : Type 0} (n : Said FixFields) (r : FixFieldsRead) (w : Refusal) (x : Said B) (f : FixFields → Said B) → fixFieldsTold r ≡ n → r ≡ fixFieldsRead.Refused w → x ≡ refusal w → x ≡ andThen n f
+unfolding fixFieldsTold
+fix-fields-refused n r w x f e g h = by-refuses fixFieldsTold n r x f e (fixFieldsRead.Refused w) w refl g h
 
 pub timed-secs : {B : Type 0} (n : Said ℕ) (r : TimeRead) (v : ℕ) (x : Said B) (f : ℕ → Said B) → timeReadTold r ≡ n → r ≡ timeRead.Secs v → x ≡ f v → x ≡ andThen n f
 unfolding timeReadTold
@@ -211,4 +211,4 @@ pub ruleset numbers = (tests, number-value, number-none)
 
 pub ruleset fields = (tests, time-secs, time-none, day-on, day-none, position-is, position-none, altitude-metres, altitude-none, number-value, number-none, found-at, found-nothing)
 
-pub ruleset answers = (outcome-accepted, outcome-refused, fix-is, fix-refused, timed-secs, timed-refused, column-between, column-refused)
+pub ruleset answers = (outcome-accepted, outcome-refused, fix-fields-is, fix-fields-refused, timed-secs, timed-refused, column-between, column-refused)

@@ -30,6 +30,10 @@ layoutLetter family.K = code "J"
 unfoldable pub familyOf : ℕ → Option Family
 familyOf b = cond (eqb b (lineLetter family.B)) (some family.B) (cond (eqb b (lineLetter family.K)) (some family.K) none)
 
+-- the family whose layout a line tells, by the line's first byte
+unfoldable pub layoutFamilyOf : ℕ → Option Family
+layoutFamilyOf b = cond (eqb b (layoutLetter family.B)) (some family.B) (cond (eqb b (layoutLetter family.K)) (some family.K) none)
+
 -- the layout of a family among those of a file, and one put in its place
 abbrev pub layoutOf : Family → Layouts → Layout
 layoutOf family.B ls = ls .b

@@ -9,10 +9,12 @@ pub mod Listed
 pub mod Families
 pub mod Layouts
 pub mod Lines
+pub mod Fixes
 pub mod Split
 pub mod Roles
 pub mod Order
 pub mod Files
+pub mod Walk
 pub mod Reads
 pub mod Writes
 pub mod Limits

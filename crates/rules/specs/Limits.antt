@@ -13,12 +13,14 @@ use Rattle.rules.specs.Fields.{daysOf, isEither}
 use Rattle.rules.specs.Degrees.{isLatitude, isLongitude}
 use Rattle.rules.specs.Listed.{keepsRule}
 use Rattle.rules.specs.Layouts.{entriesOf, allowed, lineLength}
+use Rattle.rules.specs.Fixes.{fieldsOf}
 use Rattle.rules.specs.declared.Date.{Date}
 use Rattle.rules.specs.declared.Entry.{Entry}
 use Rattle.rules.specs.declared.Layout.{Layout}
 use Rattle.rules.specs.declared.Height.{Height}
 use Rattle.rules.specs.declared.Planned.{Planned}
 use Rattle.rules.specs.declared.Planned.the-variants as planned
+use Rattle.rules.specs.declared.FixFields.{FixFields}
 use Rattle.rules.specs.declared.Fix.{Fix}
 use Rattle.rules.specs.declared.Head.{Head}
 use Rattle.rules.specs.declared.Point.{Point}
@@ -103,7 +105,7 @@ goodExtra t tail layout =
     goodTail 8 tail layout
 
 -- "B: time 2 to 7; latitude DDMMmmm and N or S, 8 to 15; longitude DDDMMmmm and E or W, 16 to 24; A or V, 25; pressure altitude 26 to 30; GNSS altitude 31 to 35"
-unfoldable pub goodFixFields : Fix → Bool
+unfoldable pub goodFixFields : FixFields → Bool
 goodFixFields f =
     need (isTime (f .time)) false λ _.
     need (isLatitude (f .lat)) false λ _.
@@ -115,5 +117,5 @@ goodFixFields f =
 -- "columns from 36"
 unfoldable pub goodFix : Fix → List ℕ → Layout → Bool
 goodFix f tail layout =
-    need (goodFixFields f) false λ _.
+    need (goodFixFields (fieldsOf f)) false λ _.
     goodTail 36 tail layout

@@ -18,7 +18,7 @@ use Rattle.rules.specs.declared.Date.{Date}
 use Rattle.rules.specs.declared.Layout.{Layout}
 use Rattle.rules.specs.declared.Family.{Family}
 use Rattle.rules.specs.declared.Family.the-variants as family
-use Rattle.rules.specs.declared.Fix.{Fix}
+use Rattle.rules.specs.declared.FixFields.{FixFields}
 use Rattle.rules.specs.declared.Planned.{Planned}
 use Rattle.rules.specs.declared.Planned.the-variants as planned
 use Rattle.rules.specs.declared.Head.{Head}
@@ -148,7 +148,7 @@ fLine l =
     given (badPair (byte 8) (drop (byte 8) l)) (says t) λ at. breaks class.Other (at + 1)
 
 -- "B: time 2 to 7; latitude DDMMmmm and N or S, 8 to 15; longitude DDDMMmmm and E or W, 16 to 24; A or V, 25; pressure altitude 26 to 30; GNSS altitude 31 to 35"
-unfoldable pub fixFields : List ℕ → Said Fix
+unfoldable pub fixFields : List ℕ → Said FixFields
 fixFields l =
     given (timeAt l (byte 2)) (breaks class.Time 2) λ t.
     given (latitudeAt l (byte 8)) (breaks class.Position 8) λ lat.
@@ -164,7 +164,7 @@ unfoldable pub shapedBy : ℕ → Layout → List ℕ → Said (Unit {0})
 shapedBy start layout l = shaped (lineLength start layout) (lineLength start layout) false l
 
 -- "columns from 36"
-unfoldable pub bLine : Layout → List ℕ → Said Fix
+unfoldable pub bLine : Layout → List ℕ → Said FixFields
 bLine layout l =
     andThen (shapedBy (firstStart family.B) layout l) λ _.
     andThen (fixFields l) λ f.
@@ -178,6 +178,21 @@ kLine layout l =
     given (timeAt l (byte 2)) (breaks class.Time 2) λ t.
     andThen (columns l layout) λ _.
     says t
+
+-- what the bytes of a line of a family before its columns spell: of a B line the fields of its fix, of a K line its time
+abbrev pub FieldsIn : Family → Type 0
+FieldsIn family.B = FixFields
+FieldsIn family.K = ℕ
+
+-- their time
+abbrev pub timeIn : (f : Family) → FieldsIn f → ℕ
+timeIn family.B v = v .time
+timeIn family.K t = t
+
+-- a line of a family by its layout
+abbrev pub familyLine : (f : Family) → Layout → List ℕ → Said (FieldsIn f)
+familyLine family.B = bLine
+familyLine family.K = kLine
 
 -- the time of a line of a family, by its layout
 unfoldable pub columnedLine : Family → Layout → List ℕ → Said ℕ

@@ -13,13 +13,13 @@ use Rattle.rules.specs.Refusals.{Said, says, refuses, no}
 use Rattle.rules.specs.Listed.{codeText}
 use Rattle.rules.specs.Layouts.{lineLength, entriesOf, spanOf, columnText}
 use Rattle.rules.specs.Split.{Lines, end, broken, line, linesOf}
-use Rattle.rules.specs.Reads.{fixSaid}
+use Rattle.rules.specs.Reads.{fieldsSaid}
 use Rattle.rules.specs.Files.{verdict}
 use Rattle.rules.specs.declared.Reason.the-variants.{InputOver}
 use Rattle.rules.specs.declared.Entry.{Entry}
 use Rattle.rules.specs.declared.Layout.{Layout}
 use Rattle.rules.specs.declared.Family.the-variants as family
-use Rattle.rules.specs.declared.Fix.{Fix}
+use Rattle.rules.specs.declared.FixFields.{FixFields}
 use Rattle.rules.specs.declared.Flight.{Flight}
 use Rattle.rules.specs.declared.Seal.the-variants as seal
 
@@ -59,7 +59,7 @@ okText f =
     bytes "OK" ++ (shown (f .lines) ++ (shown (f .counts .b) ++ (shown (f .counts .k) ++ (shown (lineLength (firstStart family.B) (f .layouts .b)) ++ (shown (lineLength (firstStart family.K) (f .layouts .k)) ++ lf)))))
 
 -- "FIX: line, seconds, latitude and letter, longitude and letter, validity, pressure and GNSS altitude."
-unfoldable pub fixShown : ℕ → Fix → List ℕ
+unfoldable pub fixShown : ℕ → FixFields → List ℕ
 unfolding bytes
 fixShown n f =
     bytes "FIX" ++ (shown n
@@ -82,8 +82,8 @@ unfoldable pub columnsShown : List ℕ → List Entry → List ℕ
 columnsShown l [] = []
 columnsShown l (e ∷ es) = columnShown l e ++ columnsShown l es
 
--- a B line's fix with its columns; nothing for another line
-unfoldable pub lineShown : ℕ → Layout → List ℕ → Said Fix → List ℕ
+-- the fields of a B line's fix with its columns; nothing for another line
+unfoldable pub lineShown : ℕ → Layout → List ℕ → Said FixFields → List ℕ
 lineShown n layout l (says f) = fixShown n f ++ columnsShown l (entriesOf layout)
 lineShown n layout l (refuses k m b) = []
 
@@ -91,7 +91,7 @@ lineShown n layout l (refuses k m b) = []
 unfoldable pub fixesShown : ℕ → Layout → Lines → List ℕ
 fixesShown n layout end = []
 fixesShown n layout (broken k) = []
-fixesShown n layout (line t ls) = lineShown n layout t (fixSaid t layout) ++ fixesShown (n + 1) layout ls
+fixesShown n layout (line t ls) = lineShown n layout t (fieldsSaid family.B t layout) ++ fixesShown (n + 1) layout ls
 
 unfoldable pub listedAs : List ℕ → Said Flight → List ℕ
 listedAs file (says f) = okText f ++ fixesShown 1 (f .layouts .b) (linesOf file)

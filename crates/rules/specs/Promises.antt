@@ -18,7 +18,7 @@ use Rattle.rules.specs.Layouts.{LayoutTold, allowed, lengthTold, lengthS
 use Rattle.rules.specs.Lines.{kindOf, aLine, dateLine, hLine, layoutLine, headLine, pointLine, dLine, eLine, fLine, bLine, kLine, columnedLine, shaped}
 use Rattle.rules.specs.Split.{lineTold, boundsOf, lineText}
 use Rattle.rules.specs.Files.{CheckedTold, verdict, tableAfter}
-use Rattle.rules.specs.Reads.{fixTold, fixSaid, timeReadTold, extraSaid, eventSaid, satellitesSaid, dateReadTold, dateSaid, layoutSaid, headTold, headSaid, headRest, pointTold, pointSaid, pointRest, columnSaid, columnTextSaid, numberReadTold, numberSaid}
+use Rattle.rules.specs.Reads.{fixFieldsTold, fixTold, fixSaid, timeReadTold, extraSaid, eventSaid, satellitesSaid, dateReadTold, dateSaid, layoutSaid, headTold, headSaid, headRest, pointTold, pointSaid, pointRest, columnSaid, columnTextSaid, numberReadTold, numberSaid}
 use Rattle.rules.specs.Writes.{wroteTold, written, outAfter, putAt, fixText, isFix, extraText, isExtra, layoutText, headText, isHead, pointText, isPoint}
 use Rattle.rules.specs.declared.Outcome.{Outcome}
 use Rattle.rules.specs.declared.Found.{Found}
@@ -42,6 +42,7 @@ use Rattle.rules.specs.declared.PresenceRead.{PresenceRead}
 use Rattle.rules.specs.declared.ColumnRead.{ColumnRead}
 use Rattle.rules.specs.declared.NumberRead.{NumberRead}
 use Rattle.rules.specs.declared.Fix.{Fix}
+use Rattle.rules.specs.declared.FixFieldsRead.{FixFieldsRead}
 use Rattle.rules.specs.declared.FixRead.{FixRead}
 use Rattle.rules.specs.declared.TimeRead.{TimeRead}
 use Rattle.rules.specs.declared.DateRead.{DateRead}
@@ -187,8 +188,8 @@ EventChecked l r = timeReadTold r ≡ eLine l
 abbrev pub SatellitesChecked : List ℕ → TimeRead → Type 0
 SatellitesChecked l r = timeReadTold r ≡ fLine l
 
-abbrev pub FixChecked : List ℕ → Layout → FixRead → Type 0
-FixChecked l layout r = fixTold r ≡ bLine layout l
+abbrev pub FixChecked : List ℕ → Layout → FixFieldsRead → Type 0
+FixChecked l layout r = fixFieldsTold r ≡ bLine layout l
 
 abbrev pub ExtraChecked : List ℕ → Layout → TimeRead → Type 0
 ExtraChecked l layout r = timeReadTold r ≡ kLine layout l

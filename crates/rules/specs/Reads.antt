@@ -9,9 +9,10 @@ use Rattle.rules.specs.Choice.{given, need, byte}
 use Rattle.rules.specs.Refusals.{Said, says, refuses, no, refusal, andThen}
 use Rattle.rules.specs.Numbers.{wholeOf}
 use Rattle.rules.specs.Listed.{packedOf}
-use Rattle.rules.specs.Families.{firstStart, layoutLetter, familyOf}
+use Rattle.rules.specs.Families.{firstStart, lineLetter, layoutLetter, familyOf}
 use Rattle.rules.specs.Layouts.{Span, entriesOf, allowed, lookIn, columnText}
-use Rattle.rules.specs.Lines.{dateLine, layoutLine, headLine, pointLine, eLine, fLine, bLine, kLine, columnedLine}
+use Rattle.rules.specs.Lines.{dateLine, layoutLine, headLine, pointLine, eLine, fLine, FieldsIn, familyLine, columnedLine}
+use Rattle.rules.specs.Fixes.{fixOf}
 use Rattle.rules.specs.declared.Reason.the-variants.{BadValue, Absent, NotNumber}
 use Rattle.rules.specs.declared.Signed.{Signed}
 use Rattle.rules.specs.declared.Date.{Date}
@@ -19,9 +20,12 @@ use Rattle.rules.specs.declared.Entry.{Entry}
 use Rattle.rules.specs.declared.Layout.{Layout}
 use Rattle.rules.specs.declared.Family.{Family}
 use Rattle.rules.specs.declared.Family.the-variants as family
+use Rattle.rules.specs.declared.FixFields.{FixFields}
 use Rattle.rules.specs.declared.Fix.{Fix}
 use Rattle.rules.specs.declared.Head.{Head}
 use Rattle.rules.specs.declared.Point.{Point}
+use Rattle.rules.specs.declared.FixFieldsRead.{FixFieldsRead}
+use Rattle.rules.specs.declared.FixFieldsRead.the-variants as fixFieldsRead
 use Rattle.rules.specs.declared.FixRead.{FixRead}
 use Rattle.rules.specs.declared.FixRead.the-variants as fixRead
 use Rattle.rules.specs.declared.TimeRead.{TimeRead}
@@ -44,13 +48,40 @@ module _ {A : Type 0} where
   abbrev pub byLayout : Family → Layout → (Unit {0} → Said A) → Said A
   byLayout f layout g = need (allowed (firstStart f) layout) (no BadValue 0) g
 
+-- a line of a family with its layout: 17 for another kind, 17 for the layout, then the checks of the line; what its bytes before the columns spell
+abbrev pub fieldsSaid : (f : Family) → List ℕ → Layout → Said (FieldsIn f)
+fieldsSaid f l layout = ofKind (lineLetter f) l λ _. byLayout f layout λ _. familyLine f layout l
+
+-- what its reading gives before the columns: of a B line its fix, of a K line its time
+abbrev pub ValueOf : Family → Type 0
+ValueOf family.B = Fix
+ValueOf family.K = ℕ
+
+-- the value, from what the bytes spell
+abbrev pub valueFrom : (f : Family) → FieldsIn f → ValueOf f
+valueFrom family.B v = fixOf v
+valueFrom family.K t = t
+
+-- the value of a line of a family with its layout
+abbrev pub saidOf : (f : Family) → List ℕ → Layout → Said (ValueOf f)
+saidOf family.B l layout = andThen (fieldsSaid family.B l layout) λ f. says (fixOf f)
+saidOf family.K l layout = fieldsSaid family.K l layout
+
 -- the fix of a B line with its I layout
 unfoldable pub fixSaid : List ℕ → Layout → Said Fix
-fixSaid l layout = ofKind (code "B") l λ _. byLayout family.B layout λ _. bLine layout l
+fixSaid l layout = saidOf family.B l layout
 
 -- the time of a K line with its J layout
 unfoldable pub extraSaid : List ℕ → Layout → Said ℕ
-extraSaid l layout = ofKind (code "K") l λ _. byLayout family.K layout λ _. kLine layout l
+extraSaid l layout = saidOf family.K l layout
+
+-- the whole reading of a line of a family: that value, and the entries of its columns, in layout order
+pub record Reading (f : Family) : Type 0 where
+  pub value : ValueOf f
+  pub entries : List Entry
+
+unfoldable pub reading : (f : Family) → List ℕ → Layout → Said (Reading f)
+reading f l layout = andThen (saidOf f l layout) λ v. says (record { value = v; entries = entriesOf layout })
 
 -- the time of an E line, and of an F line
 unfoldable pub eventSaid : List ℕ → Said ℕ
@@ -111,6 +142,10 @@ numberSaid l layout name =
     says z
 
 -- the answers, in the paper's terms
+unfoldable pub fixFieldsTold : FixFieldsRead → Said FixFields
+fixFieldsTold (fixFieldsRead.Is f) = says f
+fixFieldsTold (fixFieldsRead.Refused r) = refusal r
+
 unfoldable pub fixTold : FixRead → Said Fix
 fixTold (fixRead.Is f) = says f
 fixTold (fixRead.Refused r) = refusal r

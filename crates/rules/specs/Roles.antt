@@ -11,7 +11,7 @@ use Rattle.rules.specs.declared.Kind.the-variants as kind
 use Rattle.rules.specs.declared.Role.{Role}
 use Rattle.rules.specs.declared.Role.the-variants as role
 
--- what each kind does is told here, and nowhere else
+-- what each kind does; which letters are a family's stands in Families
 abbrev pub roleOf : Kind → Role
 roleOf kind.A = role.Opens
 roleOf kind.B = role.Columned family.B
@@ -43,12 +43,16 @@ abbrev pub isFront : Role → Bool
 isFront = elim [ role.Opens ↦ true | role.Heads ↦ true | role.Tells f ↦ false | role.Columned f ↦ false | role.Declares ↦ false | role.Event ↦ false | role.Satellites ↦ false | role.Differential ↦ false | role.Seals ↦ false | role.Remark ↦ false | role.Other ↦ false | role.NoRole ↦ false ]
 
 -- a line after the layout lines that has no columns
-abbrev pub isPlain : Role → Bool
-isPlain = elim [ role.Opens ↦ false | role.Heads ↦ false | role.Tells f ↦ false | role.Columned f ↦ false | role.Declares ↦ true | role.Event ↦ true | role.Satellites ↦ true | role.Differential ↦ true | role.Seals ↦ true | role.Remark ↦ true | role.Other ↦ true | role.NoRole ↦ false ]
+abbrev pub isBare : Role → Bool
+isBare = elim [ role.Opens ↦ false | role.Heads ↦ false | role.Tells f ↦ false | role.Columned f ↦ false | role.Declares ↦ true | role.Event ↦ true | role.Satellites ↦ true | role.Differential ↦ true | role.Seals ↦ true | role.Remark ↦ true | role.Other ↦ true | role.NoRole ↦ false ]
 
 -- an E line
 abbrev pub isEvent : Role → Bool
 isEvent = elim [ role.Opens ↦ false | role.Heads ↦ false | role.Tells f ↦ false | role.Columned f ↦ false | role.Declares ↦ false | role.Event ↦ true | role.Satellites ↦ false | role.Differential ↦ false | role.Seals ↦ false | role.Remark ↦ false | role.Other ↦ false | role.NoRole ↦ false ]
+
+-- "B, E, F and K lines run in time order."
+abbrev pub isTimed : Role → Bool
+isTimed = elim [ role.Opens ↦ false | role.Heads ↦ false | role.Tells f ↦ false | role.Columned f ↦ true | role.Declares ↦ false | role.Event ↦ true | role.Satellites ↦ true | role.Differential ↦ false | role.Seals ↦ false | role.Remark ↦ false | role.Other ↦ false | role.NoRole ↦ false ]
 
 abbrev pub sameFamily : Family → Family → Bool
 sameFamily family.B family.B = true

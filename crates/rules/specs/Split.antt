@@ -74,20 +74,19 @@ unfoldable pub lineText : List ℕ → Said Bounds → List ℕ
 lineText file (says b) = part (b .from) (b .to) file
 lineText file (refuses n l b) = []
 
--- what a step finds: a line and the place after its CR LF
+-- what a step comes back with: the next line, or none where none is left, and the place
 pub record Stepped : Type 0 where
-  pub from : ℕ
-  pub to : ℕ
+  pub found : Option Bounds
   pub next : ℕ
 
 -- "A reading place over the lines .. comes back at each step with the next line, or with the news that none is left; a place past the end, or one with no CR LF
 -- after it though bytes remain, is 17."
-unfoldable pub stepAt : List ℕ → ℕ → Said (Option Stepped)
+unfoldable pub stepAt : List ℕ → ℕ → Said Stepped
 stepAt file at =
     need (leb at (length file)) (no BadValue 0) λ _.
-    cond (eqb at (length file)) (says none)
+    cond (eqb at (length file)) (says (record { found = none; next = at }))
     (given (firstCRLF at (drop at file)) (no BadValue 0) λ e.
-    says (some (record { from = at; to = e; next = e + 2 })))
+    says (record { found = some (record { from = at; to = e }); next = e + 2 }))
 
 -- the answer, in the paper's terms
 unfoldable pub lineTold : LineRead → Said Bounds

@@ -14,6 +14,7 @@ use Rattle.rules.specs.Numbers.{digitsOf}
 use Rattle.rules.specs.Fields.{timeText, dateText, latitudeText, longitudeText, altitudeText}
 use Rattle.rules.specs.Listed.{codeText}
 use Rattle.rules.specs.Layouts.{entriesOf}
+use Rattle.rules.specs.Fixes.{fieldsOf}
 use Rattle.rules.specs.Reads.{fixSaid, extraSaid, headSaid, pointSaid}
 use Rattle.rules.specs.declared.Reason.the-variants.{BadValue, NoRoom}
 use Rattle.rules.specs.declared.Date.{Date}
@@ -21,6 +22,7 @@ use Rattle.rules.specs.declared.Position.{Position}
 use Rattle.rules.specs.declared.Entry.{Entry}
 use Rattle.rules.specs.declared.Layout.{Layout}
 use Rattle.rules.specs.declared.Family.{Family}
+use Rattle.rules.specs.declared.FixFields.{FixFields}
 use Rattle.rules.specs.declared.Fix.{Fix}
 use Rattle.rules.specs.declared.Planned.{Planned}
 use Rattle.rules.specs.declared.Planned.the-variants as planned
@@ -32,14 +34,18 @@ use Rattle.rules.specs.declared.Wrote.the-variants as wrote
 -- ---- the text of each line, without its CR LF. "Writers make B, I, J, K and C lines." "Writers take what the readings give, columns and other text as bytes; B and K
 -- readers and writers take the layout too; C head and C point have a reader and a writer each."
 
-unfoldable pub fixText : Fix → List ℕ → List ℕ
-fixText f tail =
+unfoldable pub fieldsText : FixFields → List ℕ → List ℕ
+fieldsText f tail =
     code "B" ∷ (timeText (f .time)
     ++ (latitudeText (f .lat)
     ++ (longitudeText (f .lon)
     ++ (f .validity ∷ (altitudeText (f .pressure)
     ++ (altitudeText (f .gnss)
     ++ tail))))))
+
+-- of a fix: of its fields
+unfoldable pub fixText : Fix → List ℕ → List ℕ
+fixText f tail = fieldsText (fieldsOf f) tail
 
 unfoldable pub extraText : ℕ → List ℕ → List ℕ
 extraText t tail = code "K" ∷ (timeText t ++ tail)

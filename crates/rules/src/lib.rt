@@ -180,7 +180,22 @@ pub enum NumberRead {
     Refused(Refusal),
 }
 
-// What a B line says before its columns.
+// What the bytes of a B line before its columns spell, position and time as plain counts.
+pub struct FixFields {
+    pub time: u32,
+    pub lat: Position,
+    pub lon: Position,
+    pub validity: u8,
+    pub pressure: Height,
+    pub gnss: Height,
+}
+
+pub enum FixFieldsRead {
+    Is(FixFields),
+    Refused(Refusal),
+}
+
+// What the reading of a B line gives before its columns.
 pub struct Fix {
     pub time: u32,
     pub lat: Position,

@@ -12,30 +12,23 @@ use Rattle.rules.specs.Listed.{isCodeWord}
 use Rattle.rules.specs.Layouts.{isSpelt}
 use Rattle.rules.specs.Listing.{columnShown}
 use Rattle.rules.specs.declared.Entry.{Entry}
+use Rattle.rules.proofs.Inverse.{and-inv}
 use Rattle.show.specs.Lines.{columnLine}
 
 -- ---- the entries of a layout that was read are shown
 
-and-left : (a b : Bool) → (a && b) ≡ true → a ≡ true
-and-left true b e = refl
-and-left false b e = e
-
-and-right : (a b : Bool) → (a && b) ≡ true → b ≡ true
-and-right true b e = e
-and-right false b e = cc
-
 code-high : (b : ℕ) → isCode b ≡ true → b ≤ 90
 unfolding isCode isDigit
-code-high b e = by (leb 48 b && leb b 57) (λ d. omega (arith, leb-true b 57 (and-right (leb 48 b) (leb b 57) d))) e
+code-high b e = by (leb 48 b && leb b 57) (λ d. omega (arith, leb-true b 57 (and-inv (leb 48 b) (leb b 57) d .1))) e
   where
     by : (d : Bool) → (d ≡ true → b ≤ 90) → (d || (leb 65 b && leb b 90)) ≡ true → b ≤ 90
     by true low h = low refl
-    by false low h = leb-true b 90 (and-right (leb 65 b) (leb b 90) h)
+    by false low h = leb-true b 90 (and-inv (leb 65 b) (leb b 90) h .1)
 
 pub column-spelt : (l : List ℕ) (e : Entry) → isSpelt e ≡ true → columnLine l e ≡ columnShown l e
 unfolding columnLine isSpelt isCodeWord
 column-spelt l e h =
     let x = e .code in
-    let word = and-right (leb (e .last) 99) (isCode (x / 65536) && isCode (x / 256 % 256) && isCode (x % 256)) h in
-    let top = and-left (isCode (x / 65536)) (isCode (x / 256 % 256)) (and-left (isCode (x / 65536) && isCode (x / 256 % 256)) (isCode (x % 256)) word) in
+    let word = and-inv (leb (e .last) 99) (isCode (x / 65536) && isCode (x / 256 % 256) && isCode (x % 256)) h .1 in
+    let top = and-inv (isCode (x / 65536)) (isCode (x / 256 % 256)) (and-inv (isCode (x / 65536) && isCode (x / 256 % 256)) (isCode (x % 256)) word .0) .0 in
     rw (le-leb x 0xFFFFFF (omega (arith, code-high (x / 65536) top)))

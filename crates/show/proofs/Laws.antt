@@ -1,44 +1,29 @@
 -- The pieces that the listing's lines alone have, signs, layouts and columns; and that each line has room. Assumes nothing.
-use Prim.Native.Nat.{ℕ, suc, _+_, _-_, _≤_, _<_}
+use Prim.Native.Nat.{ℕ, _+_, _-_, _≤_, _<_}
 use mathlib.Core.Bool.{Bool, true, false}
-use mathlib.Core.List.{List, [], _∷_, _++_, map, append-assoc}
-use mathlib.Core.Path.{_≡_, refl, sym, _∙_, ap}
-use native.Mathlib.Nat.{min-le-left}
+use mathlib.Core.List.{List, [], _∷_, _++_, append-assoc}
+use mathlib.Core.Path.{_≡_, refl, sym, _∙_}
 use native.Mathlib.Numerals.{add-one}
 use native.Mathlib.Omega.{arith}
-use borrow.Author.Tests.{le-ltb, ne-eqb}
-use lib.Dec.{leb, leb·zero}
-use lib.IntN.{ℤ, pos, negsuc, natAbs, _-ℤ_}
-use lib.ListN.{length, take, drop, length-append, length-take, length-drop, length-map, drop-of-length-le, List·getD-eq-default}
+use borrow.Author.Tests.{ne-eqb}
+use lib.Dec.{leb}
+use lib.IntN.{ℤ, pos, negsuc, natAbs}
+use lib.ListN.{length, drop, length-append, length-drop, drop-of-length-le, List·getD-eq-default}
 use lib.Seq.{take-all, take-nil}
-use lib.Signed.{mag, nonNeg, leZ}
+use lib.Signed.{nonNeg}
 use Rattle.rules.specs.Choice.{need, part, bytes}
 use Rattle.rules.specs.Layouts.{lineLength, unused}
 use Rattle.rules.specs.Listing.{decimal, shown, shownLetter, shownMetres, lf, refusedText, okText, fixShown, columnShown}
 use Rattle.rules.specs.declared.Entry.{Entry}
 use Rattle.rules.specs.declared.Layout.{Layout}
-use Rattle.rules.specs.declared.Fix.{Fix}
+use Rattle.rules.specs.declared.FixFields.{FixFields}
 use Rattle.rules.specs.declared.Flight.{Flight}
+use Rattle.basics.proofs.Laws.{take-most}
 use Rattle.pieces.specs.Buffer.{PiecePut}
 use Rattle.pieces.proofs.Laws.{number-room}
 use Rattle.show.specs.Lines.{columnLine, counted, okNumbers, positionShown, fixPlaces, fixHeights}
 
--- ---- signs
-
--- of a negative z: -1 - z is its size less one
-pub turned : (z : ℤ) → nonNeg z ≡ false → negsuc 0 -ℤ z ≡ pos (mag z)
-turned (pos n) h = let e : _≡_ {A = ℕ} 0 1 = cc in absurd (omega arith)
-turned (negsuc k) h = rw (le-ltb (suc k) 1 (omega arith)) (ap pos (omega arith))
-
-pub one-more : (z : ℤ) → nonNeg z ≡ false → mag z + 1 ≡ natAbs z
-one-more (pos n) h = let e : _≡_ {A = ℕ} 0 1 = cc in absurd (omega arith)
-one-more (negsuc k) h = omega arith
-
-pub zero-below : (z : ℤ) → leZ (pos 0) z ≡ nonNeg z
-zero-below (pos n) = leb·zero n
-zero-below (negsuc n) = refl
-
--- an altitude's text by its sign and its size
+-- ---- an altitude's text by its sign and its size
 plain-metres : (z : ℤ) → nonNeg z ≡ true → shownMetres z ≡ shown (natAbs z)
 plain-metres (pos n) h = refl
 plain-metres (negsuc n) h = let e : _≡_ {A = ℕ} 0 1 = cc in absurd (omega arith)
@@ -56,10 +41,6 @@ module _ (out after : List ℕ) (at r : ℕ) (z : ℤ) (t : Bool) (m : ℕ) (e :
   minus-fills g p = rw (minus-metres z (sym e ∙ g), ← f) p
 
 -- ---- layouts
-
--- what owning an array of structs tells is the length of a mapped list
-pub unmapped : {X Y : Type 0} (f : X → Y) (l : List X) (n : ℕ) → length (map f l) ≡ n → length l ≡ n
-unmapped f l n e = sym (length-map l f) ∙ e
 
 -- a layout that counts more entries than it has
 pub length-past : (start : ℕ) (l : Layout) → length (l .entries) ≡ 13 → 13 < l .count → 0 ≡ lineLength start l
@@ -102,14 +83,14 @@ ok-parts f = sym (regrouped (bytes "OK") (f .lines) (f .counts .b) (f .counts .k
 grouped : (w a b c d rest : List ℕ) → w ++ (a ++ (b ++ ((c ++ d) ++ rest))) ≡ (w ++ (a ++ (b ++ c))) ++ (d ++ rest)
 grouped w a b c d rest = simp append-assoc
 
-pub places-parts : (n : ℕ) (f : Fix) → fixPlaces n f ≡ counted (bytes "FIX") n (f .time) (f .lat .count) ++ (shownLetter (f .lat .letter) ++ positionShown (f .lon))
+pub places-parts : (n : ℕ) (f : FixFields) → fixPlaces n f ≡ counted (bytes "FIX") n (f .time) (f .lat .count) ++ (shownLetter (f .lat .letter) ++ positionShown (f .lon))
 unfolding fixPlaces positionShown counted bytes
 places-parts n f = grouped (bytes "FIX") (shown n) (shown (f .time)) (shown (f .lat .count)) (shownLetter (f .lat .letter)) (positionShown (f .lon))
 
 regroup : (w a b c d e f rest : List ℕ) → w ++ (a ++ (b ++ (c ++ (d ++ (e ++ (f ++ rest)))))) ≡ (w ++ (a ++ (b ++ ((c ++ d) ++ (e ++ f))))) ++ rest
 regroup w a b c d e f rest = simp append-assoc
 
-pub fix-parts : (n : ℕ) (f : Fix) → fixShown n f ≡ fixPlaces n f ++ fixHeights f
+pub fix-parts : (n : ℕ) (f : FixFields) → fixShown n f ≡ fixPlaces n f ++ fixHeights f
 unfolding fixShown fixPlaces fixHeights positionShown bytes
 fix-parts n f =
     regroup (bytes "FIX") (shown n) (shown (f .time)) (shown (f .lat .count)) (shownLetter (f .lat .letter)) (shown (f .lon .count)) (shownLetter (f .lon .letter)) (fixHeights f)
@@ -130,18 +111,15 @@ ok-room f =
     simp length-append
     (omega (arith, number-room (f .lines), number-room (f .counts .b), number-room (f .counts .k), number-room (lineLength 36 (f .layouts .b)), number-room (lineLength 8 (f .layouts .k))))
 
-pub fix-room : (n : ℕ) (f : Fix) → length (fixShown n f) ≤ 288
+pub fix-room : (n : ℕ) (f : FixFields) → length (fixShown n f) ≤ 288
 unfolding fixShown bytes
 fix-room n f =
     simp length-append
     (omega (arith, number-room n, number-room (f .time), number-room (f .lat .count), number-room (f .lon .count), metres-room (f .pressure .metres), metres-room (f .gnss .metres)))
 
-taken : (n : ℕ) (l : List ℕ) → length (take n l) ≤ n
-taken n l = rw length-take (min-le-left n (length l))
-
 spelt-room : (l : List ℕ) (e : Entry) → e .last < 256 → length (columnShown l e) ≤ 288
 unfolding columnShown bytes
-spelt-room l e h = simp length-append (omega (arith, taken (e .last - (e .first - 1)) (drop (e .first - 1) l)))
+spelt-room l e h = simp length-append (omega (arith, take-most (e .last - (e .first - 1)) (drop (e .first - 1) l)))
 
 pub column-room : (l : List ℕ) (e : Entry) → e .last < 256 → length (columnLine l e) ≤ 288
 unfolding columnLine

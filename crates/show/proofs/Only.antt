@@ -4,7 +4,7 @@ use mathlib.Core.List.{List}
 use mathlib.Core.Path.{_≡_}
 use Rattle.rules.specs.declared.Refusal.{Refusal}
 use Rattle.rules.specs.declared.Entry.{Entry}
-use Rattle.rules.specs.declared.Fix.{Fix}
+use Rattle.rules.specs.declared.FixFields.{FixFields}
 use Rattle.rules.specs.declared.Flight.{Flight}
 use Rattle.pieces.proofs.Only.{only-shown}
 use Rattle.show.specs.Lines.{RefusalShown, FlightShown, FixShown, ColumnShown}
@@ -16,7 +16,7 @@ module _ (out : List ℕ) (r r′ : ℕ) (after after′ : List ℕ) where
   pub only-flight-shown : (f : Flight) → FlightShown f out r after → FlightShown f out r′ after′ → (r ≡ r′) × (after ≡ after′)
   only-flight-shown f = only-shown out r r′ after after′
 
-  pub only-fix-shown : (n : ℕ) (f : Fix) → FixShown n f out r after → FixShown n f out r′ after′ → (r ≡ r′) × (after ≡ after′)
+  pub only-fix-shown : (n : ℕ) (f : FixFields) → FixShown n f out r after → FixShown n f out r′ after′ → (r ≡ r′) × (after ≡ after′)
   only-fix-shown n f = only-shown out r r′ after after′
 
   pub only-column-shown : (l : List ℕ) (e : Entry) → ColumnShown l e out r after → ColumnShown l e out r′ after′ → (r ≡ r′) × (after ≡ after′)

@@ -9,7 +9,7 @@ use Rattle.rules.specs.Listing.{shown, shownLetter, shownMetres, lf, refusedTex
 use Rattle.rules.specs.declared.Refusal.{Refusal}
 use Rattle.rules.specs.declared.Entry.{Entry}
 use Rattle.rules.specs.declared.Position.{Position}
-use Rattle.rules.specs.declared.Fix.{Fix}
+use Rattle.rules.specs.declared.FixFields.{FixFields}
 use Rattle.rules.specs.declared.Flight.{Flight}
 
 abbrev pub RefusalShown : Refusal → List ℕ → ℕ → List ℕ → Type 0
@@ -18,7 +18,7 @@ RefusalShown w out r after = Shown (refusedText (number (w .reason)) (w .line) (
 abbrev pub FlightShown : Flight → List ℕ → ℕ → List ℕ → Type 0
 FlightShown f out r after = Shown (okText f) out r after
 
-abbrev pub FixShown : ℕ → Fix → List ℕ → ℕ → List ℕ → Type 0
+abbrev pub FixShown : ℕ → FixFields → List ℕ → ℕ → List ℕ → Type 0
 FixShown n f out r after = Shown (fixShown n f) out r after
 
 -- An entry whose code is no three bytes, which no layout has that was read, shows nothing.
@@ -43,9 +43,9 @@ unfoldable pub positionShown : Position → List ℕ
 positionShown p = shown (p .count) ++ shownLetter (p .letter)
 
 -- a FIX line up to its position, and from its validity on
-unfoldable pub fixPlaces : ℕ → Fix → List ℕ
+unfoldable pub fixPlaces : ℕ → FixFields → List ℕ
 unfolding bytes
 fixPlaces n f = bytes "FIX" ++ (shown n ++ (shown (f .time) ++ (positionShown (f .lat) ++ positionShown (f .lon))))
 
-unfoldable pub fixHeights : Fix → List ℕ
+unfoldable pub fixHeights : FixFields → List ℕ
 fixHeights f = shownLetter (f .validity) ++ (shownMetres (f .pressure .metres) ++ (shownMetres (f .gnss .metres) ++ lf))

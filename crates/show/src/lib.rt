@@ -9,7 +9,7 @@ pub use lines::put_fix;
 use lines::put_flight;
 use lines::put_refusal;
 use rules::Entry;
-use rules::Fix;
+use rules::FixFields;
 use rules::Flight;
 use rules::Refusal;
 
@@ -36,7 +36,7 @@ pub fn ok(f: Flight, out: &mut [u8; 288]) -> usize
 }
 
 // FIX and what the B line of that number says before its columns: how many bytes the line has.
-pub fn fix(line: u32, f: Fix, out: &mut [u8; 288]) -> usize
+pub fn fix(line: u32, f: FixFields, out: &mut [u8; 288]) -> usize
     ensures { λ r. ⌜ FixShown line f (now (out .entry)) r (now (out .exit)) ⌝ }
 {
     put_fix(out, 0, line, f)

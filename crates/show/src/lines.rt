@@ -12,7 +12,7 @@ use pieces::put_byte;
 use pieces::put_shown;
 use pieces::put_text;
 use rules::Entry;
-use rules::Fix;
+use rules::FixFields;
 use rules::Layout;
 use rules::Position;
 
@@ -76,7 +76,7 @@ fn put_position(out: &mut [u8], at: usize, p: Position) -> usize
 }
 
 // A fix's line up to its position.
-fn put_places(out: &mut [u8], at: usize, line: u32, f: Fix) -> usize
+fn put_places(out: &mut [u8], at: usize, line: u32, f: FixFields) -> usize
     ensures { λ r. ⌜ PiecePut (now (out .entry)) at (fixPlaces line f) r (now (out .exit)) ⌝ }
 {
     let a = put_counted(out, at, b"FIX", line as u64, f.time as u64, f.lat.count);
@@ -85,7 +85,7 @@ fn put_places(out: &mut [u8], at: usize, line: u32, f: Fix) -> usize
 }
 
 // A fix's line from its validity on.
-fn put_heights(out: &mut [u8], at: usize, f: Fix) -> usize
+fn put_heights(out: &mut [u8], at: usize, f: FixFields) -> usize
     ensures { λ r. ⌜ PiecePut (now (out .entry)) at (fixHeights f) r (now (out .exit)) ⌝ }
 {
     let a = put_letter(out, at, f.validity);
@@ -95,7 +95,7 @@ fn put_heights(out: &mut [u8], at: usize, f: Fix) -> usize
 }
 
 // A fix's line, from a place of the buffer on.
-pub fn put_fix(out: &mut [u8], at: usize, line: u32, f: Fix) -> usize
+pub fn put_fix(out: &mut [u8], at: usize, line: u32, f: FixFields) -> usize
     ensures { λ r. ⌜ PiecePut (now (out .entry)) at (fixShown line f) r (now (out .exit)) ⌝ }
 {
     let a = put_places(out, at, line, f);

@@ -1,4 +1,4 @@
--- A line whose columns are digits and whose other bytes are read as a time or within bounds has mild bytes alone: digits are mild, and so are the bounds. Assumes nothing.
+-- A line whose columns are mild and whose other bytes are read as a time or within bounds has mild bytes alone: digits are mild, and so are the bounds. Assumes nothing.
 use Prim.Native.Nat.{ℕ, zero, suc, _+_, _-_, _*_, _≤_}
 use mathlib.Core.Bool.{Bool, true, false, cond, _&&_, _||_}
 use mathlib.Core.List.{List, [], _∷_}
@@ -44,6 +44,17 @@ unfolding leads
 digits-mild zero l e = refl
 digits-mild (suc n) [] e = e
 digits-mild (suc n) (b ∷ l) e = let s = and-inv (isDigit b) (leads isDigit n l) e in rw (digit-mild b (s .0)) (digits-mild n l (s .1))
+
+pub digits-are-mild : (t : List ℕ) → isDigits t ≡ true → every isMild t ≡ true
+unfolding isDigits
+digits-are-mild t e = digits-mild (length t) t e
+
+-- what stands behind the first n bytes of a mild text is mild
+behind : (n : ℕ) (l : List ℕ) → every isMild l ≡ true → every isMild (drop n l) ≡ true
+unfolding leads
+behind zero l e = e
+behind (suc n) [] e = e
+behind (suc n) (b ∷ l) e = behind n l (and-inv (isMild b) (every isMild l) e .1)
 
 -- the first m bytes, and the n bytes behind them
 joined : (m n : ℕ) (l : List ℕ) → Mild m l → Mild n (drop m l) → Mild (m + n) l
@@ -116,14 +127,13 @@ unfolding isPlain leads
 first-mild [] e = let z : _≡_ {A = ℕ} 0 1 = cc in absurd (omega arith)
 first-mild (b ∷ l) e = rw (plain-mild b e)
 
-ended : (n : ℕ) (l : List ℕ) → Mild n l → isDigits (drop n l) ≡ true → every isMild l ≡ true
-unfolding isDigits
+ended : (n : ℕ) (l : List ℕ) → Mild n l → every isMild (drop n l) ≡ true → every isMild l ≡ true
 ended n l e d =
-    let r : Mild (n + length (drop n l)) l = joined n (length (drop n l)) l e (digits-mild (length (drop n l)) (drop n l) d) in
+    let r : Mild (n + length (drop n l)) l = joined n (length (drop n l)) l e d in
     let k : n + length (drop n l) ≡ length l = rw length-drop (omega (arith, long n l e)) in
     rw k at r
 
-mild-by : (f : Family) (l : List ℕ) (t : ℕ) → isEasy f l ≡ true → isDigits (drop (firstStart f - 1) l) ≡ true → timeAt l 1 ≡ some t → every isMild l ≡ true
+mild-by : (f : Family) (l : List ℕ) (t : ℕ) → isEasy f l ≡ true → every isMild (drop (firstStart f - 1) l) ≡ true → timeAt l 1 ≡ some t → every isMild l ≡ true
 unfolding isEasy
 mild-by family.B l t e d h =
     let s = and-inv (isPlain (getD l 0 0)) (isFront l) e in
@@ -142,7 +152,7 @@ fields-by family.B l e = front-time l (and-inv (isPlain (getD l 0 0)) (isFront l
 fields-by family.K l e = refl
 
 -- such a line's time is all that is left to read
-pub easy-time : (f : Family) (l : List ℕ) → isEasy f l ≡ true → isDigits (drop (firstStart f - 1) l) ≡ true → timeAt l 1 ≡ cleanTime f l
+pub easy-time : (f : Family) (l : List ℕ) → isEasy f l ≡ true → every isMild (drop (firstStart f - 1) l) ≡ true → timeAt l 1 ≡ cleanTime f l
 unfolding cleanTime
 easy-time f l e d = rw (fields-by f l e) (by (timeAt l 1) refl (every isMild l) refl)
   where
@@ -151,6 +161,15 @@ easy-time f l e d = rw (fields-by f l e) (by (timeAt l 1) refl (every isMild l) 
     by none h false m = refl
     by (some t) h true m = refl
     by (some t) h false m = let z : _≡_ {A = Bool} false true = sym m ∙ mild-by f l t e d h in let y : _≡_ {A = ℕ} 0 1 = cc in absurd (omega arith)
+
+-- a line whose columns are not mild is not sure
+pub tail-not : (f : Family) (l : List ℕ) → every isMild (drop (firstStart f - 1) l) ≡ false → none ≡ cleanTime f l
+unfolding cleanTime
+tail-not f l n = by (every isMild l) refl
+  where
+    by : (t : Bool) → every isMild l ≡ t → none ≡ need t none λ _. fieldsTime f l
+    by true m = let z : _≡_ {A = Bool} false true = sym n ∙ behind (firstStart f - 1) l m in let y : _≡_ {A = ℕ} 0 1 = cc in absurd (omega arith)
+    by false m = refl
 
 -- ---- the tests in another order
 

@@ -11,12 +11,12 @@ use Rattle.rules.specs.Choice.{given, on, part, byte}
 use Rattle.rules.specs.Fields.{timeAt, timeTold}
 use Rattle.rules.specs.Layouts.{unused, entriesOf}
 use Rattle.rules.specs.Lines.{fixFields}
-use Rattle.rules.specs.Reads.{fixTold}
+use Rattle.rules.specs.Reads.{fixFieldsTold}
 use Rattle.rules.specs.Refusals.{Said, breaks}
 use Rattle.rules.specs.declared.Entry.{Entry}
-use Rattle.rules.specs.declared.Fix.{Fix}
-use Rattle.rules.specs.declared.FixRead.{FixRead}
-use Rattle.rules.specs.declared.FixRead.the-variants as fixRead
+use Rattle.rules.specs.declared.FixFields.{FixFields}
+use Rattle.rules.specs.declared.FixFieldsRead.{FixFieldsRead}
+use Rattle.rules.specs.declared.FixFieldsRead.the-variants as fixFieldsRead
 use Rattle.rules.specs.declared.Layout.{Layout}
 use Rattle.rules.specs.declared.Refusal.{Refusal}
 use Rattle.rules.specs.declared.Time.{Time}
@@ -86,17 +86,17 @@ module _ (l p : List ℕ) (i : ℕ) where
 pub clean-plain : (l : List ℕ) (r : Bool) → r ≡ every isPlain l → r ≡ true → true ≡ every isMild l
 clean-plain l r e t = sym (plain-is-mild l (sym e ∙ t))
 
-pub time-is : (l : List ℕ) (r : FixRead) (f : Fix) → fixTold r ≡ fixFields l → r ≡ fixRead.Is f → some (f .time) ≡ timeOf (fixFields l)
-unfolding fixTold
+pub time-is : (l : List ℕ) (r : FixFieldsRead) (f : FixFields) → fixFieldsTold r ≡ fixFields l → r ≡ fixFieldsRead.Is f → some (f .time) ≡ timeOf (fixFields l)
+unfolding fixFieldsTold
 time-is l r f e g = rw (← e, g)
 
-pub time-not : (l : List ℕ) (r : FixRead) (w : Refusal) → fixTold r ≡ fixFields l → r ≡ fixRead.Refused w → none ≡ timeOf (fixFields l)
-unfolding fixTold
+pub time-not : (l : List ℕ) (r : FixFieldsRead) (w : Refusal) → fixFieldsTold r ≡ fixFields l → r ≡ fixFieldsRead.Refused w → none ≡ timeOf (fixFields l)
+unfolding fixFieldsTold
 time-not l r w e g = rw (← e, g)
 
 -- ---- a line with a good front is read where its time is
 
-timed : (o : Option ℕ) (f : ℕ → Said Fix) → ((t : ℕ) → timeOf (f t) ≡ some t) → timeOf (given o (breaks class.Time 2) f) ≡ o
+timed : (o : Option ℕ) (f : ℕ → Said FixFields) → ((t : ℕ) → timeOf (f t) ≡ some t) → timeOf (given o (breaks class.Time 2) f) ≡ o
 timed none f e = refl
 timed (some t) f e = e t
 

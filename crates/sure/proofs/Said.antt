@@ -20,7 +20,7 @@ use Rattle.rules.specs.Refusals.{Said, says, refuses, no}
 use Rattle.rules.specs.declared.Entry.{Entry}
 use Rattle.rules.specs.declared.Family.{Family}
 use Rattle.rules.specs.declared.Family.the-variants as family
-use Rattle.rules.specs.declared.Fix.{Fix}
+use Rattle.rules.specs.declared.FixFields.{FixFields}
 use Rattle.rules.specs.declared.Layout.{Layout}
 use Rattle.plain.specs.Plain.{isMild, every}
 use Rattle.rules.proofs.Inverse.{and-inv}
@@ -159,16 +159,16 @@ parts f l size pattern t e =
     record { long = eqb-true (length l) size (a .0); mild = b .0; fields = c .0; columns = c .1 }
 
 -- a fix of this time is read
-record FixOf (s : Said Fix) (t : ℕ) : Type 0 where
-  fix : Fix
+record FieldsTimed (s : Said FixFields) (t : ℕ) : Type 0 where
+  fix : FixFields
   read : s ≡ says fix
   time : fix .time ≡ t
 
-fix-of : (s : Said Fix) (t : ℕ) → timeOf s ≡ some t → FixOf s t
-fix-of (says f) t e = record { fix = f; read = refl; time = cc }
-fix-of (refuses n l b) t e = let z : _≡_ {A = ℕ} 0 1 = cc in absurd (omega arith)
+fields-timed : (s : Said FixFields) (t : ℕ) → timeOf s ≡ some t → FieldsTimed s t
+fields-timed (says f) t e = record { fix = f; read = refl; time = cc }
+fields-timed (refuses n l b) t e = let z : _≡_ {A = ℕ} 0 1 = cc in absurd (omega arith)
 
-fix-said : (layout : Layout) (l : List ℕ) (f : Fix) → shapedBy (firstStart family.B) layout l ≡ says tt → fixFields l ≡ says f → columns l layout ≡ says tt → bLine layout l ≡ says f
+fix-said : (layout : Layout) (l : List ℕ) (f : FixFields) → shapedBy (firstStart family.B) layout l ≡ says tt → fixFields l ≡ says f → columns l layout ≡ says tt → bLine layout l ≡ says f
 unfolding bLine
 fix-said layout l f s r c = rw (s, r, c)
 
@@ -177,6 +177,6 @@ pub sure-columned : (f : Family) (layout : Layout) (l : List ℕ) (t : ℕ) → 
     → columnedLine f layout l ≡ says t
 unfolding columnedLine kLine fieldsTime
 sure-columned family.B layout l t a p =
-    let f = fix-of (fixFields l) t (p .fields) in
+    let f = fields-timed (fixFields l) t (p .fields) in
     rw (fix-said layout l (f .fix) (mild-shaped (firstStart family.B) layout l (p .long) (p .mild)) (f .read) (columns-said family.B l layout a (p .columns)), f .time)
 sure-columned family.K layout l t a p = rw (mild-shaped (firstStart family.K) layout l (p .long) (p .mild), p .fields, columns-said family.K l layout a (p .columns))

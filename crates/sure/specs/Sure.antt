@@ -17,7 +17,7 @@ use Rattle.rules.specs.Refusals.{Said, says, refuses}
 use Rattle.rules.specs.declared.Entry.{Entry}
 use Rattle.rules.specs.declared.Family.{Family}
 use Rattle.rules.specs.declared.Family.the-variants as family
-use Rattle.rules.specs.declared.Fix.{Fix}
+use Rattle.rules.specs.declared.FixFields.{FixFields}
 use Rattle.rules.specs.declared.Layout.{Layout}
 use Rattle.rules.specs.declared.Time.{Time}
 use Rattle.plain.specs.Plain.{isPlain, isMild, every}
@@ -43,7 +43,7 @@ keepsPattern l (a ∷ []) = true
 keepsPattern l (a ∷ e ∷ []) = true
 keepsPattern l (a ∷ e ∷ rule ∷ rest) = keepsAs rule (part (byte a) e l) && keepsPattern l rest
 
-abbrev pub timeOf : Said Fix → Option ℕ
+abbrev pub timeOf : Said FixFields → Option ℕ
 timeOf (says f) = some (f .time)
 timeOf (refuses n l b) = none
 

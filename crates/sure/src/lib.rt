@@ -3,14 +3,13 @@ ghost use mathlib.Core.Bool.{true};
 ghost use mathlib.Core.Path.{_≡_};
 ghost use lib.ListN.{drop};
 ghost use Rattle.rules.specs.Families.{firstStart};
-ghost use Rattle.rules.specs.Choice.{byte};
+ghost use Rattle.rules.specs.Choice.{byte, part};
 ghost use Rattle.rules.specs.Fields.{timeTold};
 ghost use Rattle.rules.specs.Lines.{fixFields};
-ghost use Rattle.rules.specs.Listed.{isDigits};
 ghost use Rattle.plain.specs.Plain.{isMild, every};
 ghost use Rattle.sure.specs.Sure.{ruleOf, keepsAs, keepsPattern, timeOf, fieldsTime, isOpen, isEasy, cleanTime, patternTime, PatternGiven, SureTold};
 use rules::Family;
-use rules::FixRead;
+use rules::FixFieldsRead;
 use rules::Layout;
 use rules::Time;
 
@@ -48,13 +47,14 @@ pub fn pattern(layout: Layout) -> [u8; 39]
     p
 }
 
-fn keeps(rule: u8, text: &[u8]) -> bool
-    ensures { λ r. ⌜ r ≡ keepsAs rule (now (text .entry)) ⌝ }
+// Whether the column of a line from its first to its last byte holds what it must. Any text will do where there is no rule, so that it is not looked at.
+fn keeps(line: &[u8], first: u8, last: u8, rule: u8) -> bool
+    ensures { λ r. ⌜ r ≡ keepsAs rule (part (byte first) last (now (line .entry))) ⌝ }
 {
     if rule == 0 {
         return true;
     }
-    plain::keeps_sign(rule == 2, text)
+    plain::keeps_sign(rule == 2, column::text_of(line, first, last))
 }
 
 // Whether every column of a line holds what the pattern says.
@@ -68,7 +68,7 @@ fn keeps_pattern(line: &[u8], pattern: &[u8]) -> bool
         let first = pattern[at];
         let last = pattern[at + 1];
         let rule = pattern[at + 2];
-        if !keeps(rule, column::text_of(line, first, last)) {
+        if !keeps(line, first, last, rule) {
             return false;
         }
         i += 1;
@@ -83,7 +83,7 @@ fn is_clean(line: &[u8]) -> bool
     if plain::is_plain(line) {
         return true;
     }
-    plain::is_mild(line)
+    plain::is_mild_from(line, 0)
 }
 
 // The time of a B line whose fields before its columns keep their rules. Where its bytes tell that the other fields do, none of them is read.
@@ -94,8 +94,8 @@ fn fix_time(line: &[u8]) -> Time
         return field::time_at(line, 1);
     }
     match fix::fix_fields(line) {
-        FixRead::Is(f) => Time::Secs(f.time),
-        FixRead::Refused(_) => Time::NoTime,
+        FixFieldsRead::Is(f) => Time::Secs(f.time),
+        FixFieldsRead::Refused(_) => Time::NoTime,
     }
 }
 
@@ -153,10 +153,10 @@ fn clean_time(family: Family, line: &[u8]) -> Time
     fields_time(family, line)
 }
 
-// The same for a line whose columns are digits. Where its bytes tell that its other fields keep their rules, its time is all that is left to read: what is read as a time,
-// what is within bounds, and digits are all mild.
-fn digits_time(family: Family, line: &[u8]) -> Time
-    requires { ⌜ isDigits (drop (byte (firstStart family)) (now line)) ≡ true ⌝ }
+// The same for a line whose columns are mild. Where its bytes tell that its other fields keep their rules, its time is all that is left to read: what is read as a time and
+// what is within bounds is mild too.
+fn tail_time(family: Family, line: &[u8]) -> Time
+    requires { ⌜ every isMild (drop (byte (firstStart family)) (now line)) ≡ true ⌝ }
     ensures { λ r. ⌜ timeTold r ≡ cleanTime family (now (line .entry)) ⌝ }
 {
     if is_easy(family, line) {
@@ -172,7 +172,10 @@ fn pattern_time(family: Family, line: &[u8], pattern: &[u8]) -> Time
     if !keeps_pattern(line, pattern) {
         return Time::NoTime;
     }
-    clean_time(family, line)
+    if !plain::is_mild_from(line, columns_from(family)) {
+        return Time::NoTime;
+    }
+    tail_time(family, line)
 }
 
 // The time of a line of this many bytes, all mild, whose fields keep their rules and whose columns are digits alone or hold what the pattern says. NoTime for any other line.
@@ -183,7 +186,7 @@ pub fn sure_line(family: Family, line: &[u8], size: usize, pattern: &[u8]) -> Ti
         return Time::NoTime;
     }
     if plain::is_digits_from(line, columns_from(family)) {
-        return digits_time(family, line);
+        return tail_time(family, line);
     }
     pattern_time(family, line, pattern)
 }

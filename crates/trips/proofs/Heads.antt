@@ -17,7 +17,7 @@ use Rattle.rules.specs.Chars.{isValid}
 use Rattle.rules.specs.Numbers.{numberAt, digitsOf}
 use Rattle.rules.specs.Fields.{timeAt, timeText, dateAt, dateText}
 use Rattle.rules.specs.Lines.{shaped, plannedAt, headFields, headLine}
-use Rattle.rules.specs.Reads.{headSaid, headRest}
+use Rattle.rules.specs.Reads.{headSaid}
 use Rattle.rules.specs.Writes.{plannedText, headText, sameHead, isHead}
 use Rattle.rules.specs.declared.Head.{Head}
 use Rattle.rules.specs.Limits.{isTime, isDate, isPlanned, isClean, goodHeadFields, goodHead}
@@ -30,7 +30,7 @@ use Rattle.trips.proofs.Times.{time-trip}
 use Rattle.trips.proofs.Dates.{date-trip}
 use Rattle.trips.proofs.Plans.{planned-trip}
 use Rattle.trips.proofs.Same.{head-tells}
-use Rattle.trips.proofs.LineTrip.{LineTrip, own, is-good, some-line}
+use Rattle.trips.proofs.LineTrip.{LineTrip, is-good}
 
 task-trip : Trip (λ s at. numberAt s at 4) (digitsOf 4) 4 (λ v. leb v 9999)
 task-trip = number-trip 4 9999 (omega arith) refl
@@ -166,25 +166,7 @@ head-trip = record {
       head-said _ h (text-here h rest (head-within h .0 (w .0)) (leb-true _ _ (n .0)) (n .1));
 }
 
--- ---- the theorems
-
--- read, then written: a line that reads as a head is that head's text
-pub head-read-written : (l : List ℕ) (h : Head) → headSaid l ≡ says h → l ≡ headText h (headRest l (says h))
-unfolding headRest
-head-read-written = head-trip .there
-
-module _ (h : Head) (rest : List ℕ) where
-  -- written, then read
-  pub head-written-read : isHead h rest ≡ true → (headSaid (headText h rest) ≡ says h) × (headRest (headText h rest) (says h) ≡ rest)
-  unfolding isHead headRest
-  head-written-read e = (own head-trip sameHead head-tells h rest .0 e, head-trip .behind h rest)
-
-  -- written exactly when some line reads as the head with that text
-  pub head-exactly : (isHead h rest ≡ true) ↔ ((l : List ℕ) × (headSaid l ≡ says h) × (headRest l (says h) ≡ rest))
-  unfolding isHead headRest
-  head-exactly = some-line head-trip sameHead head-tells h rest
-
-  -- and exactly when the head and the text keep to their limits
-  pub head-good : isHead h rest ≡ goodHead h rest
-  unfolding isHead
-  head-good = is-good head-trip sameHead head-tells h rest
+-- a head and a text can be written exactly when they keep to their limits
+pub head-good : (h : Head) (rest : List ℕ) → isHead h rest ≡ goodHead h rest
+unfolding isHead
+head-good h rest = is-good head-trip sameHead head-tells h rest

@@ -11,6 +11,7 @@ pub mod Same
 pub mod LineTrip
 pub mod Points
 pub mod Tails
+pub mod Columned
 pub mod Extras
 pub mod Heads
 pub mod Fixes

@@ -5,9 +5,9 @@ use mathlib.Core.List.{List}
 use mathlib.Core.Path.{_≡_, sym, _∙_, ap}
 use mathlib.Core.Logic.{_↔_}
 use lib.ListN.{drop}
-use Rattle.rules.specs.Refusals.{Said, says}
+use Rattle.rules.specs.Refusals.{Said, says, andThen}
 use Rattle.rules.specs.Writes.{reads}
-use Rattle.rules.proofs.Inverse.{bool-eq}
+use Rattle.rules.proofs.Inverse.{bool-eq, then-inv}
 use Rattle.trips.proofs.Same.{Tells, reads-says}
 
 -- A line reads as a value exactly when it is the value's own line, the value being good with what stands behind its fields, past `head` bytes.
@@ -24,16 +24,29 @@ module _ {A : Type 0} {said : List ℕ → Said A} {text : A → List ℕ → Li
 
   module _ (same : A → A → Bool) (tells : Tells same) (v : A) (rest : List ℕ) where
     -- the writers' test is that the value's own line reads as it
-    pub own : (reads same (said (text v rest)) v ≡ true) ↔ (said (text v rest) ≡ says v)
+    own : (reads same (said (text v rest)) v ≡ true) ↔ (said (text v rest) ≡ says v)
     own = reads-says same tells (said (text v rest)) v
 
     -- it holds exactly when the values are good
     pub is-good : reads same (said (text v rest)) v ≡ good v rest
     is-good = bool-eq _ _ (λ e. trip .limits v rest (own .0 e)) (λ g. own .1 (trip .here v rest g))
 
-    -- and exactly when some line reads as them
-    pub some-line : (reads same (said (text v rest)) v ≡ true) ↔ ((l : List ℕ) × (said l ≡ says v) × (drop head l ≡ rest))
-    some-line = (
-      λ e. (text v rest, own .0 e, trip .behind v rest),
-      λ t. own .1 (ap said (sym (trip .there (t .0) v (t .1) ∙ ap (text v) (t .2))) ∙ t .1),
-    )
+-- ---- values that others stand for, one to one
+
+module _ {A B : Type 0} (to : A → B) (from : B → A) (back : (v : A) → from (to v) ≡ v) where
+  -- what is said as w is said of the value that w stands for
+  pub said-from : (s : Said A) (w : B) → (andThen s λ v. says (to v)) ≡ says w → s ≡ says (from w)
+  said-from s w e =
+      let r = then-inv s w _ e in
+      let i : to (r .0) ≡ w = cc in
+      r .1 ∙ ap says (sym (back (r .0)) ∙ ap from i)
+
+  -- and the trip is the same
+  pub through : {said : List ℕ → Said A} {text : A → List ℕ → List ℕ} {head : ℕ} {good : A → List ℕ → Bool} → ((w : B) → to (from w) ≡ w) → LineTrip said text head good
+      → LineTrip (λ l. andThen (said l) λ v. says (to v)) (λ w. text (from w)) head (λ w. good (from w))
+  through forth trip = record {
+    there = λ l w e. trip .there l (from w) (said-from _ w e);
+    behind = λ w rest. trip .behind (from w) rest;
+    limits = λ w rest e. trip .limits (from w) rest (said-from _ w e);
+    here = λ w rest g. rw (trip .here (from w) rest g, forth w);
+  }

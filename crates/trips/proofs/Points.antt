@@ -17,7 +17,7 @@ use Rattle.rules.specs.Chars.{isValid}
 use Rattle.rules.specs.Fields.{latitudeAt, longitudeAt, latitudeText, longitudeText}
 use Rattle.rules.specs.Degrees.{isLatitude, isLongitude}
 use Rattle.rules.specs.Lines.{shaped, pointLine}
-use Rattle.rules.specs.Reads.{pointSaid, pointRest}
+use Rattle.rules.specs.Reads.{pointSaid}
 use Rattle.rules.specs.Writes.{pointText, samePoint, isPoint}
 use Rattle.rules.specs.declared.Point.{Point}
 use Rattle.rules.specs.Limits.{isClean, goodPoint}
@@ -26,7 +26,7 @@ use Rattle.trips.proofs.Laws.{past, byte-there}
 use Rattle.trips.proofs.Texts.{areValid, both-valid, front-there, front-here}
 use Rattle.trips.proofs.Positions.{latitude-trip, longitude-trip}
 use Rattle.trips.proofs.Same.{point-tells}
-use Rattle.trips.proofs.LineTrip.{LineTrip, own, is-good, some-line}
+use Rattle.trips.proofs.LineTrip.{LineTrip, is-good}
 
 -- what a point that was read says of the line
 pub record PointThere (l : List ℕ) (p : Point) : Type 0 where
@@ -114,25 +114,7 @@ point-trip = record {
   here = λ p rest g. point-said _ p (text-here p rest (point-within p rest .0 g));
 }
 
--- ---- the theorems
-
--- read, then written: a line that reads as a point is that point's text
-pub point-read-written : (l : List ℕ) (p : Point) → pointSaid l ≡ says p → l ≡ pointText p (pointRest l (says p))
-unfolding pointRest
-point-read-written = point-trip .there
-
-module _ (p : Point) (rest : List ℕ) where
-  -- written, then read
-  pub point-written-read : isPoint p rest ≡ true → (pointSaid (pointText p rest) ≡ says p) × (pointRest (pointText p rest) (says p) ≡ rest)
-  unfolding isPoint pointRest
-  point-written-read e = (own point-trip samePoint point-tells p rest .0 e, point-trip .behind p rest)
-
-  -- written exactly when some line reads as the point with that text
-  pub point-exactly : (isPoint p rest ≡ true) ↔ ((l : List ℕ) × (pointSaid l ≡ says p) × (pointRest l (says p) ≡ rest))
-  unfolding isPoint pointRest
-  point-exactly = some-line point-trip samePoint point-tells p rest
-
-  -- and exactly when the point and the text keep to their limits
-  pub point-good : isPoint p rest ≡ goodPoint p rest
-  unfolding isPoint
-  point-good = is-good point-trip samePoint point-tells p rest
+-- a point and a text can be written exactly when they keep to their limits
+pub point-good : (p : Point) (rest : List ℕ) → isPoint p rest ≡ goodPoint p rest
+unfolding isPoint
+point-good p rest = is-good point-trip samePoint point-tells p rest

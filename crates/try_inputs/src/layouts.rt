@@ -19,38 +19,33 @@ fn one(first: u8, last: u8) -> Layout {
     layout
 }
 
-// HDT from byte 36 to 38, and a second entry.
-fn two(first: u8, last: u8, code: u32) -> Layout {
-    let mut layout = one(36, 38);
-    layout.entries[1] = Entry { first, last, code };
-    layout.count = 2;
-    layout
-}
-
-fn counted(count: usize) -> Layout {
-    let mut layout = two(39, 41, 0x484D54);
-    layout.count = count;
-    layout
-}
-
 // The answer and the whole output.
 fn print(answer: Wrote, out: &[u8]) {
     match answer {
-        Wrote::Next(place) => {
-            io::write_all(STDOUT_FILENO, b"WROTE ");
-            io::print_decimal(STDOUT_FILENO, place as u64);
-            io::write_all(STDOUT_FILENO, b"\n");
+        Wrote::Next(_) => {
+            io::write_all(STDOUT_FILENO, b"WROTE\n");
         }
-        Wrote::Refused(why) => lister::print_refusal(why),
+        Wrote::Refused(why) => {
+            lister::print_refusal(why);
+        }
     }
     io::write_all(STDOUT_FILENO, out);
     io::write_all(STDOUT_FILENO, b"\n");
 }
 
-fn layout(family: Family, layout: Layout) {
+// The I or J line of a layout.
+fn put_line(family: Family, layout: Layout) {
     let mut out = [46u8; 24];
     let r = write::layout(family, layout, &mut out, 0);
     print(r, &out);
+}
+
+// The I line of a layout with HDT from byte 36 to 38, and a second entry.
+fn second(first: u8, last: u8, code: u32, count: usize) {
+    let mut layout = one(36, 38);
+    layout.entries[1] = Entry { first, last, code };
+    layout.count = count;
+    put_line(Family::B, layout);
 }
 
 // A K line by the layout of an I line.
@@ -83,15 +78,15 @@ fn fix() {
 
 // The first start, a width, a finish below its start, a gap, a code twice, a character that is no code's, a finish over 99, a count that leaves an entry out, and one over 13.
 pub fn write() {
-    layout(Family::B, one(35, 38));
-    layout(Family::K, one(8, 9));
-    layout(Family::B, two(39, 38, 0x5A5A5A));
-    layout(Family::B, two(40, 42, 0x5A5A5A));
-    layout(Family::B, two(39, 41, 0x484454));
-    layout(Family::B, two(39, 41, 0x5A5A7A));
-    layout(Family::B, two(39, 100, 0x5A5A5A));
-    layout(Family::B, counted(1));
-    layout(Family::B, counted(14));
+    put_line(Family::B, one(35, 38));
+    put_line(Family::K, one(8, 9));
+    second(39, 38, 0x5A5A5A, 2);
+    second(40, 42, 0x5A5A5A, 2);
+    second(39, 41, 0x484454, 2);
+    second(39, 41, 0x5A5A7A, 2);
+    second(39, 100, 0x5A5A5A, 2);
+    second(39, 41, 0x484D54, 1);
+    second(39, 41, 0x484D54, 14);
     extra();
     fix();
 }

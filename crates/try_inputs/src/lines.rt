@@ -8,6 +8,7 @@ use rules::Kind;
 use rules::Layout;
 use rules::Outcome;
 use rules::PointRead;
+use rules::Refusal;
 use rules::TimeRead;
 
 // The layouts of B and K lines that the lines so far have told.
@@ -27,60 +28,60 @@ fn pass() {
     io::write_all(STDOUT_FILENO, b"PASS\n");
 }
 
+// What is lost of the output is missed where it is compared with what it must be.
+fn print_refusal(why: Refusal) {
+    lister::print_refusal(why);
+}
+
 fn print_outcome(outcome: Outcome) {
     match outcome {
         Outcome::Accepted => pass(),
-        Outcome::Refused(why) => lister::print_refusal(why),
+        Outcome::Refused(why) => print_refusal(why),
     }
 }
 
 fn print_time(read: TimeRead) {
     match read {
         TimeRead::Secs(_) => pass(),
-        TimeRead::Refused(why) => lister::print_refusal(why),
+        TimeRead::Refused(why) => print_refusal(why),
     }
 }
 
 fn print_date(line: &[u8]) {
     match read::date(line) {
         DateRead::On(_) => pass(),
-        DateRead::Refused(why) => lister::print_refusal(why),
+        DateRead::Refused(why) => print_refusal(why),
     }
 }
 
 fn print_head(line: &[u8]) {
     match read::head(line) {
         HeadRead::Is(_) => pass(),
-        HeadRead::Refused(why) => lister::print_refusal(why),
+        HeadRead::Refused(why) => print_refusal(why),
     }
 }
 
 fn print_point(line: &[u8]) {
     match read::point(line) {
         PointRead::Is(_) => pass(),
-        PointRead::Refused(why) => lister::print_refusal(why),
+        PointRead::Refused(why) => print_refusal(why),
     }
 }
 
 fn print_fix(line: &[u8], layout: Layout) {
     match read::fix(line, layout) {
         FixRead::Is(f) => {
-            lister::print_fix(0, f);
+            lister::print_fix(0, limits::fields_of(f));
             lister::print_columns(line, layout);
         }
-        FixRead::Refused(why) => lister::print_refusal(why),
+        FixRead::Refused(why) => print_refusal(why),
     }
 }
 
-fn print_layout(family: Family, line: &[u8]) {
-    let read = read::layout_of(family, line);
-    let outcome = read.outcome;
-    print_outcome(outcome);
-}
-
-// What the readers of a line's kind say of it; an H line is read as a date line and as another, a C line as a head and as a point.
-fn print_line(line: &[u8], fixes: Layout, extras: Layout) {
-    match line::kind_of(chars::byte(line, 0)) {
+// What the readers of a line's kind say of it, where it tells no layout; an H line is read as a date line and as another, a C line as a head and as a point, and a line of
+// no kind as an event.
+fn print_line(kind: Kind, line: &[u8], fixes: Layout, extras: Layout) {
+    match kind {
         Kind::A => print_outcome(line::recorder(line)),
         Kind::B => print_fix(line, fixes),
         Kind::C => {
@@ -88,29 +89,33 @@ fn print_line(line: &[u8], fixes: Layout, extras: Layout) {
             print_point(line);
         }
         Kind::D => print_outcome(line::differential(line)),
-        Kind::E => print_time(read::event(line)),
         Kind::F => print_time(read::satellites(line)),
         Kind::G => print_outcome(shape::shaped(line, 2, 255, false)),
         Kind::H => {
             print_date(line);
             print_outcome(line::header(line));
         }
-        Kind::I => print_layout(Family::B, line),
-        Kind::J => print_layout(Family::K, line),
         Kind::K => print_time(read::extra(line, extras)),
         Kind::L => print_outcome(shape::shaped(line, 1, 99, false)),
         Kind::Other => print_outcome(shape::shaped(line, 1, 255, false)),
-        Kind::NoKind => print_time(read::event(line)),
+        _ => print_time(read::event(line)),
     }
 }
 
-fn next_layout(family: Family, line: &[u8], old: Layout) -> Layout {
+// What is said of an I or J line, and the layout that is told after it: the old one, where it is refused.
+fn print_layout(family: Family, line: &[u8], old: Layout) -> Layout {
     let read = read::layout_of(family, line);
     let outcome = read.outcome;
     let layout = read.layout;
     match outcome {
-        Outcome::Accepted => layout,
-        Outcome::Refused(_) => old,
+        Outcome::Accepted => {
+            pass();
+            layout
+        }
+        Outcome::Refused(why) => {
+            lister::print_refusal(why);
+            old
+        }
     }
 }
 
@@ -118,9 +123,19 @@ fn next_layout(family: Family, line: &[u8], old: Layout) -> Layout {
 pub fn read(line: &[u8], told: Told) -> Told {
     let fixes = told.fixes;
     let extras = told.extras;
-    print_line(line, fixes, extras);
-    Told {
-        fixes: next_layout(Family::B, line, fixes),
-        extras: next_layout(Family::K, line, extras),
+    let kind = line::kind_of(chars::byte(line, 0));
+    match kind {
+        Kind::I => Told {
+            fixes: print_layout(Family::B, line, fixes),
+            extras,
+        },
+        Kind::J => Told {
+            fixes,
+            extras: print_layout(Family::K, line, extras),
+        },
+        _ => {
+            print_line(kind, line, fixes, extras);
+            told
+        }
     }
 }

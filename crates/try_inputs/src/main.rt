@@ -1,4 +1,4 @@
-// Lists each argument that is a file's name, and reads each other one as a line; then checks files at the size limit, and writes by layouts that no line tells.
+// Lists each argument that names a file, and reads each other one as a line; then checks files at the size limit, and writes by layouts that no line tells.
 mod files;
 mod large;
 mod layouts;
@@ -10,11 +10,12 @@ use lines::Told;
 fn take(i: usize, told: Told) -> Told {
     let mut word = io::buffer();
     let n = os::arg(i, &mut word);
-    if files::is_name(&word[..n]) {
-        files::list(&word[..n]);
-        return told;
+    let fd = os::open_read(&word[..n]);
+    if fd < 0 {
+        return lines::read(&word[..n], told);
     }
-    lines::read(&word[..n], told)
+    files::list(&word[..n], fd);
+    told
 }
 
 fn main() {

@@ -11,7 +11,7 @@ use Rattle.rules.specs.Choice.{on}
 use Rattle.rules.specs.Families.{firstStart, layoutLetter}
 use Rattle.rules.specs.Refusals.{says}
 use Rattle.rules.specs.Lines.{layoutLine}
-use Rattle.rules.specs.Roles.{isPlain, afterH, afterLayout, inBody, afterG, leading, stageAfter}
+use Rattle.rules.specs.Roles.{isBare, afterH, afterLayout, inBody, afterG, leading, stageAfter}
 use Rattle.rules.specs.Order.{fitsDeclaration, orderOf, moved, laidOut, judge}
 use Rattle.rules.specs.Files.{endsAfter}
 use Rattle.rules.specs.Reads.{layoutSaid}
@@ -83,20 +83,20 @@ module _ (low : ℕ) where
   unfolding stageAfter
   tells-behind f h = record { high = afterLayout f - 1; next = afterLayout f; far = omega arith; leads = λ s p. refl }
 
-  pub plain-behind : (r : Role) → isPlain r ≡ true → low < inBody → Behind low r
+  pub bare-behind : (r : Role) → isBare r ≡ true → low < inBody → Behind low r
   unfolding stageAfter
-  plain-behind role.Opens x h = absurd (false-true x)
-  plain-behind role.Heads x h = absurd (false-true x)
-  plain-behind (role.Tells f) x h = absurd (false-true x)
-  plain-behind (role.Columned f) x h = absurd (false-true x)
-  plain-behind role.Declares x h = behind-body role.Declares (λ s. refl) h
-  plain-behind role.Event x h = behind-body role.Event (λ s. refl) h
-  plain-behind role.Satellites x h = behind-body role.Satellites (λ s. refl) h
-  plain-behind role.Differential x h = behind-body role.Differential (λ s. refl) h
-  plain-behind role.Seals x h = record { high = afterG; next = afterG; far = omega arith; leads = λ s p. refl }
-  plain-behind role.Remark x h = record { high = inBody; next = inBody; far = omega arith; leads = λ s p. rw (le-leb s inBody (omega arith)) }
-  plain-behind role.Other x h = behind-body role.Other (λ s. refl) h
-  plain-behind role.NoRole x h = absurd (false-true x)
+  bare-behind role.Opens x h = absurd (false-true x)
+  bare-behind role.Heads x h = absurd (false-true x)
+  bare-behind (role.Tells f) x h = absurd (false-true x)
+  bare-behind (role.Columned f) x h = absurd (false-true x)
+  bare-behind role.Declares x h = behind-body role.Declares (λ s. refl) h
+  bare-behind role.Event x h = behind-body role.Event (λ s. refl) h
+  bare-behind role.Satellites x h = behind-body role.Satellites (λ s. refl) h
+  bare-behind role.Differential x h = behind-body role.Differential (λ s. refl) h
+  bare-behind role.Seals x h = record { high = afterG; next = afterG; far = omega arith; leads = λ s p. refl }
+  bare-behind role.Remark x h = record { high = inBody; next = inBody; far = omega arith; leads = λ s p. rw (le-leb s inBody (omega arith)) }
+  bare-behind role.Other x h = behind-body role.Other (λ s. refl) h
+  bare-behind role.NoRole x h = absurd (false-true x)
 
   module _ (t : List ℕ) (b : Behind low (roleIn t)) (st : State) (early : st .stage ≤ low) where
     -- it comes behind the front

@@ -2,13 +2,12 @@
 use Prim.Native.Nat.{ℕ, _<_}
 use mathlib.Core.Bool.{true, false}
 use mathlib.Core.List.{List, [], _∷_}
-use mathlib.Core.Option.{some}
 use mathlib.Core.Path.{_≡_, refl}
 use native.Mathlib.Omega.{arith}
 use lib.Dec.{lit<}
 use lib.ListN.{getD}
 use Rattle.rules.specs.Choice.{byte}
-use Rattle.rules.specs.Families.{firstStart, lineLetter, layoutLetter, familyOf, layoutOf, withLayout}
+use Rattle.rules.specs.Families.{firstStart, lineLetter, layoutLetter, layoutOf, withLayout}
 use Rattle.rules.specs.Layouts.{emptyLayout}
 use Rattle.rules.specs.Lines.{kindOf}
 use Rattle.rules.specs.Roles.{sameFamily, afterH, afterLayout, inBody}
@@ -21,11 +20,6 @@ use Rattle.laws.proofs.Passing.{roleIn}
 use Rattle.wider.specs.Wider.{families, noLayouts}
 
 -- ---- a family's lines by their first byte
-
-pub family-of : (f : Family) → familyOf (lineLetter f) ≡ some f
-unfolding familyOf
-family-of family.B = refl
-family-of family.K = refl
 
 pub columned-role : (f : Family) (l : List ℕ) → getD l 0 0 ≡ lineLetter f → roleIn l ≡ role.Columned f
 unfolding kindOf

@@ -9,7 +9,7 @@ use lib.ListN.{length, getD}
 use Rattle.rules.specs.Families.{firstStart, lineLetter, layoutOf}
 use Rattle.rules.specs.Refusals.{says}
 use Rattle.rules.specs.Lines.{kindOf, columnedLine}
-use Rattle.rules.specs.Roles.{isRole, isPlain, isDeclaring, sameFamily, isOf, stageAfter}
+use Rattle.rules.specs.Roles.{isRole, isBare, isDeclaring, sameFamily, isOf, stageAfter}
 use Rattle.rules.specs.Order.{fitsDeclaration, orderOf, moved, judge}
 use Rattle.rules.specs.declared.Layouts.{Layouts}
 use Rattle.rules.specs.declared.Family.{Family}
@@ -17,14 +17,15 @@ use Rattle.rules.specs.declared.Role.{Role}
 use Rattle.rules.specs.declared.Role.the-variants as role
 use Rattle.rules.specs.declared.Flight.{Flight}
 use Rattle.rules.specs.declared.State.{State}
-use Rattle.rules.proofs.Inverse.{none-some, false-true, need-inv, then-inv}
+use Rattle.rules.proofs.Inverse.{none-some, false-true, need-inv}
 use Rattle.laws.proofs.Passing.{roleIn, Leaves, opens, date, header, layout, columned, head, point, event, satellites, differential, seals, remark, other, judged, judged-so}
+use Rattle.trips.proofs.Columned.{line-timed, timed-line, said-by, by-said}
 use Rattle.sound.proofs.Placed.{Sound}
 use Rattle.wider.specs.Wider.{WiderLine}
-use Rattle.wider.specs.Before.{saidOf, AsBefore}
+use Rattle.wider.specs.Before.{AsBefore}
 use Rattle.wider.proofs.Lists.{Pairs}
 use Rattle.wider.proofs.Families.{columned-role, Beside, one, apart, beside}
-use Rattle.wider.proofs.OneLine.{reading, says-same, as-before}
+use Rattle.wider.proofs.OneLine.{says-same, as-before}
 
 -- ---- the state of the new file
 
@@ -67,20 +68,20 @@ abbrev Quiet : Layouts → ℕ → List ℕ → State → Role → State → Typ
 Quiet new n l m r after =
     Leaves l (wide new n m) r (wide new n after) × (after .flight .layouts ≡ m .flight .layouts) × ((g : Family) → isOf g r ≡ false)
 
-plain-left : (new : Layouts) (n : ℕ) {l : List ℕ} {m : State} {r : Role} {after : State} → isPlain r ≡ true → Leaves l m r after → Quiet new n l m r after
-plain-left new n p (opens e) = absurd (false-true p)
-plain-left new n p (date d z e) = absurd (false-true p)
-plain-left new n p (header z e) = absurd (false-true p)
-plain-left new n p (layout f i e) = absurd (false-true p)
-plain-left new n p (columned f t e o) = absurd (false-true p)
-plain-left new n p (head h z e) = (head h z e, refl, λ g. refl)
-plain-left new n p (point q z e) = (point q z e, refl, λ g. refl)
-plain-left new n p (event t e o) = (event t e o, refl, λ g. refl)
-plain-left new n p (satellites t e o) = (satellites t e o, refl, λ g. refl)
-plain-left new n p (differential e) = (differential e, refl, λ g. refl)
-plain-left new n p (seals e) = (seals e, refl, λ g. refl)
-plain-left new n p (remark e) = (remark e, refl, λ g. refl)
-plain-left new n p (other e) = (other e, refl, λ g. refl)
+bare-left : (new : Layouts) (n : ℕ) {l : List ℕ} {m : State} {r : Role} {after : State} → isBare r ≡ true → Leaves l m r after → Quiet new n l m r after
+bare-left new n p (opens e) = absurd (false-true p)
+bare-left new n p (date d z e) = absurd (false-true p)
+bare-left new n p (header z e) = absurd (false-true p)
+bare-left new n p (layout f i e) = absurd (false-true p)
+bare-left new n p (columned f t e o) = absurd (false-true p)
+bare-left new n p (head h z e) = (head h z e, refl, λ g. refl)
+bare-left new n p (point q z e) = (point q z e, refl, λ g. refl)
+bare-left new n p (event t e o) = (event t e o, refl, λ g. refl)
+bare-left new n p (satellites t e o) = (satellites t e o, refl, λ g. refl)
+bare-left new n p (differential e) = (differential e, refl, λ g. refl)
+bare-left new n p (seals e) = (seals e, refl, λ g. refl)
+bare-left new n p (remark e) = (remark e, refl, λ g. refl)
+bare-left new n p (other e) = (other e, refl, λ g. refl)
 
 -- the lines of a family, each as before
 abbrev pub Paired : Layouts → Layouts → Family → List (List ℕ) → List (List ℕ) → Type 0
@@ -96,11 +97,11 @@ pub record Stepped (old new : Layouts) (n : ℕ) (st after : State) (t t′ : Li
   pub layouts : after .flight .layouts ≡ st .flight .layouts
   pub pairs : (g : Family) (xs ys : List (List ℕ)) → Paired old new g xs ys → Paired old new g (withLine g t xs) (withLine g t′ ys)
 
-pub plain-step : (old new : Layouts) (n : ℕ) (t : List ℕ) (st after : State) → isPlain (roleIn t) ≡ true → judge t st ≡ says after → Stepped old new n st after t t
+pub bare-step : (old new : Layouts) (n : ℕ) (t : List ℕ) (st after : State) → isBare (roleIn t) ≡ true → judge t st ≡ says after → Stepped old new n st after t t
 unfolding orderOf fitsDeclaration
-plain-step old new n t st after p h =
+bare-step old new n t st after p h =
     let j = judged t st after h in
-    let q = plain-left new (n + 1) p (j .left) in
+    let q = bare-left new (n + 1) p (j .left) in
     record {
       judges = judged-so t _ _ (record { long = j .long; known = j .known; stage = j .stage; order = j .order; left = q .0 });
       layouts = q .1;
@@ -115,12 +116,11 @@ module _ (f : Family) (old new : Layouts) (t t′ : List ℕ) (so : Sound (first
       → Leaves t′ (wide new n m) (role.Columned f) (wide new n after) × (after .flight .layouts ≡ m .flight .layouts) × (getD t′ 0 0 ≡ lineLetter f)
       × AsBefore f (layoutOf f old) (layoutOf f new) t t′
   columned-left n m after p (columned g x e o) =
-      let r = reading g in
-      let v = then-inv (saidOf g t (layoutOf g old)) x _ (sym (r .timed t (layoutOf g old) k (so .right)) ∙ rw (← p) e) in
-      let again = says-same g (layoutOf g old) (layoutOf g new) t t′ (v .0) so′ w (v .1) in
-      let k′ = r .begins t′ (layoutOf g new) (v .0) again in
-      let e′ : columnedLine g (layoutOf g new) t′ ≡ says x = r .timed t′ (layoutOf g new) k′ (so′ .right) ∙ rw again (v .2) in
-      (columned g x e′ o, refl, k′, as-before g (layoutOf g old) (layoutOf g new) t t′ (v .0) so′ w (v .1))
+      let v = timed-line g (layoutOf g old) t x (rw (← p) e) in
+      let said = said-by g t (layoutOf g old) (v .0) k (so .right) (v .1) in
+      let again = by-said g t′ (layoutOf g new) (v .0) (says-same g (layoutOf g old) (layoutOf g new) t t′ (v .0) so′ w said) in
+      let e′ : columnedLine g (layoutOf g new) t′ ≡ says x = line-timed g (layoutOf g new) t′ (v .0) (again .2) ∙ ap says (v .2) in
+      (columned g x e′ o, refl, again .0, as-before g (layoutOf g old) (layoutOf g new) t t′ (v .0) so′ w said)
 
   pairs-with : AsBefore f (layoutOf f old) (layoutOf f new) t t′ → (g : Family) → Beside f g → (xs ys : List (List ℕ)) → Paired old new g xs ys
       → Paired old new g (cond (sameFamily g f) (t ∷ xs) xs) (cond (sameFamily g f) (t′ ∷ ys) ys)

@@ -1,13 +1,11 @@
 -- What added columns leave as it is, whatever a file says: the lines without columns; how many lines there are more; the old bits of the presence word. Assumes nothing.
-use Prim.Native.Nat.{ℕ, suc, _+_, _-_, _*_, _^_, _<_}
+use Prim.Native.Nat.{ℕ, suc, _+_, _-_, _<_}
 use mathlib.Core.Bool.{Bool, true, false, not, _&&_, cond}
 use mathlib.Core.List.{List, [], _∷_}
 use mathlib.Core.Option.{none, some}
 use mathlib.Core.Path.{_≡_, refl, sym, ap, _∙_}
-use native.Mathlib.Nat.{add-mul, zero-mul, mul-one, pow-suc}
+use native.Mathlib.Nat.{add-mul}
 use native.Mathlib.Omega.{arith}
-use lib.Count.{ones, ones-cat}
-use lib.Dec.{lit<}
 use lib.ListN.{length, getD, take}
 use lib.Seq.{getD-take}
 use Rattle.rules.specs.Listed.{listed}
@@ -25,6 +23,7 @@ use Rattle.rules.proofs.Inverse.{none-some, false-true, given-inv}
 use Rattle.laws.proofs.Splitting.{textsOf}
 use Rattle.laws.proofs.Passing.{roleIn}
 use Rattle.laws.proofs.Counted.{one, tally}
+use Rattle.basics.proofs.Presence.{set-bits, count-bits}
 use Rattle.wider.specs.Wider.{Extends, widthIn, AfterLayouts, done, same, columned, LayoutLines, all, without, changed, put, Wider, front, from}
 use Rattle.wider.specs.Before.{linesWith, linesOfFamily, addedFrom, addedIn, MoreBits, putInto, putIn}
 use Rattle.sound.proofs.Placed.{Sound}
@@ -93,35 +92,6 @@ family-tallied f (line t ls) = by (isOf f (roleIn t)) (family-tallied f ls)
 
 -- ---- the presence word
 
--- the word from its highest bit down, and how many bits are set
-horner : Layout → List Listed → ℕ
-horner l [] = 0
-horner l (r ∷ rs) = horner l rs * 2 + bit l r
-
-set-bits : Layout → List Listed → ℕ
-set-bits l [] = 0
-set-bits l (r ∷ rs) = bit l r + set-bits l rs
-
-word-horner : (l : Layout) (rs : List Listed) (n : ℕ) → wordFrom l rs n ≡ horner l rs * 2 ^ n
-unfolding wordFrom horner
-word-horner l [] n = sym (zero-mul (2 ^ n))
-word-horner l (r ∷ rs) n = rw (word-horner l rs (suc n), pow-suc) (omega arith)
-
-small : (b : Bool) → (cond b 1 0 < 2) × (ones (cond b 1 0) ≡ cond b 1 0)
-unfolding ones
-small true = (lit< tt, refl)
-small false = (lit< tt, refl)
-
-ones-horner : (l : Layout) (rs : List Listed) → ones (horner l rs) ≡ set-bits l rs
-unfolding ones horner set-bits
-ones-horner l [] = refl
-ones-horner l (r ∷ rs) =
-    let b = small (carries l (r .code)) in
-    ones-cat 1 (horner l rs) (bit l r) (b .0) ∙ omega (arith, ones-horner l rs, b .1)
-
-count-bits : (l : Layout) → ones (wordFrom l listed 0) ≡ set-bits l listed
-count-bits l = ap ones (word-horner l listed 0 ∙ mul-one (horner l listed)) ∙ ones-horner l listed
-
 module _ (old new : Layout) (x : Extends old new) where
   -- what the old layout carries, the new one carries
   pub carried : (c : ℕ) → carries old c ≡ true → carries new c ≡ true
@@ -159,5 +129,5 @@ module _ (old new : Layout) (x : Extends old new) where
     old-said = rw (s .right);
     new-said = rw (s′ .right);
     word = more-bits listed 0;
-    count = count-bits new ∙ more-set listed ∙ ap (λ n. n + addedIn old new listed) (sym (count-bits old));
+    count = count-bits new listed ∙ more-set listed ∙ ap (λ n. n + addedIn old new listed) (sym (count-bits old listed));
   }

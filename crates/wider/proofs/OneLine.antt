@@ -1,40 +1,35 @@
 -- One line with added columns, over the family: it says what the line said before, and so do its old columns. Assumes nothing.
 use Prim.Native.Nat.{ℕ, suc, _+_, _-_, _≤_}
 use mathlib.Core.Bool.{Bool, true, false}
-use mathlib.Core.List.{List, [], _++_, append-assoc, append-nil}
+use mathlib.Core.List.{List, [], _++_}
 use mathlib.Core.Option.{Option, none, some}
 use mathlib.Core.Path.{_≡_, refl, sym, ap, _∙_}
 use native.Mathlib.Omega.{arith}
-use borrow.Author.Tests.{eq-eqb}
-use lib.ListN.{length, getD, take, drop, length-append, take-append-drop}
+use lib.ListN.{length, take, drop, take-append-drop}
 use lib.Seq.{take-at}
-use Rattle.rules.specs.Choice.{need, byte, Each}
-use Rattle.rules.specs.Families.{firstStart, lineLetter}
-use Rattle.rules.specs.Refusals.{Said, says, refuses, andThen}
+use Rattle.rules.specs.Choice.{byte, Each}
+use Rattle.rules.specs.Families.{firstStart}
+use Rattle.rules.specs.Refusals.{says}
 use Rattle.rules.specs.Chars.{characters, firstInvalid}
 use Rattle.rules.specs.Listed.{packedOf, keepsRule}
 use Rattle.rules.specs.Layouts.{Span, entriesOf, spanOf, look, carries, allowed, lineLength, columnText, columns}
-use Rattle.rules.specs.Lines.{shapedBy, kLine, columnedLine}
-use Rattle.rules.specs.Reads.{fixSaid, extraSaid, entriesSaid, columnSaid, numberSaid}
-use Rattle.rules.specs.Writes.{fixText, extraText}
+use Rattle.rules.specs.Lines.{shapedBy, FieldsIn}
+use Rattle.rules.specs.Reads.{fieldsSaid, valueFrom, columnSaid, numberSaid}
 use Rattle.rules.specs.declared.Entry.{Entry}
 use Rattle.rules.specs.declared.Layout.{Layout}
 use Rattle.rules.specs.declared.Family.{Family}
 use Rattle.rules.specs.declared.Family.the-variants as family
-use Rattle.rules.specs.declared.Fix.{Fix}
-use Rattle.rules.specs.Limits.{isClean, isTime, goodTail, goodExtra, goodFixFields, goodFix}
+use Rattle.rules.specs.Limits.{isClean}
 use Rattle.rules.proofs.Inverse.{none-some, false-true, given-inv, need-inv, and-inv}
 use Rattle.trips.proofs.Texts.{areValid, both-valid, valid-join, clean-valid, nothing-there, shaped-there, shaped-here}
 use Rattle.trips.proofs.Tails.{tail-there}
-use Rattle.trips.proofs.LineTrip.{LineTrip, line-limits}
-use Rattle.trips.proofs.Times.{time-trip}
-use Rattle.trips.proofs.Positions.{latitude-trip, longitude-trip}
-use Rattle.trips.proofs.Altitudes.{altitude-trip}
-use Rattle.trips.proofs.Extras.{extra-there, extra-trip}
-use Rattle.trips.proofs.Fixes.{fix-there, fix-trip}
+use Rattle.trips.proofs.LineTrip.{line-limits}
+use Rattle.trips.proofs.Columned.{Fronted, fields-trip, by-said, value-said, entries-said}
+use Rattle.trips.proofs.Extras.{extra-front}
+use Rattle.trips.proofs.Fixes.{fix-front}
 use Rattle.wider.specs.Wider.{textIn, KeepsRules, WiderLine}
-use Rattle.wider.specs.Before.{ValueOf, saidOf, textSaid, AsBefore}
-use Rattle.wider.proofs.Families.{family-of}
+use Rattle.wider.specs.Before.{textSaid, AsBefore}
+use Rattle.wider.proofs.Families.{first-byte}
 use Rattle.sound.proofs.Each.{each-map, each-both}
 use Rattle.sound.proofs.Placed.{Sound}
 use Rattle.sound.proofs.Columns.{carried-there, each-at, each-looked, ruled-there, ruled-here, columns-valid}
@@ -107,84 +102,44 @@ module _ (start : ℕ) (old new : Layout) (l l′ : List ℕ) (w : WiderLine sta
           ruled = ruled-here l′ new (each-map (entriesOf new) (λ e m. m .1) new-meets);
         }
 
--- ---- the readings of a line
+-- ---- what a line spells before its columns
 
--- A family's lines by their layouts: what one says, its time too, depends on the fields before the columns alone, once the line passes its checks.
-pub record Reading (f : Family) : Type 0 where
-  pub first : 1 ≤ firstStart f
-  pub begins : (l : List ℕ) (layout : Layout) (v : ValueOf f) → saidOf f l layout ≡ says v → getD l 0 0 ≡ lineLetter f
-  pub passed : (l : List ℕ) (layout : Layout) (v : ValueOf f) → saidOf f l layout ≡ says v → Checked (firstStart f) layout l
-  pub fields : (l l′ : List ℕ) (old new : Layout) (v : ValueOf f) → saidOf f l old ≡ says v → take (byte (firstStart f)) l′ ≡ take (byte (firstStart f)) l
-      → Checked (firstStart f) new l′ → saidOf f l′ new ≡ says v
-  pub time : ValueOf f → ℕ
-  pub timed : (l : List ℕ) (layout : Layout) → getD l 0 0 ≡ lineLetter f → allowed (firstStart f) layout ≡ true
-      → columnedLine f layout l ≡ andThen (saidOf f l layout) λ v. says (time v)
+module _ {f : Family} {At : List ℕ → FieldsIn f → Type 0} {text : FieldsIn f → List ℕ → List ℕ} {within : FieldsIn f → Bool} (front : Fronted f At text within) where
+  front-passed : (l : List ℕ) (layout : Layout) (v : FieldsIn f) → fieldsSaid f l layout ≡ says v → Checked (firstStart f) layout l
+  front-passed l layout v e =
+      let w = by-said f l layout v e in
+      let p = front .passes layout l v .0 (w .2) in
+      record { right = w .1; shape = p .shape; ruled = p .ruled }
 
-module _ {A : Type 0} (start : ℕ) (said : List ℕ → Layout → Said A) (text : A → List ℕ → List ℕ) (good : A → Bool)
-    (trip : (layout : Layout) → LineTrip (λ l. said l layout) text (byte start) (λ v tail. need (good v) false λ _. goodTail start tail layout))
-    (splits : (v : A) (tail : List ℕ) → text v tail ≡ text v [] ++ tail) (long : (v : A) → suc (length (text v [])) ≡ start) where
-  fields-say : (l l′ : List ℕ) (old new : Layout) (v : A) → said l old ≡ says v → take (byte start) l′ ≡ take (byte start) l → Checked start new l′ → said l′ new ≡ says v
-  fields-say l l′ old new v e f c =
-      let n : length (text v []) ≡ start - 1 = omega (arith, long v) in
-      let front : take (start - 1) l′ ≡ text v [] = f ∙ ap (take (start - 1)) (trip old .there l v e ∙ splits v _) ∙ take-at (text v []) _ (start - 1) n in
-      let whole : take (start - 1) l′ ++ drop (start - 1) l′ ≡ l′ = take-append-drop (start - 1) l′ in
-      let g = need-inv (good v) false true _ false-true (line-limits (trip old) l v e) in
-      let t = tail-there start new (take (start - 1) l′) (drop (start - 1) l′) (ap (λ (x : List ℕ). suc (length x)) front ∙ long v) tt tt (c .right) (rw whole (c .shape)) (rw whole (c .ruled)) in
-      let i : text v (drop (start - 1) l′) ≡ l′ = splits v _ ∙ rw (← front) whole in
-      rw i at (trip new .here v (drop (start - 1) l′) (simp (g .0, t)))
+  front-same : (l l′ : List ℕ) (old new : Layout) (v : FieldsIn f) → fieldsSaid f l old ≡ says v → take (byte (firstStart f)) l′ ≡ take (byte (firstStart f)) l
+      → Checked (firstStart f) new l′ → fieldsSaid f l′ new ≡ says v
+  front-same l l′ old new v e same c =
+      let first : ℕ = firstStart f - 1 in
+      let n : length (text v []) ≡ first = omega (arith, front .long v) in
+      let begin : take first l′ ≡ text v [] = same ∙ ap (take first) (fields-trip front old .there l v e ∙ front .splits v _) ∙ take-at (text v []) _ first n in
+      let whole : take first l′ ++ drop first l′ ≡ l′ = take-append-drop first l′ in
+      let g = need-inv (within v) false true _ false-true (line-limits (fields-trip front old) l v e) in
+      let t = tail-there (firstStart f) new (take first l′) (drop first l′) (ap (λ (x : List ℕ). suc (length x)) begin ∙ front .long v) tt tt (c .right) (rw whole (c .shape)) (rw whole (c .ruled)) in
+      let i : text v (drop first l′) ≡ l′ = front .splits v _ ∙ rw (← begin) whole in
+      rw i at (fields-trip front new .here v (drop first l′) (simp (g .0, t)))
 
-fix-splits : (f : Fix) (tail : List ℕ) → fixText f tail ≡ fixText f [] ++ tail
-unfolding fixText
-fix-splits f tail = simp (append-assoc, append-nil)
+-- a line that is read passed its checks
+passed : (f : Family) (l : List ℕ) (layout : Layout) (v : FieldsIn f) → fieldsSaid f l layout ≡ says v → Checked (firstStart f) layout l
+passed family.B = front-passed fix-front
+passed family.K = front-passed extra-front
 
-fix-long : (f : Fix) → suc (length (fixText f [])) ≡ 36
-unfolding fixText
-fix-long f = simp (length-append, time-trip .long, latitude-trip .long, longitude-trip .long, altitude-trip .long)
-
-extra-splits : (t : ℕ) (tail : List ℕ) → extraText t tail ≡ extraText t [] ++ tail
-unfolding extraText
-extra-splits t tail = simp append-nil
-
-extra-long : (t : ℕ) → suc (length (extraText t [])) ≡ 8
-unfolding extraText
-extra-long t = simp (length-append, time-trip .long)
-
-its-value : {A : Type 0} (s : Said A) → s ≡ andThen s λ v. says v
-its-value (says v) = refl
-its-value (refuses n l b) = refl
-
-pub reading : (f : Family) → Reading f
-unfolding goodFix goodExtra fixSaid extraSaid columnedLine
-reading family.B = record {
-  first = omega arith;
-  begins = λ l layout v e. fix-there layout l v e .kind;
-  passed = λ l layout v e. let w = fix-there layout l v e in record { right = w .layout-allowed; shape = w .shape; ruled = w .ruled };
-  fields = fields-say 36 fixSaid fixText goodFixFields fix-trip fix-splits fix-long;
-  time = λ v. v .time;
-  timed = λ l layout k a. rw (eq-eqb _ _ k, a);
-}
-reading family.K = record {
-  first = omega arith;
-  begins = λ l layout v e. extra-there layout l v e .kind;
-  passed = λ l layout v e. let w = extra-there layout l v e in record { right = w .layout-allowed; shape = w .shape; ruled = w .ruled };
-  fields = fields-say 8 extraSaid extraText isTime extra-trip extra-splits extra-long;
-  time = λ v. v;
-  timed = λ l layout k a. rw (eq-eqb _ _ k, a) (its-value (kLine layout l));
-}
+-- what it spells depends on the bytes before the columns alone, once it passes its checks
+same-front : (f : Family) (l l′ : List ℕ) (old new : Layout) (v : FieldsIn f) → fieldsSaid f l old ≡ says v → take (byte (firstStart f)) l′ ≡ take (byte (firstStart f)) l
+    → Checked (firstStart f) new l′ → fieldsSaid f l′ new ≡ says v
+same-front family.B = front-same fix-front
+same-front family.K = front-same extra-front
 
 -- ---- a line with added columns reads as before
 
-entries-said : (f : Family) (l : List ℕ) (layout : Layout) (v : ValueOf f) → saidOf f l layout ≡ says v → entriesSaid l layout ≡ says (entriesOf layout)
-unfolding entriesSaid
-entries-said f l layout v e =
-    let k = reading f .begins l layout v e in
-    let a = reading f .passed l layout v e .right in
-    rw (k, family-of f, a, reading f .timed l layout k a, e)
-
-module _ (f : Family) (old new : Layout) (l l′ : List ℕ) (v : ValueOf f) (sound : Sound (firstStart f) new) (w : WiderLine (firstStart f) old new l l′)
-    (e : saidOf f l old ≡ says v) where
-  pub says-same : saidOf f l′ new ≡ says v
-  says-same = reading f .fields l l′ old new v e (w .fields) (new-checked (firstStart f) old new l l′ w (reading f .first) sound (reading f .passed l old v e))
+module _ (f : Family) (old new : Layout) (l l′ : List ℕ) (v : FieldsIn f) (sound : Sound (firstStart f) new) (w : WiderLine (firstStart f) old new l l′)
+    (e : fieldsSaid f l old ≡ says v) where
+  pub says-same : fieldsSaid f l′ new ≡ says v
+  says-same = same-front f l l′ old new v e (w .fields) (new-checked (firstStart f) old new l l′ w (omega (arith, first-byte f)) sound (passed f l old v e))
 
   column-there : (name : List ℕ) → carries old (packedOf name) ≡ true
       → (s s′ : Span) × (columnSaid l old name ≡ says s) × (columnSaid l′ new name ≡ says s′) × (columnText l′ s′ ≡ columnText l s)
@@ -197,9 +152,9 @@ module _ (f : Family) (old new : Layout) (l l′ : List ℕ) (v : ValueOf f) (so
   pub as-before : AsBefore f old new l l′
   unfolding textSaid numberSaid
   as-before = record {
-    value = v;
-    before = e;
-    after = says-same;
+    value = valueFrom f v;
+    before = value-said f l old v e;
+    after = value-said f l′ new v says-same;
     text = λ name h. let k = column-there name h in (columnText l (k .0), rw (k .2), rw (k .3, k .4));
     number = λ name h. let k = column-there name h in rw (k .2, k .3, k .4);
   }

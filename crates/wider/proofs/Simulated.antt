@@ -27,8 +27,8 @@ use Rattle.sound.proofs.Placed.{Sound, sound-line, sound-empty}
 use Rattle.wider.specs.Wider.{Extends, AfterLayouts, done, same, columned, LayoutLines, all, without, changed, put, noLayouts, Wider, front, from}
 use Rattle.wider.specs.Before.{linesOfFamily}
 use Rattle.wider.proofs.Families.{columned-role, own-layout, with-own, none-yet, Beside, one, apart, beside, Ordered, in-order}
-use Rattle.wider.proofs.Judged.{wideFlight, wide, order-stage, Paired, plain-step, columned-step}
-use Rattle.wider.proofs.Changing.{told-role, told-after, told-passes, staged, Behind, columned-behind, tells-behind, plain-behind, behind-front, judged-alike, sealed-alike}
+use Rattle.wider.proofs.Judged.{wideFlight, wide, order-stage, Paired, bare-step, columned-step}
+use Rattle.wider.proofs.Changing.{told-role, told-after, told-passes, staged, Behind, columned-behind, tells-behind, bare-behind, behind-front, judged-alike, sealed-alike}
 
 -- ---- what is shown of the lines ls′ of the new file, from its state on, where those of the old one are ls and say f
 
@@ -79,7 +79,7 @@ module _ (seal : Seal) (f : Flight) where
   body {old = old} {new = new} fi done st n p h = at-end old new st n p h
   body {old = old} {new = new} fi (same {t = t} {ls = ls} x b) st n p h =
       let u = ran seal none st t ls f h in
-      let d = plain-step old new n t st (u .after) x (u .judges) in
+      let d = bare-step old new n t st (u .after) x (u .judges) in
       before-line (line t ls) t (d .judges) (body fi b (u .after) (n + 1) (d .layouts ∙ p) (u .runs)) (λ g. d .pairs g _ _)
   body {old = old} {new = new} fi (columned {t = t} {t′ = t′} {ls = ls} g k w b) st n p h =
       let u = ran seal none st t ls f h in
@@ -119,7 +119,7 @@ in-body low (f ∷ fs) o = omega (arith, o .0, in-body (afterLayout f) fs (o .1)
 -- so begin the lines from there on
 begins : {fs : List Family} {old new : Layouts} {ls ls′ : Lines} (low : ℕ) → LayoutLines fs old new ls ls′ → Ordered low fs → Begins low ls
 begins low (all done) o = tt
-begins low (all (same {t = t} x b)) o = plain-behind low (roleIn t) x o
+begins low (all (same {t = t} x b)) o = bare-behind low (roleIn t) x o
 begins low (all (columned {t = t} f k w b)) o = rw (columned-role f t k) (columned-behind low f o)
 begins low (without {f = f} {fs = fs} r) o = begins low r (ordered-from low (afterLayout f) fs (omega (arith, o .0)) (o .1))
 begins low (changed {f = f} {t = t} {i = i} e e′ x r) o = rw (told-role f t i e) (tells-behind low f (o .0))

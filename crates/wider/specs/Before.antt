@@ -11,13 +11,11 @@ use Rattle.rules.specs.Layouts.{carries, columnText, presenceSaid}
 use Rattle.rules.specs.Lines.{kindOf}
 use Rattle.rules.specs.Roles.{roleOf, isOf, isDeclaring, isEvent}
 use Rattle.rules.specs.Split.{Lines, end, broken, line, linesOf}
-use Rattle.rules.specs.Reads.{fixSaid, extraSaid, columnSaid, numberSaid}
+use Rattle.rules.specs.Reads.{ValueOf, saidOf, columnSaid, numberSaid}
 use Rattle.rules.specs.declared.Layout.{Layout}
 use Rattle.rules.specs.declared.Listed.{Listed}
 use Rattle.rules.specs.declared.Presence.{Presence}
 use Rattle.rules.specs.declared.Family.{Family}
-use Rattle.rules.specs.declared.Family.the-variants as family
-use Rattle.rules.specs.declared.Fix.{Fix}
 use Rattle.rules.specs.declared.Kind.{Kind}
 use Rattle.rules.specs.declared.Layouts.{Layouts}
 use Rattle.rules.specs.declared.Role.the-variants as role
@@ -40,15 +38,6 @@ abbrev pub lineOf : Family → List ℕ → ℕ → List ℕ
 lineOf f file n = getD (linesOfFamily f (linesOf file)) n []
 
 -- ---- one line
-
--- what a line of a family says by its layout: a B line its fix, a K line its time
-abbrev pub ValueOf : Family → Type 0
-ValueOf family.B = Fix
-ValueOf family.K = ℕ
-
-abbrev pub saidOf : (f : Family) → List ℕ → Layout → Said (ValueOf f)
-saidOf family.B = fixSaid
-saidOf family.K = extraSaid
 
 -- "A column is read by its code as text"
 unfoldable pub textSaid : List ℕ → Layout → List ℕ → Said (List ℕ)

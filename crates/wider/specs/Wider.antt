@@ -12,7 +12,7 @@ use Rattle.rules.specs.Chars.{characters}
 use Rattle.rules.specs.Listed.{keepsRule}
 use Rattle.rules.specs.Layouts.{entriesOf, spanOf, look, carries, columnText, lineLength}
 use Rattle.rules.specs.Lines.{kindOf}
-use Rattle.rules.specs.Roles.{roleOf, isFront, isPlain}
+use Rattle.rules.specs.Roles.{roleOf, isFront, isBare}
 use Rattle.rules.specs.Order.{noFlight}
 use Rattle.rules.specs.Split.{Lines, end, line, linesOf}
 use Rattle.rules.specs.Reads.{layoutSaid}
@@ -57,7 +57,7 @@ pub record WiderLine (start : ℕ) (old new : Layout) (l l′ : List ℕ) : Type
 -- After the layout lines: the lines of each family are widened from its old layout to its new one, the others stay.
 pub data AfterLayouts (old new : Layouts) : Lines → Lines → Type 0 where
   done : AfterLayouts old new end end
-  same : {t : List ℕ} {ls ls′ : Lines} → isPlain (roleOf (kindOf (getD t 0 0))) ≡ true → AfterLayouts old new ls ls′ → AfterLayouts old new (line t ls) (line t ls′)
+  same : {t : List ℕ} {ls ls′ : Lines} → isBare (roleOf (kindOf (getD t 0 0))) ≡ true → AfterLayouts old new ls ls′ → AfterLayouts old new (line t ls) (line t ls′)
   columned : {t t′ : List ℕ} {ls ls′ : Lines} (f : Family) → getD t 0 0 ≡ lineLetter f → WiderLine (firstStart f) (layoutOf f old) (layoutOf f new) t t′
       → AfterLayouts old new ls ls′ → AfterLayouts old new (line t ls) (line t′ ls′)
 

@@ -4,7 +4,7 @@ use mathlib.Core.List.{List, _++_}
 use mathlib.Core.Path.{_≡_}
 use native.Mathlib.Omega.{arith}
 use lib.ListN.{length, length-append}
-use Rattle.rules.specs.Writes.{putAt, plannedText, headText, extraText, fixText}
+use Rattle.rules.specs.Writes.{putAt, plannedText, headText, extraText, fieldsText, fixText}
 use Rattle.rules.specs.declared.Fix.{Fix}
 use Rattle.rules.specs.declared.Head.{Head}
 use Rattle.rules.specs.declared.Planned.{Planned}
@@ -21,7 +21,7 @@ unfolding extraText
 extra-length t tail = simp (length-append, time-length) (omega arith)
 
 pub fix-length : (f : Fix) (tail : List ℕ) → length (fixText f tail) + 2 ≡ 37 + length tail
-unfolding fixText
+unfolding fieldsText fixText
 fix-length f tail = simp (length-append, time-length, position-length, altitude-length) (omega arith)
 
 planned-length : (f : Planned) → length (plannedText f) ≡ 6

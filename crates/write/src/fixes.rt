@@ -1,18 +1,19 @@
 // B lines.
 ghost use mathlib.Core.List.{_++_};
-ghost use Rattle.rules.specs.Writes.{fixText, crlf};
+ghost use Rattle.rules.specs.Writes.{fieldsText, crlf};
 ghost use Rattle.rules.specs.Promises.{FixWritten};
 ghost use Rattle.put.specs.Puts.{Fills};
 ghost use Rattle.write.specs.Parts.{heightsText, placeText};
 use ending::close;
 use ending::refused;
 use rules::Fix;
+use rules::FixFields;
 use rules::Layout;
 use rules::Reason;
 use rules::Wrote;
 
 // A fix's two altitudes, and the columns.
-fn fill_heights(f: Fix, tail: &[u8], out: &mut [u8])
+fn fill_heights(f: FixFields, tail: &[u8], out: &mut [u8])
     ensures { λ _. ⌜ Fills (now (out .entry)) 25 (heightsText f (now (tail .entry)) ++ crlf) (now (out .exit)) ⌝ }
 {
     spell::altitude(out, 25, f.pressure);
@@ -21,7 +22,7 @@ fn fill_heights(f: Fix, tail: &[u8], out: &mut [u8])
 }
 
 // What stands behind a fix's time.
-fn fill_place(f: Fix, tail: &[u8], out: &mut [u8])
+fn fill_place(f: FixFields, tail: &[u8], out: &mut [u8])
     ensures { λ _. ⌜ Fills (now (out .entry)) 7 (placeText f (now (tail .entry)) ++ crlf) (now (out .exit)) ⌝ }
 {
     spell::latitude(out, 7, f.lat);
@@ -31,8 +32,8 @@ fn fill_place(f: Fix, tail: &[u8], out: &mut [u8])
 }
 
 // A fix's line and its CR LF, at the front of an output.
-fn fill_fix(f: Fix, tail: &[u8], out: &mut [u8])
-    ensures { λ _. ⌜ Fills (now (out .entry)) 0 (fixText f (now (tail .entry)) ++ crlf) (now (out .exit)) ⌝ }
+fn fill_fix(f: FixFields, tail: &[u8], out: &mut [u8])
+    ensures { λ _. ⌜ Fills (now (out .entry)) 0 (fieldsText f (now (tail .entry)) ++ crlf) (now (out .exit)) ⌝ }
 {
     put::byte(out, 0, b'B');
     spell::time(out, 1, f.time);
@@ -51,6 +52,6 @@ pub fn fix(f: Fix, tail: &[u8], l: Layout, out: &mut [u8], place: usize) -> Wrot
     if out.len() < place || out.len() - place < n {
         return refused(Reason::NoRoom);
     }
-    fill_fix(f, tail, &mut out[place..]);
+    fill_fix(limits::fields_of(f), tail, &mut out[place..]);
     Wrote::Next(place + n)
 }

@@ -6,7 +6,7 @@ use std::fmt::Debug;
 use crate::library::{self, ANSWER, FixValues, HeadValues, Told};
 use outside::files::random::Random;
 use outside::reading::layouts::FAMILIES;
-use outside::reading::refusals::BAD_VALUE;
+use outside::reading::refusals::{BAD_VALUE, NO_ROOM};
 use outside::reading::{self, Answer, Date, Family, Fix, Head, Layout, Point, Position, Refusal};
 
 pub type Held<T> = Result<T, String>;
@@ -85,6 +85,41 @@ pub fn check(tally: &mut Tally, file: &[u8], entries: usize) -> Held<(Answer<rea
     Ok((answer, theirs))
 }
 
+/// What the library must tell of words that are put into a text of so many dots, and the text afterwards: 17 where there are none, then 18 where they have no room.
+fn put(words: Option<&str>, size: usize) -> (Told, Vec<u8>) {
+    let mut text = vec![b'.'; size];
+    let answer = match words {
+        None => Err(Refusal::of(BAD_VALUE)),
+        Some(words) if size < words.len() => Err(Refusal::of(NO_ROOM)),
+        Some(words) => {
+            text[..words.len()].copy_from_slice(words.as_bytes());
+            Ok(words.len() as u64)
+        }
+    };
+    (told(&answer, |&n| [n]), text)
+}
+
+/// The file's refusal in words, and another one, which the check did not give: into a text that has room, one that has just room, and one that is a byte short.
+pub fn in_words(tally: &mut Tally, random: &mut Random, file: &[u8], answer: &Answer<reading::Accepted>) -> Held<()> {
+    let met = answer.as_ref().err().copied().unwrap_or(Refusal::of(16));
+    let other = Refusal { number: random.below(24) as u32, line: random.below(9) as u64, byte: random.below(300) as u64 };
+    for r in [met, other] {
+        let words = reading::explained(file, &r);
+        let length = words.as_deref().map_or(0, str::len);
+        for size in [400, length, length.saturating_sub(1)] {
+            let mut text = vec![b'.'; size];
+            let raw = library::explain(file, r.number, r.line as u32, r.byte as u32, &mut text);
+            tally.same("hive_explain", &(r, size), raw.number, (raw, text), put(words.as_deref(), size))?;
+        }
+        for size in [10, 4] {
+            let mut text = vec![b'.'; size];
+            let raw = library::name(r.number, &mut text);
+            tally.same("hive_name", &(r.number, size), raw.number, (raw, text), put(reading::name(r.number), size))?;
+        }
+    }
+    Ok(())
+}
+
 fn bounds(found: &(usize, usize)) -> [u64; 2] {
     [found.0 as u64, (found.1 - found.0) as u64]
 }
@@ -116,7 +151,7 @@ pub fn by_stepping(tally: &mut Tally, random: &mut Random, file: &[u8]) -> Held<
         let answer = reading::step(file, place);
         let values = |found: &Option<(usize, usize)>| match found {
             Some(found) => [found.0 as u64, (found.1 - found.0) as u64, found.1 as u64 + 2, 1],
-            None => [0; 4],
+            None => [0, 0, place as u64, 0],
         };
         tally.same("hive_step", &place, raw.number, raw, told(&answer, values))?;
         Ok::<_, String>(answer)
@@ -237,11 +272,8 @@ fn columns(tally: &mut Tally, random: &mut Random, line: &[u8], given: &[u8], la
 
 /// An I or J line: each of its columns by its place, places that it has not, and the word of an I line.
 fn layout(tally: &mut Tally, random: &mut Random, line: &[u8]) -> Held<()> {
-    let family = if line.first() == Some(&b'J') { Family::Extras } else { Family::Fixes };
-    let answer = reading::read_layout(line, family);
-    let count = answer.as_ref().map_or(0, |y| y.entries.len());
-    for n in (0..=count + 1).chain([usize::MAX]) {
-        let entry = answer.as_ref().map_err(|r| *r).and_then(|y| y.entries.get(n.wrapping_sub(1)).ok_or(Refusal::of(BAD_VALUE)));
+    for n in (0..=14).chain([usize::MAX]) {
+        let entry = reading::column_given(line, n);
         let raw = library::column_at(line, n);
         let values = told(&entry, |e| [e.code[0].into(), e.code[1].into(), e.code[2].into(), e.first as u64, e.last as u64]);
         tally.same("hive_column_at", &(line, n), raw.number, raw, values)?;

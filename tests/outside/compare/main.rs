@@ -32,6 +32,7 @@ fn hold_file(met: &mut Met, random: &mut Random, file: &[u8], entries: usize, kn
         Ok(_) => met.accepted += 1,
         Err(Refusal { number, .. }) => met.refused[*number as usize] += 1,
     }
+    hold::in_words(&mut met.tally, random, file, &answer)?;
     hold::by_number(&mut met.tally, random, file, &table)?;
     let lines = hold::by_stepping(&mut met.tally, random, file)?;
     met.lines += lines.len() as u64;

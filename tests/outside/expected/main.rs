@@ -9,10 +9,15 @@ mod writes;
 use outside::reading::listing::listing;
 use std::fs;
 
-/// The words of a program's `args`, one to a line.
+/// The words of a file, one to a line.
+fn words(path: &str) -> Vec<Vec<u8>> {
+    let words = fs::read(path).expect("the words");
+    words.strip_suffix(b"\n").unwrap().split(|&c| c == b'\n').map(<[u8]>::to_vec).collect()
+}
+
+/// The words of a program's `args`.
 fn args(program: &str) -> Vec<Vec<u8>> {
-    let args = fs::read(format!("crates/{program}/args")).expect("the program's args");
-    args.strip_suffix(b"\n").unwrap().split(|&c| c == b'\n').map(<[u8]>::to_vec).collect()
+    words(&format!("crates/{program}/args"))
 }
 
 /// Where a file of a program's `data` stands.
@@ -21,12 +26,14 @@ fn data(program: &str, name: &[u8]) -> String {
 }
 
 /// Each expected output, and what it must be.
-fn outputs() -> [(&'static str, Vec<u8>); 4] {
+fn outputs() -> [(&'static str, Vec<u8>); 6] {
     let five = fs::read("crates/listing/stdin").expect("the listing's input");
     [
         ("crates/listing/stdout", listing(&five).into_bytes()),
         ("crates/try_inputs/stdout", try_inputs::printed()),
-        ("crates/igc/stdout", igc::printed()),
+        ("tests/igc/listed", igc::listed()),
+        ("tests/igc/checked", igc::checked()),
+        ("tests/igc/said", igc::said()),
         ("c/expected/written", writes::written_from_c()),
     ]
 }

@@ -1,6 +1,6 @@
 //! Layouts given as the text of their line, as C gives them.
 
-use super::layouts::{Family, Layout};
+use super::layouts::{Entry, Family, Layout};
 use super::readers::read_layout;
 use super::refusals::{Answer, BAD_VALUE, Refusal};
 use super::writers::write_layout;
@@ -8,6 +8,15 @@ use super::writers::write_layout;
 /// What a layout's text says: none for a text that is no such line by the rules; no text is the empty layout.
 pub fn layout_given(text: &[u8], family: Family) -> Option<Layout> {
     if text.is_empty() { Some(Layout::default()) } else { read_layout(text, family).ok() }
+}
+
+/// Column n of an I or J line, counted from 1: 17 for 0 or more than the 13 that a line has room for, then what the line is refused for, then 17 where it has fewer.
+pub fn column_given(text: &[u8], n: usize) -> Answer<Entry> {
+    if n == 0 || n > 13 {
+        return Err(Refusal::of(BAD_VALUE));
+    }
+    let family = if text.first() == Some(&b'J') { Family::Extras } else { Family::Fixes };
+    read_layout(text, family)?.entries.get(n - 1).cloned().ok_or(Refusal::of(BAD_VALUE))
 }
 
 /// An I or a J line from its text: 17 where it is no such line by the rules.

@@ -4,6 +4,7 @@
 
 pub mod characters;
 pub mod degrees;
+pub mod explained;
 pub mod fields;
 pub mod file;
 pub mod given;
@@ -16,9 +17,10 @@ pub mod refusals;
 pub mod writers;
 
 pub use degrees::degrees;
+pub use explained::{explained, name};
 pub use fields::{Date, Position};
 pub use file::{Accepted, LIMIT, check};
-pub use given::{layout_given, write_layout_given};
+pub use given::{column_given, layout_given, write_layout_given};
 pub use layouts::{Entry, Family, LISTED, Layout, Layouts, Listed};
 pub use lines::{Fix, Head, Point, Role};
 pub use places::{line, step};

@@ -1,7 +1,7 @@
 //! I and J lines, the widths of listed codes, and the rules of their columns.
 
 use super::*;
-use outside::reading::{Family, LISTED, read_layout};
+use outside::reading::{Family, LISTED, column_given, read_layout};
 
 #[test]
 fn layout_lines() {
@@ -42,6 +42,19 @@ fn layout_lines() {
     assert_eq!(read_layout(b"J00", Family::Fixes), no(17, 0));
     assert_eq!(read_layout(b"B00", Family::Fixes), no(17, 0));
     assert_eq!(read_layout(b"", Family::Fixes), no(17, 0));
+}
+
+#[test]
+fn columns_by_their_place() {
+    let second = |line: &str| column_given(line.as_bytes(), 2).map(|e| (e.first, e.last));
+    assert_eq!(second("I023638FXA3940SIU"), Ok((39, 40)));
+    assert_eq!(second("J010810HDT"), no(17, 0));
+    assert_eq!(second("I023638FXA4041SIU"), no(10, 11));
+    assert_eq!(second("B00"), no(17, 0));
+    // 17 for a number that no line has, before what the line is refused for
+    for (n, number, byte) in [(0, 17, 0), (1, 10, 11), (13, 10, 11), (14, 17, 0)] {
+        assert_eq!(column_given(b"I023638FXA4041SIU", n), no(number, byte), "column {n}");
+    }
 }
 
 /// Document 01's list of codes with their least and most width, taken from it once more.

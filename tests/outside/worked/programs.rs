@@ -1,7 +1,8 @@
-//! What the listing prints.
+//! What the listing prints, and what igc says of a refusal.
 
 use super::*;
 use outside::reading::listing::listing;
+use outside::reading::{Refusal, explained, name};
 
 #[test]
 fn listings() {
@@ -17,4 +18,25 @@ fn listings() {
     assert_eq!(listing(&data), "OK 7 2 1 35 9\nFIX 5 0 0 S 0 W V -12 -9999\nFIX 6 1 1 S 1 E V 0 99999\n");
     let data = file(&[A, DATE, "I013638ZZZ", &format!("{B35} x "), "GX"]);
     assert!(listing(&data).ends_with("COL ZZZ  x \n"));
+}
+
+#[test]
+fn explanations() {
+    assert_eq!([0, 1, 9, 21, 22].map(name), [None, Some("EMPTY"), Some("FORM"), Some("INPUT_OVER"), None]);
+    let of = |file: &[u8], number, line, byte| explained(file, &Refusal { number, line, byte });
+    assert_eq!(of(b"", 22, 0, 0), None);
+    assert_eq!(of(b"", 1, 0, 0).unwrap(), "REFUSED 1 EMPTY: no bytes\n");
+    let data = b"AB\r\nC\x00D\nE\r\nF";
+    assert_eq!(of(data, 7, 1, 0).unwrap(), "REFUSED 7 LENGTH, line 1: outside its limits\nAB\n");
+    assert_eq!(of(data, 8, 2, 2).unwrap(), "REFUSED 8 CHARACTER, line 2, byte 2: first invalid one\nC?D\n ^\n");
+    // line 2 does not end with CR LF, so that nothing is known of a line 3
+    assert_eq!(of(data, 16, 3, 0).unwrap(), "REFUSED 16 ENDS_EARLY, line 3: end inside a declaration or without G\n");
+    assert_eq!(of(data, 6, 3, 1).unwrap(), "REFUSED 6 ORDER, line 3, byte 1: kind not allowed here\n\n^\n");
+    let long: Vec<u8> = (0..200u8).map(|n| b'0' + n % 10).collect();
+    let wanted = format!(
+        "REFUSED 9 FORM, line 1, byte 81: first field against its rule (text from byte 41)\n{}\n{}^\n",
+        "0123456789".repeat(8),
+        " ".repeat(40)
+    );
+    assert_eq!(of(&long, 9, 1, 81).unwrap(), wanted);
 }

@@ -15,9 +15,6 @@ Inv-loop answer₀ values i₀ answer i = (take i answer ≡ take i values) × (
 abbrev μ-loop : tie.MeasureT-loop
 μ-loop answer₀ values i₀ answer i = size - i
 
-loop-holds : tie.Need-loop-holds Inv-loop μ-loop
-loop-holds c = (refl, c .pre, c .pre, search needs)
-
 loop-again : tie.Need-loop-again Inv-loop μ-loop
 loop-again c =
     let l = c .before .loop in (
@@ -26,9 +23,6 @@ loop-again c =
       l .inv .2,
       l .inv .3,
     )
-
-same-length : tie.Need-same-length Inv-loop μ-loop
-same-length c = omega arith
 
 returns : tie.Need-returns Inv-loop μ-loop
 returns c = let l = c .before .loop in all-stored (l .answer) _ size (l .i) (l .inv .0) (l .inv .1) (l .inv .3) (omega arith)
@@ -39,7 +33,7 @@ store-spec =
     (tie.spec
     Inv-loop
     μ-loop
-    loop-holds
+    (λ c. (refl, c .pre, c .pre, search needs))
     (λ c. search needs)
     (λ c. search needs)
     (λ c. search needs)
@@ -47,5 +41,5 @@ store-spec =
     (λ c. search needs)
     (λ c. search needs)
     loop-again
-    same-length
+    (λ c. omega arith)
     returns)

@@ -17,4 +17,4 @@ fix-spec =
     (λ c κs. search needs)
     (λ c. search needs)
     (λ c. search needs)
-    (λ c. write-room _ _ _ _ _ _ _ _ _ _ (c .before .before .before .before .before .before .before .before .before .before .if1 .left) (rw (c .before .before .before .before .before .before .before .before .before .fix-of .ensures, toZ-ofZ w32 (c .before .before .before .before .before .before .before .before .before .before .before .before .before .before .before .args .pressure) (c .before .before .before .before .before .before .before .before .before .before .before .before .before .before .before .fits .pressure), toZ-ofZ w32 (c .before .before .before .before .before .before .before .before .before .before .before .before .before .before .before .args .gnss) (c .before .before .before .before .before .before .before .before .before .before .before .before .before .before .before .fits .gnss)) at (c .before .before .before .before .before .before .before .fix .ensures)) (c .before .before .before .wrote .ensures) (c .before .before .give .ensures)))
+    (λ c. write-room _ _ _ _ _ _ _ _ _ _ (c .before .before .before .before .before .before .before .before .before .before .if1 .left) (rw (c .before .before .before .before .before .before .before .before .before .fix-from .ensures, toZ-ofZ w32 (c .before .before .before .before .before .before .before .before .before .before .before .before .before .before .before .args .pressure) (c .before .before .before .before .before .before .before .before .before .before .before .before .before .before .before .fits .pressure), toZ-ofZ w32 (c .before .before .before .before .before .before .before .before .before .before .before .before .before .before .before .args .gnss) (c .before .before .before .before .before .before .before .before .before .before .before .before .before .before .before .fits .gnss)) at (c .before .before .before .before .before .before .before .fix .ensures)) (c .before .before .before .wrote .ensures) (c .before .before .give .ensures)))

@@ -2,7 +2,7 @@
 use borrow.Author.Needs.{needs}
 use borrow.Author.Tests.{le-leb, lt-leb}
 use Rattle.rules.specs.Files.{verdict}
-use Rattle.file.proofs.Turns.{unread}
+use Rattle.file.proofs.Checks.{unread}
 use Rattle.file.proofs.check_whole.Statement.{statement}
 use Rattle.file.proofs.check_whole.Tie as tie
 

@@ -4,7 +4,7 @@ use borrow.Author.Needs.{needs}
 use borrow.Author.Tests.{not-true, not-false}
 use lib.ListN.{getD}
 use Rattle.rules.specs.Lines.{fixFields}
-use Rattle.rules.specs.Reads.{fixTold}
+use Rattle.rules.specs.Reads.{fixFieldsTold}
 use Rattle.rules.proofs.Links.{time-secs, position-is, on-is, need-true, need-false, altitude-metres, altitude-none}
 use Rattle.fix.proofs.Laws.{fixes, refuses-form}
 use Rattle.rules.specs.declared.Class.the-variants as class
@@ -12,7 +12,7 @@ use Rattle.fix.proofs.fix_fields.Statement.{statement}
 use Rattle.fix.proofs.fix_fields.Tie as tie
 
 pub fix-fields-spec : {M : Type 1} → statement M
-unfolding fixFields fixTold
+unfolding fixFields fixFieldsTold
 fix-fields-spec =
     tie.close
     (tie.spec

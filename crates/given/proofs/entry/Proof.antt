@@ -1,6 +1,6 @@
 -- `entry` meets its contract. Assumes nothing.
-use mathlib.Core.Path.{refl}
 use borrow.Author.Needs.{needs}
+use Rattle.rules.proofs.Links.{tests}
 use Rattle.given.specs.Given.{columnAtTold, entryBy}
 use Rattle.given.proofs.Layouts.{layout-then, layout-refused}
 use Rattle.given.proofs.entry.Statement.{statement}
@@ -12,8 +12,12 @@ entry-spec =
     tie.close
     (tie.spec
     (λ c κs. search needs)
+    (λ c. search tests depth 6)
+    (λ c κs. search needs)
+    (λ c. search tests depth 6)
+    (λ c κs. search needs)
     (λ c. search needs)
-    (λ c. layout-refused _ _ _ _ _ (c .before .before .before .before .told-layout .ensures) (c .before .outcome .given .1) refl)
+    (λ c. search (tests, layout-refused, needs) depth 8)
     (λ c. search needs)
     (λ c κs. search needs)
-    (λ c. layout-then _ _ _ _ (c .before .before .before .before .told-layout .ensures) (c .before .enum-told .given .1) (c .entry-at .ensures)))
+    (λ c. search (tests, layout-then, needs) depth 8))

@@ -12,10 +12,7 @@ entry-at-spec =
     (tie.spec
     (λ c κs. search needs)
     (λ c. search tests depth 6)
-    (λ c κs. search needs)
-    (λ c. search tests depth 6)
-    (λ c κs. search needs)
-    (λ c. search tests depth 6)
+    (λ c. search needs)
     (λ c. search needs)
     (λ c. search needs)
     (λ c. search tests depth 8))

@@ -1,7 +1,8 @@
 -- `layout_family` meets its contract. Assumes nothing.
 use borrow.Author.Needs.{needs}
 use borrow.Author.Tests.{ne-eqb}
-use Rattle.known.specs.Known.{familyTold, layoutFamilyOf}
+use Rattle.rules.specs.Families.{layoutFamilyOf}
+use Rattle.known.specs.Known.{familyTold}
 use Rattle.known.proofs.layout_family.Statement.{statement}
 use Rattle.known.proofs.layout_family.Tie as tie
 

@@ -1,12 +1,12 @@
 -- `line::columned_line` meets its contract: a B line by its fix's time, a K line by its own. Assumes nothing.
 use borrow.Author.Needs.{needs}
 use Rattle.rules.specs.Lines.{columnedLine}
-use Rattle.rules.specs.Reads.{fixTold, timeReadTold}
+use Rattle.rules.specs.Reads.{fixFieldsTold, timeReadTold}
 use Rattle.line.proofs.columned_line.Statement.{statement}
 use Rattle.line.proofs.columned_line.Tie as tie
 
 pub columned-line-spec : {M : Type 1} → statement M
-unfolding columnedLine fixTold timeReadTold
+unfolding columnedLine fixFieldsTold timeReadTold
 columned-line-spec =
     tie.close
     (tie.spec

@@ -14,5 +14,6 @@ list-spec =
     (λ c. shown-counts (c .before .before .before .begin .ensures .shown))
     (λ c κs. search needs)
     (λ c. search needs)
+    (λ c. search needs)
     (λ c κs. search needs)
     (λ c. search needs))

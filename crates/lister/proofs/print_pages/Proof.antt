@@ -28,5 +28,6 @@ print-pages-spec =
     (λ c κs. search needs)
     (λ c. search needs)
     (λ c. search needs)
+    (λ c. search needs)
     (λ c. (search needs, search needs))
     (λ c. search needs))

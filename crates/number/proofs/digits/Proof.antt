@@ -1,19 +1,17 @@
 -- `number::digits` meets its contract: what is left to spell from here is the whole answer, and what is spelt leaves room for it. Assumes nothing.
-use Prim.Native.Nat.{ℕ, _≤_, _<_, _-_, _+_, _^_}
-use mathlib.Core.Path.{_≡_, refl, sym, _∙_}
-use mathlib.Core.Bool.{true, false}
+use Prim.Native.Nat.{_≤_, _<_, _-_, _+_, _^_}
+use mathlib.Core.Path.{_≡_, sym, _∙_}
+use mathlib.Core.Bool.{true}
 use borrow.Author.Needs.{needs}
 use borrow.Author.Tests.{le-leb, lt-leb, not-true, not-false}
 use native.Mathlib.Nat.{one-le-pow}
 use native.Mathlib.Omega.{arith}
-use lib.ListN.{length, getD, drop}
+use lib.ListN.{getD, drop}
 use Rattle.rules.specs.Chars.{isDigit}
 use Rattle.rules.specs.Numbers.{spell, numberAt, numberTold}
 use Rattle.number.proofs.Laws.{digit-low, digit-high, spell-more, spell-short, spell-other, grows, below-17}
 use Rattle.number.proofs.digits.Statement.{statement}
 use Rattle.number.proofs.digits.Tie as tie
-use Rattle.number.proofs.digits.Reads as reads
-use Rattle.number.proofs.digits.Lts as lts
 
 abbrev Inv-loop : tie.InvT-loop
 Inv-loop s at n v₀ i₀ left₀ v i left =
@@ -34,12 +32,6 @@ returns-2 : tie.Need-returns-2 Inv-loop μ-loop
 unfolding numberTold
 returns-2 c = sym (c .before .before .loop .inv .0 ∙ spell-short _ _ _ _ (c .before .loop-test .taken) (c .if2 .taken))
 
-shared-slice-read-b : tie.Need-shared-slice-read-b Inv-loop μ-loop
-shared-slice-read-b c = search needs
-
-is-digit-requires : tie.Need-is-digit-requires Inv-loop μ-loop
-is-digit-requires c κs = search needs
-
 returns-3 : tie.Need-returns-3 Inv-loop μ-loop
 unfolding numberTold
 returns-3 c = sym (c .before .before .before .before .before .loop .inv .0 ∙ spell-other _ _ _ _ (c .before .before .before .before .loop-test .taken) (c .before .before .before .if2 .left) (sym (c .before .is-digit .ensures) ∙ not-true _ (c .if3 .taken)))
@@ -51,27 +43,6 @@ room : (c : tie.Else3 Inv-loop μ-loop) → c .before .before .before .before .b
 room c =
     let l = c .before .before .before .before .before .loop in
     below-17 (18 - l .left) (l .v) (omega arith) (l .inv .2)
-
-mul-v : tie.Need-mul-v Inv-loop μ-loop
-mul-v c = omega (arith, room c)
-
-sub-v : tie.Need-sub-v Inv-loop μ-loop
-sub-v c = digit-low _ (digit c)
-
-cast-v : tie.Need-cast-v Inv-loop μ-loop
-cast-v c = omega (arith, digit-high _ (digit c))
-
-add-v : tie.Need-add-v Inv-loop μ-loop
-add-v c = omega (arith, room c, digit-high _ (digit c))
-
-add-i : tie.Need-add-i Inv-loop μ-loop
-add-i c = search needs
-
-sub-left : tie.Need-sub-left Inv-loop μ-loop
-sub-left c = search needs
-
-loop-less : tie.Need-loop-less Inv-loop μ-loop
-loop-less c = search needs
 
 loop-again : tie.Need-loop-again Inv-loop μ-loop
 loop-again c =
@@ -99,15 +70,15 @@ digits-spec =
     returns
     loop-holds
     returns-2
-    shared-slice-read-b
-    is-digit-requires
+    (λ c. search needs)
+    (λ c κs. search needs)
     returns-3
-    mul-v
-    sub-v
-    cast-v
-    add-v
-    add-i
-    sub-left
-    loop-less
+    (λ c. omega (arith, room c))
+    (λ c. digit-low _ (digit c))
+    (λ c. omega (arith, digit-high _ (digit c)))
+    (λ c. omega (arith, room c, digit-high _ (digit c)))
+    (λ c. search needs)
+    (λ c. search needs)
+    (λ c. search needs)
     loop-again
     returns-4)

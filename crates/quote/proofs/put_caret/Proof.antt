@@ -9,9 +9,6 @@ use Rattle.quote.proofs.put_caret.Tie as tie
 sub-put-spaces-2 : tie.Need-sub-put-spaces-2
 sub-put-spaces-2 c = omega (arith, before-least (c .before .before .before .args .byte))
 
-returns : tie.Need-returns
-returns c = search (caret-fills, byte-then) depth 8
-
 pub put-caret-spec : {M : Type 1} → statement M
 put-caret-spec =
     tie.close
@@ -23,4 +20,4 @@ put-caret-spec =
     (λ c κs. search needs)
     (λ c κs. search needs)
     (λ c. search needs)
-    returns)
+    (λ c. search (caret-fills, byte-then) depth 8))

@@ -4,15 +4,6 @@ use Rattle.quote.proofs.Pieces.{window-none, window-rest, window-full}
 use Rattle.quote.proofs.window.Statement.{statement}
 use Rattle.quote.proofs.window.Tie as tie
 
-returns : tie.Need-returns
-returns c = search window-none
-
-returns-2 : tie.Need-returns-2
-returns-2 c = search window-rest
-
-returns-3 : tie.Need-returns-3
-returns-3 c = search window-full
-
 pub window-spec : {M : Type 1} → statement M
 window-spec =
     tie.close
@@ -21,14 +12,14 @@ window-spec =
     (λ c. search needs)
     (λ c. search needs)
     (λ c. search needs)
-    returns
+    (λ c. search window-none)
     (λ c. search needs)
     (λ c. search needs)
     (λ c. search needs)
     (λ c. search needs)
-    returns-2
+    (λ c. search window-rest)
     (λ c. search needs)
     (λ c. search needs)
     (λ c. search needs)
     (λ c. search needs)
-    returns-3)
+    (λ c. search window-full))

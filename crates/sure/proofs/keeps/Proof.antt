@@ -7,4 +7,4 @@ use Rattle.sure.proofs.keeps.Tie as tie
 
 pub keeps-spec : {M : Type 1} → statement M
 unfolding keepsAs
-keeps-spec = tie.close (tie.spec (λ c. search tests) (λ c κs. search needs) (λ c. search tests))
+keeps-spec = tie.close (tie.spec (λ c. search tests) (λ c κs. search needs) (λ c κs. search needs) (λ c. rw (← c .before .text-of .ensures) (search tests)))

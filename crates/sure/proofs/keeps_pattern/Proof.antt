@@ -18,13 +18,13 @@ abbrev μ-loop : tie.MeasureT-loop
 
 returns : tie.Need-returns Inv-loop μ-loop
 returns c =
-    let l = c .before .before .before .before .before .before .before .loop in
-    sym (keep-stop _ _ (l .i) (search needs) _ (rw (c .before .before .text-of .ensures) at (c .before .keeps .ensures)) (not-true _ (c .if1 .taken))) ∙ l .inv
+    let l = c .before .before .before .before .before .before .loop in
+    sym (keep-stop _ _ (l .i) (search needs) _ (c .before .keeps .ensures) (not-true _ (c .if1 .taken))) ∙ l .inv
 
 loop-again : tie.Need-loop-again Inv-loop μ-loop
 loop-again c =
-    let l = c .before .before .before .before .before .before .before .loop in
-    keep-turn _ _ (l .i) (search needs) _ (rw (c .before .before .text-of .ensures) at (c .before .keeps .ensures)) (not-false _ (c .if1 .left)) ∙ l .inv
+    let l = c .before .before .before .before .before .before .loop in
+    keep-turn _ _ (l .i) (search needs) _ (c .before .keeps .ensures) (not-false _ (c .if1 .left)) ∙ l .inv
 
 returns-2 : tie.Need-returns-2 Inv-loop μ-loop
 returns-2 c = sym (keep-end _ _ (c .before .loop .i) (search needs)) ∙ c .before .loop .inv
@@ -42,7 +42,6 @@ keeps-pattern-spec =
     (λ c. search needs)
     (λ c. search needs)
     (λ c. search needs)
-    (λ c κs. search needs)
     (λ c κs. search needs)
     returns
     (λ c. search needs)

@@ -17,5 +17,5 @@ step-spec =
     (λ c. search needs)
     (λ c κs. search needs)
     (λ c. rw (c .before .before .before .s .given .1, ← c .before .between .ensures) (c .accepted .ensures))
-    (λ c. rw (c .before .enum-told .given .1) (c .accepted2 .ensures))
-    (λ c. rw (c .before .before .s2 .given .1) (c .refused .ensures)))
+    (λ c. rw (c .before .before .s2 .given .1) (c .accepted2 .ensures))
+    (λ c. rw (c .before .before .s3 .given .1) (c .refused .ensures)))

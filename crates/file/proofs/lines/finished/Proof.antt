@@ -14,11 +14,11 @@ finished-spec =
     (tie.spec
     (λ c κs. search needs)
     (λ c κs. search needs)
-    (λ c. rw (ne-eqb _ _ (c .before .before .if1 .taken)) (rw (c .before .in-next .ensures) at (c .refused .ensures)))
+    (λ c. rw (ne-eqb _ _ (c .before .before .if1 .taken)) (rw (c .before .ends-early .ensures) at (c .refused .ensures)))
     (λ c κs. search needs)
     (λ c κs. search needs)
     (λ c κs. search needs)
     (λ c.
-    rw (← c .before .before .before .before .ends-after .ensures, eq-eqb _ _ (c .before .before .before .before .before .if1 .left), lt-leb _ _ (c .before .before .if2 .taken)) (rw (c .before .in-next2 .ensures) at (c .refused2 .ensures)))
+    rw (← c .before .before .before .before .ends-after .ensures, eq-eqb _ _ (c .before .before .before .before .before .if1 .left), lt-leb _ _ (c .before .before .if2 .taken)) (rw (c .before .ends-early2 .ensures) at (c .refused2 .ensures)))
     (λ c.
     rw (← c .before .before .before .ends-after .ensures, eq-eqb _ _ (c .before .before .before .before .if1 .left), le-leb _ _ (c .before .if2 .left)) (record { answer = refl; flight = refl })))

@@ -5,7 +5,8 @@ use native.Mathlib.Omega.{arith}
 use borrow.Author.Needs.{needs}
 use lib.ListN.{getD, drop}
 use Rattle.rules.specs.Listed.{listed, unlisted}
-use Rattle.layout.proofs.Words.{horner, word-horner, horner-step, horner-drop-lt, bit-lt}
+use Rattle.basics.proofs.Presence.{horner, word-horner, bit-lt}
+use Rattle.layout.proofs.Words.{horner-step, horner-drop-lt}
 use Rattle.layout.proofs.values.word.Statement.{statement}
 use Rattle.layout.proofs.values.word.Tie as tie
 

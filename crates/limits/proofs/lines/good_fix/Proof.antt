@@ -3,6 +3,7 @@ use borrow.Author.Needs.{needs}
 use borrow.Author.Tests.{not-true, not-false}
 use Rattle.rules.proofs.Links.{tests}
 use Rattle.rules.specs.Limits.{goodFix}
+use Rattle.limits.proofs.Laws.{fields-good}
 use Rattle.limits.proofs.lines.good_fix.Statement.{statement}
 use Rattle.limits.proofs.lines.good_fix.Tie as tie
 
@@ -12,6 +13,7 @@ good-fix-spec =
     tie.close
     (tie.spec
     (λ c κs. search needs)
-    (λ c. search (tests, not-true, not-false) depth 16)
     (λ c κs. search needs)
-    (λ c. search (tests, not-true, not-false) depth 16))
+    (λ c. search (tests, not-true, not-false, fields-good) depth 16)
+    (λ c κs. search needs)
+    (λ c. search (tests, not-true, not-false, fields-good) depth 16))

@@ -2,7 +2,8 @@
 use borrow.Author.Needs.{needs}
 use borrow.Author.Tests.{eq-eqb, ne-eqb}
 use Rattle.rules.specs.Layouts.{lineLength}
-use Rattle.show.proofs.Laws.{unmapped, length-past}
+use Rattle.basics.proofs.Laws.{unmapped}
+use Rattle.show.proofs.Laws.{length-past}
 use Rattle.show.proofs.lines.line_length.Statement.{statement}
 use Rattle.show.proofs.lines.line_length.Tie as tie
 

@@ -5,12 +5,6 @@ use Rattle.show.proofs.Laws.{plain-fills, minus-fills}
 use Rattle.show.proofs.values.put_metres.Statement.{statement}
 use Rattle.show.proofs.values.put_metres.Tie as tie
 
-returns : tie.Need-returns
-returns c = search (pieces, plain-fills, minus-fills) depth 8
-
-returns-2 : tie.Need-returns-2
-returns-2 c = search (pieces, plain-fills, minus-fills) depth 8
-
 pub put-metres-spec : {M : Type 1} → statement M
 put-metres-spec =
     tie.close
@@ -19,9 +13,9 @@ put-metres-spec =
     (λ c κs. search needs)
     (λ c κs. search needs)
     (λ c. search needs)
-    returns
+    (λ c. search (pieces, plain-fills, minus-fills) depth 8)
     (λ c κs. search needs)
     (λ c κs. search needs)
     (λ c κs. search needs)
     (λ c. search needs)
-    returns-2)
+    (λ c. search (pieces, plain-fills, minus-fills) depth 8))

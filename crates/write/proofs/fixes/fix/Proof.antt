@@ -4,6 +4,7 @@ use mathlib.Core.Path.{refl}
 use native.Mathlib.Omega.{arith}
 use borrow.Author.Needs.{needs}
 use borrow.Author.Tests.{ltb-true, ltb-false}
+use Rattle.rules.specs.Writes.{fixText}
 use Rattle.trips.proofs.Fixes.{fix-good}
 use Rattle.ending.proofs.Laws.{bad, short, done}
 use Rattle.write.proofs.Laws.{fix-length}
@@ -22,9 +23,12 @@ returns-2 c =
     (c .before .if2 .came)
 
 returns-3 : tie.Need-returns-3
+unfolding fixText
 returns-3 c =
-    let t = c .before .before .before .before .before .before in
-    done _ _ _ _ _ _ _ (fix-good _ _ _) (t .before .good-fix .ensures) (t .if1 .left) _ (fix-length _ _) _ (omega (arith, ltb-false)) refl (c .before .before .fill-fix .ensures)
+    let g = c .before .before .before .before in
+    let t = g .before .before .before in
+    let filled = rw (g .fields-of .ensures) at (c .before .before .fill-fix .ensures) in
+    done _ _ _ _ _ _ _ (fix-good _ _ _) (t .before .good-fix .ensures) (t .if1 .left) _ (fix-length _ _) _ (omega (arith, ltb-false)) refl filled
 
 pub fix-spec : {M : Type 1} → statement M
 fix-spec =
@@ -37,6 +41,7 @@ fix-spec =
     (λ c. search needs)
     (λ c κs. search needs)
     returns-2
+    (λ c κs. search needs)
     (λ c. search needs)
     (λ c. search needs)
     (λ c. search needs)

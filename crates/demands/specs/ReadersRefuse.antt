@@ -1,0 +1,130 @@
+-- Document 01, the paragraph after the refusal table: what a reader refuses first. "A line of another kind than the reader's is 17. Line readers repeat the checks of 7 to 13
+-- after 17, with 0 for the line number; then 19, then 20. A refused reading returns no value." Each reader has its checks as a list in that order; those of 7 to 13 stand in
+-- Checks, kind by kind.
+use Prim.Native.Nat.{ℕ, _-_}
+use Prim.Native.Char.{code}
+use mathlib.Core.Bool.{true, false, _&&_, _||_, cond}
+use mathlib.Core.List.{List, [], _∷_, _++_}
+use mathlib.Core.Logic.{_↔_}
+use mathlib.Core.Path.{_≡_}
+use lib.Dec.{eqb, leb}
+use lib.ListN.{length, getD, drop}
+use Rattle.rules.specs.Choice.{Each}
+use Rattle.rules.specs.Refusals.{Said, says, refuses}
+use Rattle.rules.specs.Numbers.{wholeOf}
+use Rattle.rules.specs.Degrees.{degreesOf}
+use Rattle.rules.specs.Listed.{packedOf, codeText}
+use Rattle.rules.specs.Layouts.{Span, spanOf, entriesOf, allowed, columnText, lengthSaid, lookSaid, presenceSaid}
+use Rattle.rules.specs.Split.{boundsOf, stepAt}
+use Rattle.rules.specs.Reads.{fixSaid, extraSaid, eventSaid, satellitesSaid, dateSaid, layoutSaid, headSaid, pointSaid, columnSaid, numberSaid}
+use Rattle.rules.specs.declared.Signed.{Signed}
+use Rattle.rules.specs.declared.Entry.{Entry}
+use Rattle.rules.specs.declared.Layout.{Layout}
+use Rattle.rules.specs.declared.Family.{Family}
+use Rattle.rules.specs.declared.Family.the-variants as family
+use Rattle.rules.specs.declared.Position.{Position}
+use Rattle.demands.specs.Checks.{Check, check, isThere, AllPass, FailsFirst, hasCode, layoutChecks, dateChecks, headChecks, pointChecks, lineChecks, eventChecks, satelliteChecks}
+use Rattle.demands.specs.BothWays.{Slotted}
+use Rattle.demands.specs.Endings.{isEnding, hasEnding}
+use Rattle.demands.specs.Readings.{Spells, IsName}
+
+-- a reading is refused, with a number, a line and a byte, exactly when the line is 0 and of these checks one with that number and byte fails first; it says a value exactly
+-- when all of them pass
+pub record RefusesFirst {A : Type 0} (cs : List Check) (answer : Said A) : Type 0 where
+  pub refused : (n k b : ℕ) → (answer ≡ refuses n k b) ↔ ((k ≡ 0) × FailsFirst cs n b)
+  pub said : ((v : A) × (answer ≡ says v)) ↔ AllPass cs
+
+-- ---- 17, 19 and 20: "0, 0"
+
+-- "A line of another kind than the reader's is 17."
+abbrev pub kindCheck : ℕ → List ℕ → Check
+kindCheck letter l = check 17 0 (eqb (getD l 0 0) letter)
+
+-- "17 BAD_VALUE: value, layout .. given is not allowed"; "The first entry starts at 36 (I) or 8 (J)"
+abbrev pub layoutCheck : Family → Layout → Check
+layoutCheck family.B layout = check 17 0 (allowed 36 layout)
+layoutCheck family.K layout = check 17 0 (allowed 8 layout)
+
+-- "19 ABSENT: code (any 3 bytes) not in the layout"
+abbrev pub nameCheck : Layout → List ℕ → Check
+nameCheck layout name = check 19 0 (hasCode (entriesOf layout) (packedOf name))
+
+-- the column of a code: the places of its first and last byte, 0 where no entry has the code
+unfoldable pub spanIn : List Entry → ℕ → Span
+spanIn [] x = record { first = 0; last = 0 }
+spanIn (e ∷ es) x = cond (eqb (e .code) x) (spanOf e) (spanIn es x)
+
+-- "20 NOT_NUMBER: column is no such number"
+abbrev pub numberCheck : Layout → List ℕ → List ℕ → Check
+numberCheck layout l name = check 20 0 (isThere (wholeOf (columnText l (spanIn (entriesOf layout) (packedOf name)))))
+
+-- ---- the checks of each reader
+
+-- the fix of a B line with its I layout; the time of a K line with its J layout
+abbrev pub columnedReader : Family → Layout → List ℕ → List Check
+columnedReader family.B i l = kindCheck (code "B") l ∷ layoutCheck family.B i ∷ lineChecks family.B (entriesOf i) l
+columnedReader family.K j l = kindCheck (code "K") l ∷ layoutCheck family.K j ∷ lineChecks family.K (entriesOf j) l
+
+-- a column of a B line with its I layout, or of a K line with its J layout: any other line is of another kind
+abbrev pub columnReader : Layout → List ℕ → List ℕ → List Check
+columnReader layout l name = cond (eqb (getD l 0 0) (code "B")) (columnedReader family.B layout l) (columnedReader family.K layout l) ++ (nameCheck layout name ∷ [])
+
+-- "then 19, then 20"
+abbrev pub numberReader : Layout → List ℕ → List ℕ → List Check
+numberReader layout l name = columnReader layout l name ++ (numberCheck layout l name ∷ [])
+
+-- the layout of an I line, for B lines, and of a J line, for K lines
+abbrev pub layoutReader : Family → List ℕ → List Check
+layoutReader family.B l = kindCheck (code "I") l ∷ layoutChecks family.B l
+layoutReader family.K l = kindCheck (code "J") l ∷ layoutChecks family.K l
+
+-- ---- a line by its number, a reading place, and a pair of degrees
+
+-- "a table entry that is neither 0 nor just past a CR LF, or with no CR LF from there on, is 17"
+abbrev pub entryReader : List ℕ → ℕ → List Check
+entryReader file o = check 17 0 (eqb o 0 || (leb 2 o && isEnding (o - 2) file)) ∷ check 17 0 (hasEnding (drop o file)) ∷ []
+
+-- "A line is asked for with the file, the table and a line number; a number of 0 or past the table's entries .. is 17"
+abbrev pub numberedReader : List ℕ → List ℕ → ℕ → List Check
+numberedReader file table n = check 17 0 (leb 1 n) ∷ check 17 0 (leb n (length table)) ∷ entryReader file (getD table (n - 1) 0)
+
+-- "a place past the end, or one with no CR LF after it though bytes remain, is 17"
+abbrev pub stepReader : List ℕ → ℕ → List Check
+stepReader file at = check 17 0 (leb at (length file)) ∷ check 17 0 (eqb at (length file) || hasEnding (drop at file)) ∷ []
+
+-- "17 BAD_VALUE: value .. given is not allowed"; "Latitude at most 5,400,000, longitude at most 10,800,000", "N or S", "E or W"
+abbrev pub degreesReader : Position → Position → List Check
+degreesReader lat lon =
+    check 17 0 (leb (lat .count) 5400000 && (eqb (lat .letter) (code "N") || eqb (lat .letter) (code "S")))
+    ∷ check 17 0 (leb (lon .count) 10800000 && (eqb (lon .letter) (code "E") || eqb (lon .letter) (code "W")))
+    ∷ []
+
+-- ---- what is claimed, reader by reader
+
+pub record ReadersRefuse : Type 0 where
+  -- B lines and K lines, and their columns
+  pub fix : (i : Slotted) (l : List ℕ) → RefusesFirst (columnedReader family.B (i .layout) l) (fixSaid l (i .layout))
+  pub extra : (j : Slotted) (l : List ℕ) → RefusesFirst (columnedReader family.K (j .layout) l) (extraSaid l (j .layout))
+  pub column : (i : Slotted) (l name : List ℕ) → RefusesFirst (columnReader (i .layout) l name) (columnSaid l (i .layout) name)
+  pub number : (i : Slotted) (l name : List ℕ) → RefusesFirst (numberReader (i .layout) l name) (numberSaid l (i .layout) name)
+  -- I lines and J lines
+  pub layout : (f : Family) (l : List ℕ) → RefusesFirst (layoutReader f l) (layoutSaid f l)
+  -- line 2, C heads and C points, E lines and F lines
+  pub date : (l : List ℕ) → RefusesFirst (kindCheck (code "H") l ∷ dateChecks l) (dateSaid l)
+  pub head : (l : List ℕ) → RefusesFirst (kindCheck (code "C") l ∷ headChecks l) (headSaid l)
+  pub point : (l : List ℕ) → RefusesFirst (kindCheck (code "C") l ∷ pointChecks l) (pointSaid l)
+  pub event : (l : List ℕ) → RefusesFirst (kindCheck (code "E") l ∷ eventChecks l) (eventSaid l)
+  pub satellites : (l : List ℕ) → RefusesFirst (kindCheck (code "F") l ∷ satelliteChecks l) (satellitesSaid l)
+  -- what a layout alone tells: the length of its lines, the place of a column, the presence word
+  pub long : (f : Family) (i : Layout) → RefusesFirst (layoutCheck f i ∷ []) (lengthSaid f i)
+  pub look : (f : Family) (i : Layout) (name : List ℕ) → RefusesFirst (layoutCheck f i ∷ nameCheck i name ∷ []) (lookSaid f i name)
+  pub presence : (i : Layout) → RefusesFirst (layoutCheck family.B i ∷ []) (presenceSaid i)
+  -- a line by its number, with any table; a step from any place; any two positions on the map
+  pub numbered : (file table : List ℕ) (n : ℕ) → RefusesFirst (numberedReader file table n) (boundsOf file table n)
+  pub step : (file : List ℕ) (at : ℕ) → RefusesFirst (stepReader file at) (stepAt file at)
+  pub degrees : (lat lon : Position) → RefusesFirst (degreesReader lat lon) (degreesOf lat lon)
+
+-- what 19 and 20 test, apart from how: a code is absent where no entry is of that name, and a column is a number where its text spells one
+pub record NamesMeant : Type 0 where
+  pub absent : (es : List Entry) (name : List ℕ) → IsName name → (hasCode es (packedOf name) ≡ false) ↔ Each (λ e. codeText (e .code) ≡ name → ⊥) es
+  pub spelt : (t : List ℕ) → (isThere (wholeOf t) ≡ true) ↔ ((z : Signed) × Spells t z)

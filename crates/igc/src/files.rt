@@ -1,0 +1,98 @@
+// A file by its name: read whole, then listed or checked.
+ghost use Rattle.io.specs.Counts.{Counts};
+use crate::output::fate_of;
+use crate::output::print_accepted;
+use crate::output::print_heading;
+use crate::output::print_refusal;
+use crate::output::print_refused;
+use crate::output::say_unopened;
+use crate::output::say_unread;
+use rules::Outcome;
+use rules::Seal;
+use verbs::Fate;
+
+// How many bytes of the input are the file's, and whether they are all that it has.
+struct Got {
+    count: usize,
+    whole: bool,
+}
+
+// Whether a file of which so many bytes were read has no more. Of one that is too long this is not asked: it is refused as such.
+fn is_whole(fd: i32, count: usize) -> bool {
+    if 16777216 < count {
+        return true;
+    }
+    lister::is_at_end(fd)
+}
+
+fn read_open(fd: i32, input: &mut [u8]) -> Got
+    ensures { λ r. ⌜ Counts (r .count) (now (input .exit)) ⌝ }
+{
+    let count = io::read_full(fd, input);
+    let whole = is_whole(fd, count);
+    libc::close(fd);
+    Got { count, whole }
+}
+
+fn read_named(name: &[u8], input: &mut [u8]) -> Got
+    ensures { λ r. ⌜ Counts (r .count) (now (input .exit)) ⌝ }
+{
+    let fd = os::open_read(name);
+    if fd < 0 {
+        say_unopened(name);
+        return Got {
+            count: 0,
+            whole: false,
+        };
+    }
+    let got = read_open(fd, input);
+    if !got.whole {
+        say_unread(name);
+    }
+    got
+}
+
+fn list(file: &[u8], table: &mut [u32]) -> Fate {
+    let checked = file::check(Seal::Strict, file, table);
+    let outcome = checked.outcome;
+    let flight = checked.flight;
+    match outcome {
+        Outcome::Refused(why) => fate_of(print_refusal(file, why), Fate::Refused),
+        Outcome::Accepted => fate_of(lister::print_accepted(file, table, flight), Fate::Accepted),
+    }
+}
+
+fn check(name: &[u8], file: &[u8], table: &mut [u32]) -> Fate {
+    let checked = file::check(Seal::Strict, file, table);
+    let outcome = checked.outcome;
+    let flight = checked.flight;
+    match outcome {
+        Outcome::Refused(why) => fate_of(print_refused(name, file, why), Fate::Refused),
+        Outcome::Accepted => fate_of(print_accepted(name, flight), Fate::Accepted),
+    }
+}
+
+// The verb list: the listing of an accepted file, or why it is refused. Its name stands before it where there are several, so that one file alone gives just what the listing gives.
+pub(crate) fn list_named(name: &[u8], several: bool, input: &mut [u8], table: &mut [u32]) -> Fate {
+    if several {
+        if !print_heading(name) {
+            return fate_of(false, Fate::Unwritten);
+        }
+    }
+    let got = read_named(name, input);
+    if !got.whole {
+        return Fate::Unread;
+    }
+    let n = got.count;
+    list(&input[..n], table)
+}
+
+// The verb check: one line of an accepted file, or why it is refused, with its name before it.
+pub(crate) fn check_named(name: &[u8], input: &mut [u8], table: &mut [u32]) -> Fate {
+    let got = read_named(name, input);
+    if !got.whole {
+        return Fate::Unread;
+    }
+    let n = got.count;
+    check(name, &input[..n], table)
+}

@@ -1,0 +1,153 @@
+// Checks or lists the IGC files that its words name: igc check FILE..., igc list FILE...
+// It is one exported function: C's `main` lends the memory and returns the status (c/igc.c).
+mod files;
+mod output;
+
+ghost use Prim.Native.Nat.{_≤_};
+use files::check_named;
+use files::list_named;
+use libc::STDERR_FILENO;
+use libc::STDOUT_FILENO;
+use output::fate_of;
+use output::print_usage;
+use verbs::Fate;
+use verbs::Verb;
+
+fn verb_at(i: usize) -> Verb {
+    let mut word = io::buffer();
+    let k = os::arg(i, &mut word);
+    verbs::verb_of(&word[..k])
+}
+
+fn is_option_at(i: usize) -> bool {
+    let mut word = io::buffer();
+    let k = os::arg(i, &mut word);
+    verbs::is_option(&word[..k])
+}
+
+fn begins_names_at(i: usize) -> bool {
+    let mut word = io::buffer();
+    let k = os::arg(i, &mut word);
+    verbs::begins_names(&word[..k])
+}
+
+// Words that are not those of the help text: nothing is done.
+fn refuse_words() -> u32 {
+    print_usage(STDERR_FILENO);
+    2
+}
+
+// The help text or the version, where no further word stands behind the verb.
+fn tell(version: bool, n: usize) -> u32 {
+    if 2 < n {
+        return refuse_words();
+    }
+    if version {
+        return verbs::status_of(fate_of(output::write(b"igc 1, of Hivebasket\n"), Fate::Accepted));
+    }
+    verbs::status_of(fate_of(print_usage(STDOUT_FILENO), Fate::Accepted))
+}
+
+// Where the first word that begins with a dash stands, of those from a place on; n where none does.
+fn first_option(from: usize, n: usize) -> usize {
+    let mut i = from;
+    while i < n {
+        if is_option_at(i) {
+            return i;
+        }
+        i += 1;
+    }
+    n
+}
+
+// A verb on the file that a word names.
+fn on_file(verb: Verb, i: usize, several: bool, input: &mut [u8], table: &mut [u32]) -> Fate {
+    let mut name = io::buffer();
+    let k = os::arg(i, &mut name);
+    match verb {
+        Verb::Check => check_named(&name[..k], input, table),
+        _ => list_named(&name[..k], several, input, table),
+    }
+}
+
+// The word `--` names no file.
+fn on_word(
+    verb: Verb,
+    i: usize,
+    dashes: usize,
+    several: bool,
+    input: &mut [u8],
+    table: &mut [u32],
+) -> Fate {
+    if i == dashes {
+        return Fate::Accepted;
+    }
+    on_file(verb, i, several, input, table)
+}
+
+// Nothing more can be said where the output could not be written.
+fn is_unwritten(fate: Fate) -> bool {
+    match fate {
+        Fate::Unwritten => true,
+        _ => false,
+    }
+}
+
+// A verb on each file that is named.
+fn on_each(
+    verb: Verb,
+    first: usize,
+    n: usize,
+    dashes: usize,
+    several: bool,
+    input: &mut [u8],
+    table: &mut [u32],
+) -> u32 {
+    let mut status = 0;
+    let mut i = first;
+    while i < n {
+        let fate = on_word(verb, i, dashes, several, input, table);
+        status = verbs::worse(status, verbs::status_of(fate));
+        if is_unwritten(fate) {
+            return status;
+        }
+        i += 1;
+    }
+    status
+}
+
+// A verb on the files that the words from a place on name. A word that begins with a dash names none, but for those behind `--`.
+fn on_files(verb: Verb, first: usize, n: usize, input: &mut [u8], table: &mut [u32]) -> u32
+    requires { ⌜ first ≤ 2 ⌝ }
+{
+    let dashes = first_option(first, n);
+    let mut names = first;
+    if dashes < n {
+        if !begins_names_at(dashes) {
+            return refuse_words();
+        }
+        names += 1;
+    }
+    if n <= names {
+        return refuse_words();
+    }
+    on_each(verb, first, n, dashes, 1 < n - names, input, table)
+}
+
+// Runs the program on the arguments that it was started with, a verb and the names of files. `input` takes one file, and has one byte more than the most that a file may
+// have; `table` has an entry for each of its lines. The answer is the exit status: 0 all accepted, 1 some file refused, 2 not all was read or written, or wrong words.
+#[no_mangle]
+pub extern "C" fn igc_run(input: &mut [u8], table: &mut [u32]) -> u32 {
+    let n = os::arg_count();
+    if n < 2 {
+        return refuse_words();
+    }
+    let verb = verb_at(1);
+    match verb {
+        Verb::List => on_files(verb, 2, n, input, table),
+        Verb::Check => on_files(verb, 2, n, input, table),
+        Verb::Help => tell(false, n),
+        Verb::Version => tell(true, n),
+        Verb::NoVerb => on_files(Verb::List, 1, n, input, table),
+    }
+}

@@ -1,0 +1,73 @@
+// What igc writes: its answers on standard output, and what is no answer on standard error.
+use libc::STDERR_FILENO;
+use libc::STDOUT_FILENO;
+use rules::Flight;
+use rules::Refusal;
+use verbs::Fate;
+
+const USAGE: [u8; 352] = *b"\
+    usage: igc [list] FILE...\n       igc check FILE...\n       igc help | version\n\
+    list   each file's OK, FIX and COL lines, or why it is refused\n\
+    check  one line a file: accepted, with its date and counts, or why it is refused\n\
+    Behind -- every word is a file's name.\n\
+    Status: 0 all accepted, 1 some file refused, 2 not all was read or written, or wrong words.\n\
+";
+
+// Whether all of it was written, as everywhere here.
+pub(crate) fn write(text: &[u8]) -> bool {
+    io::write_all(STDOUT_FILENO, text)
+}
+
+pub(crate) fn print_usage(fd: i32) -> bool {
+    let text = USAGE;
+    io::write_all(fd, &text)
+}
+
+// What became of a file whose answer was written, or was not: then that is said, once.
+pub(crate) fn fate_of(written: bool, fate: Fate) -> Fate {
+    if !written {
+        os::fail(b"igc: the output could not be written");
+        return Fate::Unwritten;
+    }
+    fate
+}
+
+// The line before a file's listing, where several are listed.
+pub(crate) fn print_heading(name: &[u8]) -> bool {
+    let mut out = [0u8; 4608];
+    let n = notice::heading(name, &mut out);
+    write(&out[..n])
+}
+
+// A refusal explained, with no name before it.
+pub(crate) fn print_refusal(file: &[u8], why: Refusal) -> bool {
+    let mut out = [0u8; 400];
+    let n = explain::refused(file, why, &mut out);
+    write(&out[..n])
+}
+
+pub(crate) fn print_refused(name: &[u8], file: &[u8], why: Refusal) -> bool {
+    let mut out = [0u8; 4608];
+    let n = notice::refused(name, file, why, &mut out);
+    write(&out[..n])
+}
+
+// The check that igc makes accepts no file without a G line, so each one that it accepts is signed.
+pub(crate) fn print_accepted(name: &[u8], flight: Flight) -> bool {
+    let mut out = [0u8; 4608];
+    let n = notice::accepted(name, flight, true, &mut out);
+    write(&out[..n])
+}
+
+// With what the system says of it.
+pub(crate) fn say_unopened(name: &[u8]) {
+    let mut out = [0u8; 4608];
+    let n = notice::failed(name, b"cannot be opened", &mut out);
+    os::fail(&out[..n]);
+}
+
+pub(crate) fn say_unread(name: &[u8]) {
+    let mut out = [0u8; 4608];
+    let n = notice::failed(name, b"cannot be read to its end\n", &mut out);
+    io::write_all(STDERR_FILENO, &out[..n]);
+}

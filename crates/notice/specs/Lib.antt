@@ -1,0 +1,2 @@
+-- What igc says of a file.
+pub mod Notice

@@ -1,0 +1,61 @@
+-- What igc says of a file by its name, and the promises of the functions that put it into a buffer: as much of the text as has room.
+use Prim.Native.Nat.{ℕ, _+_, _/_, _%_}
+use Prim.Native.Char.{code}
+use mathlib.Core.Bool.{Bool, cond}
+use mathlib.Core.List.{List, [], _∷_, _++_}
+use lib.Dec.{eqb}
+use lib.ListN.{length}
+use Rattle.rules.specs.Choice.{bytes}
+use Rattle.rules.specs.Listing.{decimal, shown, lf}
+use Rattle.rules.specs.declared.Date.{Date}
+use Rattle.rules.specs.declared.Flight.{Flight}
+use Rattle.rules.specs.declared.Refusal.{Refusal}
+use Rattle.pieces.specs.Buffer.{PiecePut}
+use Rattle.explain.specs.Explanation.{explanation}
+
+-- An argument is handed out with no bytes where it has none, and where it has more than a path can have.
+unfoldable pub nameShown : List ℕ → List ℕ
+unfolding bytes
+nameShown name = cond (eqb (length name) 0) (bytes "(no name, or one over 4,096 bytes)") name
+
+-- ---- a file that is accepted: its date, its counts of lines, fixes and K lines, and whether a G line is there
+
+-- a dash and a number below 100, with a zero in front where it has one digit
+unfoldable pub twoDigits : ℕ → List ℕ
+twoDigits n = code "-" ∷ (48 + n / 10 % 10) ∷ (48 + n % 10) ∷ []
+
+-- year, month and day, so that lines of several files sort by date
+unfoldable pub dateShown : Date → List ℕ
+dateShown d = decimal (d .year) ++ (twoDigits (d .month) ++ twoDigits (d .day))
+
+-- a count behind its word
+unfoldable pub counted : List ℕ → ℕ → List ℕ
+counted word n = word ++ shown n
+
+unfoldable pub countsShown : ℕ → ℕ → ℕ → List ℕ
+unfolding bytes
+countsShown lines fixes extras = counted (bytes ", lines") lines ++ (counted (bytes ", fixes") fixes ++ counted (bytes ", K lines") extras)
+
+-- a file is signed where it has a G line
+unfoldable pub signedShown : Bool → List ℕ
+unfolding bytes
+signedShown signed = cond signed (bytes ", signed" ++ lf) (bytes ", not signed" ++ lf)
+
+unfoldable pub acceptedShown : Flight → Bool → List ℕ
+unfolding bytes
+acceptedShown f signed = bytes ": accepted, " ++ (dateShown (f .date) ++ (countsShown (f .lines) (f .counts .b) (f .counts .k) ++ signedShown signed))
+
+-- ---- the promises
+
+abbrev pub HeadingPut : List ℕ → List ℕ → ℕ → List ℕ → Type 0
+HeadingPut name out r after = PiecePut out 0 (bytes "== " ++ (nameShown name ++ lf)) r after
+
+abbrev pub AcceptedPut : List ℕ → Flight → Bool → List ℕ → ℕ → List ℕ → Type 0
+AcceptedPut name f signed out r after = PiecePut out 0 (nameShown name ++ acceptedShown f signed) r after
+
+-- a file that is refused, explained with the caret
+abbrev pub RefusedPut : List ℕ → List ℕ → Refusal → List ℕ → ℕ → List ℕ → Type 0
+RefusedPut name file why out r after = PiecePut out 0 (nameShown name ++ (bytes ": " ++ explanation file why)) r after
+
+abbrev pub FailedPut : List ℕ → List ℕ → List ℕ → ℕ → List ℕ → Type 0
+FailedPut name why out r after = PiecePut out 0 (nameShown name ++ (bytes ": " ++ why)) r after

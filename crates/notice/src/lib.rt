@@ -1,0 +1,108 @@
+// What igc says of a file by its name: the heading of its listing, the line of its check, its refusal explained, why it was not read. Each is put at the start of a lent
+// buffer, and the answer is how many bytes that is; a full buffer takes no more.
+ghost use Rattle.pieces.specs.Buffer.{PiecePut};
+ghost use Rattle.notice.specs.Notice.{nameShown, twoDigits, dateShown, counted, countsShown, signedShown, acceptedShown, HeadingPut, AcceptedPut, RefusedPut, FailedPut};
+use pieces::put_byte;
+use pieces::put_decimal;
+use pieces::put_shown;
+use pieces::put_text;
+use rules::Date;
+use rules::Flight;
+use rules::Refusal;
+
+fn put_name(out: &mut [u8], at: usize, name: &[u8]) -> usize
+    ensures { λ r. ⌜ PiecePut (now (out .entry)) at (nameShown (now (name .entry))) r (now (out .exit)) ⌝ }
+{
+    if name.len() == 0 {
+        return put_text(out, at, b"(no name, or one over 4,096 bytes)");
+    }
+    put_text(out, at, name)
+}
+
+fn put_dashed(out: &mut [u8], at: usize, n: u8) -> usize
+    ensures { λ r. ⌜ PiecePut (now (out .entry)) at (twoDigits n) r (now (out .exit)) ⌝ }
+{
+    let a = put_byte(out, at, b'-');
+    let b = put_byte(out, a, 48 + n / 10 % 10);
+    put_byte(out, b, 48 + n % 10)
+}
+
+fn put_date(out: &mut [u8], at: usize, d: Date) -> usize
+    ensures { λ r. ⌜ PiecePut (now (out .entry)) at (dateShown d) r (now (out .exit)) ⌝ }
+{
+    let a = put_decimal(out, at, d.year as u64);
+    let b = put_dashed(out, a, d.month);
+    put_dashed(out, b, d.day)
+}
+
+fn put_counted(out: &mut [u8], at: usize, word: &[u8], n: u32) -> usize
+    ensures { λ r. ⌜ PiecePut (now (out .entry)) at (counted (now (word .entry)) n) r (now (out .exit)) ⌝ }
+{
+    let next = put_text(out, at, word);
+    put_shown(out, next, n as u64)
+}
+
+fn put_counts(out: &mut [u8], at: usize, lines: u32, fixes: u32, extras: u32) -> usize
+    ensures { λ r. ⌜ PiecePut (now (out .entry)) at (countsShown lines fixes extras) r (now (out .exit)) ⌝ }
+{
+    let a = put_counted(out, at, b", lines", lines);
+    let b = put_counted(out, a, b", fixes", fixes);
+    put_counted(out, b, b", K lines", extras)
+}
+
+fn put_signed(out: &mut [u8], at: usize, signed: bool) -> usize
+    ensures { λ r. ⌜ PiecePut (now (out .entry)) at (signedShown signed) r (now (out .exit)) ⌝ }
+{
+    if signed {
+        return put_text(out, at, b", signed\n");
+    }
+    put_text(out, at, b", not signed\n")
+}
+
+fn put_accepted(out: &mut [u8], at: usize, f: Flight, signed: bool) -> usize
+    ensures { λ r. ⌜ PiecePut (now (out .entry)) at (acceptedShown f signed) r (now (out .exit)) ⌝ }
+{
+    let date = f.date;
+    let counts = f.counts;
+    let a = put_text(out, at, b": accepted, ");
+    let b = put_date(out, a, date);
+    let c = put_counts(out, b, f.lines, counts.b, counts.k);
+    put_signed(out, c, signed)
+}
+
+// The line before the listing of a file, where several are listed.
+pub fn heading(name: &[u8], out: &mut [u8]) -> usize
+    ensures { λ r. ⌜ HeadingPut (now (name .entry)) (now (out .entry)) r (now (out .exit)) ⌝ }
+{
+    let a = put_text(out, 0, b"== ");
+    let b = put_name(out, a, name);
+    put_byte(out, b, b'\n')
+}
+
+// The line of an accepted file: its date, how many lines, fixes and K lines it has, and whether it is signed.
+pub fn accepted(name: &[u8], f: Flight, signed: bool, out: &mut [u8]) -> usize
+    ensures { λ r. ⌜ AcceptedPut (now (name .entry)) f signed (now (out .entry)) r (now (out .exit)) ⌝ }
+{
+    let next = put_name(out, 0, name);
+    put_accepted(out, next, f, signed)
+}
+
+// A refused file's name, and behind it the refusal explained.
+pub fn refused(name: &[u8], file: &[u8], why: Refusal, out: &mut [u8]) -> usize
+    ensures { λ r. ⌜ RefusedPut (now (name .entry)) (now (file .entry)) why (now (out .entry)) r (now (out .exit)) ⌝ }
+{
+    let mut text = [0u8; 400];
+    let n = explain::refused(file, why, &mut text);
+    let a = put_name(out, 0, name);
+    let b = put_text(out, a, b": ");
+    put_text(out, b, &text[..n])
+}
+
+// A file's name, and behind it why it was not read.
+pub fn failed(name: &[u8], why: &[u8], out: &mut [u8]) -> usize
+    ensures { λ r. ⌜ FailedPut (now (name .entry)) (now (why .entry)) (now (out .entry)) r (now (out .exit)) ⌝ }
+{
+    let a = put_name(out, 0, name);
+    let b = put_text(out, a, b": ");
+    put_text(out, b, why)
+}

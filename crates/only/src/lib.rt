@@ -1,0 +1,1 @@
+// No second answer meets a promise of `rules`: no function stands here; proofs/ holds the laws.

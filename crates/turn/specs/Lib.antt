@@ -1,0 +1,2 @@
+-- What a turn of the check says, in the paper's terms.
+pub mod Turns

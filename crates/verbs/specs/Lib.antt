@@ -1,0 +1,3 @@
+-- The words of the program igc, and its exit status.
+pub mod Words
+pub mod Status

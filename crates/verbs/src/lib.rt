@@ -1,0 +1,100 @@
+// What the words of the program igc mean, and with which status it ends.
+ghost use mathlib.Core.Path.{_≡_};
+ghost use Rattle.verbs.specs.Words.{same, VerbGiven, OptionTest, NamesTest};
+ghost use Rattle.verbs.specs.Status.{StatusGiven, WorseGiven};
+
+// What is asked of the program; `NoVerb` where the word is none.
+pub enum Verb {
+    List,
+    Check,
+    Help,
+    Version,
+    NoVerb,
+}
+
+// What became of a file.
+pub enum Fate {
+    Accepted,
+    Refused,
+    Unread,
+    Unwritten,
+}
+
+// Whether two texts are the same.
+fn is_same(a: &[u8], b: &[u8]) -> bool
+    ensures { λ r. ⌜ r ≡ same (now (a .entry)) (now (b .entry)) ⌝ }
+{
+    let n = a.len();
+    if n != b.len() {
+        return false;
+    }
+    let mut i = 0;
+    while i < n {
+        if a[i] != b[i] {
+            return false;
+        }
+        i += 1;
+    }
+    true
+}
+
+// The verb that a word is.
+pub fn verb_of(word: &[u8]) -> Verb
+    ensures { λ r. ⌜ VerbGiven (now (word .entry)) r ⌝ }
+{
+    if is_same(word, b"list") {
+        return Verb::List;
+    }
+    if is_same(word, b"check") {
+        return Verb::Check;
+    }
+    if is_same(word, b"help") {
+        return Verb::Help;
+    }
+    if is_same(word, b"--help") {
+        return Verb::Help;
+    }
+    if is_same(word, b"version") {
+        return Verb::Version;
+    }
+    if is_same(word, b"--version") {
+        return Verb::Version;
+    }
+    Verb::NoVerb
+}
+
+// Whether a word begins with a dash, as no file's name does before `--`.
+pub fn is_option(word: &[u8]) -> bool
+    ensures { λ r. ⌜ OptionTest (now (word .entry)) r ⌝ }
+{
+    chars::byte(word, 0) == b'-'
+}
+
+// Whether a word is the one behind which every word is a name.
+pub fn begins_names(word: &[u8]) -> bool
+    ensures { λ r. ⌜ NamesTest (now (word .entry)) r ⌝ }
+{
+    is_same(word, b"--")
+}
+
+// The status of a call on one file.
+pub fn status_of(fate: Fate) -> u32
+    ensures { λ r. ⌜ StatusGiven fate r ⌝ }
+{
+    match fate {
+        Fate::Accepted => 0,
+        Fate::Refused => 1,
+        Fate::Unread => 2,
+        Fate::Unwritten => 2,
+    }
+}
+
+// The status of two calls in one: 2 wins over 1, and 1 over 0.
+pub fn worse(a: u32, b: u32) -> u32
+    ensures { λ r. ⌜ WorseGiven a b r ⌝ }
+{
+    if b <= a {
+        return a;
+    }
+    b
+}

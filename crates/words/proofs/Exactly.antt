@@ -1,0 +1,112 @@
+-- What is claimed of the rules' table of listed codes, characters, limits and degrees: they are those of document 01, whose words stand in specs/. The grammar of `demands` has
+-- these words. Its checks of a refusal have the rules' own tests, as isValid, isCode, codesAt, widthFits, keepsRule, isEither and timeAt; what these mean, in the same words,
+-- is said beside `refused-first` by the `..-meant` lines and `fields-told`. Assumes nothing.
+use Prim.Native.Nat.{ℕ, _≤_}
+use Prim.Native.Char.{code}
+use mathlib.Core.Bool.{Bool, true}
+use mathlib.Core.List.{List}
+use mathlib.Core.Logic.{_↔_, _⊎_}
+use mathlib.Core.Path.{_≡_, refl}
+use lib.Ieee.{Float}
+use Rattle.rules.specs.Choice.{Each}
+use Rattle.rules.specs.Chars.{isValid, isDigit, isCode, codesAt}
+use Rattle.rules.specs.Listed.{codeText, isCodeWord, listed, widthFits, keepsRule}
+use Rattle.rules.specs.Fields.{isEither}
+use Rattle.rules.specs.Degrees.{angle, isLatitude, isLongitude}
+use Rattle.rules.specs.Limits.{isTime, isAltitude, goodFixFields}
+use Rattle.rules.specs.Fixes.{fieldsOf}
+use Rattle.rules.specs.Families.{firstStart, lineLetter, layoutLetter}
+use Rattle.rules.specs.Layouts.{emptyLayout, lineLength}
+use Rattle.rules.specs.declared.Family.the-variants as family
+use Rattle.rules.specs.declared.Position.{Position}
+use Rattle.rules.specs.declared.Height.{Height}
+use Rattle.rules.specs.declared.FixFields.{FixFields}
+use Rattle.rules.specs.declared.Fix.{Fix}
+use Rattle.words.specs.Characters.{IsValid, IsDigit, IsCode, CodesAt}
+use Rattle.words.specs.Codes.{rows, RowSays, Holds, SameRows}
+use Rattle.words.specs.Values.{IsTime, IsLatitude, IsLongitude, IsAngle, IsAltitude, IsFixFields}
+use Rattle.words.proofs.Characters as characters
+use Rattle.words.proofs.Codes as codes
+use Rattle.words.proofs.Values as values
+
+-- ---- characters
+
+pub valid-exactly : (inH : Bool) (b : ℕ) → (isValid inH b ≡ true) ↔ IsValid inH b
+valid-exactly = characters.valid-exactly
+
+pub digit-exactly : (b : ℕ) → (isDigit b ≡ true) ↔ IsDigit b
+digit-exactly = characters.digit-exactly
+
+pub code-exactly : (b : ℕ) → (isCode b ≡ true) ↔ IsCode b
+code-exactly = characters.code-exactly
+
+-- so many of them in a line, and the three of a layout's code
+pub codes-exactly : (l : List ℕ) (at n : ℕ) → (codesAt l at n ≡ true) ↔ CodesAt l at n
+codes-exactly = characters.codes-exactly
+
+pub word-exactly : (x : ℕ) → (isCodeWord x ≡ true) ↔ Each IsCode (codeText x)
+word-exactly = characters.word-exactly
+
+-- ---- the listed codes
+
+-- row by row
+pub listed-exactly : SameRows listed rows
+listed-exactly = codes.listed-exactly
+
+-- "12 WIDTH: listed code, wrong width", and "13 COLUMN: listed column against its rule"
+pub width-exactly : (x w : ℕ) → (widthFits x w ≡ true) ↔ RowSays x (λ p. (p .least ≤ w) × (w ≤ p .most))
+width-exactly = codes.width-exactly
+
+pub rule-exactly : (x : ℕ) (t : List ℕ) → (keepsRule x t ≡ true) ↔ RowSays x (λ p. Holds (p .name) t)
+rule-exactly = codes.rule-exactly
+
+-- ---- how far a value goes
+
+pub time-exactly : (t : ℕ) → (isTime t ≡ true) ↔ IsTime t
+time-exactly = values.time-exactly
+
+pub latitude-exactly : (p : Position) → (isLatitude p ≡ true) ↔ IsLatitude p
+latitude-exactly = values.latitude-exactly
+
+pub longitude-exactly : (p : Position) → (isLongitude p ≡ true) ↔ IsLongitude p
+longitude-exactly = values.longitude-exactly
+
+pub altitude-exactly : (h : Height) → (isAltitude h ≡ true) ↔ IsAltitude h
+altitude-exactly = values.altitude-exactly
+
+pub either-exactly : (x a b : ℕ) → (isEither x a b ≡ true) ↔ ((x ≡ a) ⊎ (x ≡ b))
+either-exactly = values.either-exactly
+
+pub fix-exactly : (f : FixFields) → (goodFixFields f ≡ true) ↔ IsFixFields f
+fix-exactly = values.fix-exactly
+
+-- a fix has what its line spells, field by field
+pub fix-fields-exactly : (f : Fix)
+    → (fieldsOf f .time ≡ f .time)
+    × (fieldsOf f .lat ≡ f .lat)
+    × (fieldsOf f .lon ≡ f .lon)
+    × (fieldsOf f .validity ≡ f .validity)
+    × (fieldsOf f .pressure ≡ f .pressure)
+    × (fieldsOf f .gnss ≡ f .gnss)
+unfolding fieldsOf
+fix-fields-exactly f = (refl, refl, refl, refl, refl, refl)
+
+-- ---- degrees for the map
+
+pub angle-exactly : (p : Position) (x : Float) → (angle p ≡ x) ↔ IsAngle p x
+angle-exactly = values.angle-exactly
+
+-- ---- the two families of lines with columns
+
+-- "The first entry starts at 36 (I) or 8 (J)"
+pub starts-exactly : (firstStart family.B ≡ 36) × (firstStart family.K ≡ 8)
+starts-exactly = (refl, refl)
+
+-- B lines with the I line, K lines with the J line
+pub letters-exactly : (lineLetter family.B ≡ code "B") × (layoutLetter family.B ≡ code "I") × (lineLetter family.K ≡ code "K") × (layoutLetter family.K ≡ code "J")
+letters-exactly = (refl, refl, refl, refl)
+
+-- "with NN 00, or no such line, B has 35 and K has 7"
+pub bare-exactly : (lineLength (firstStart family.B) emptyLayout ≡ 35) × (lineLength (firstStart family.K) emptyLayout ≡ 7)
+unfolding lineLength
+bare-exactly = (refl, refl)

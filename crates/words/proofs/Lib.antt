@@ -1,0 +1,4 @@
+pub mod Characters
+pub mod Codes
+pub mod Values
+pub mod Exactly

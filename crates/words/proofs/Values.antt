@@ -1,0 +1,134 @@
+-- The limits of a time, a position, an altitude and so of a fix, and the degrees of a position, in document 01's words. Assumes nothing.
+use Prim.Native.Nat.{ℕ, zero, suc, _+_, _≤_}
+use Prim.Native.Char.{code}
+use mathlib.Core.Bool.{Bool, true, false, not, _&&_, _||_, cond, or-true}
+use mathlib.Core.Logic.{_↔_, _⊎_, inl, inr}
+use mathlib.Core.Path.{_≡_, refl, sym, ap, _∙_, subst}
+use native.Mathlib.Omega.{arith}
+use borrow.Author.Tests.{le-leb, leb-true, eqb-true, eqb-false, eq-eqb}
+use lib.Dec.{eqb, leb}
+use lib.IntN.{ℤ, pos, negsuc, negℤ}
+use lib.Ieee.{Float, fin, round, units, odd, size, neg}
+use Rattle.rules.specs.Fields.{isEither}
+use Rattle.rules.specs.Degrees.{quotient, isNegated, angle, isPosition, isLatitude, isLongitude}
+use Rattle.rules.specs.Limits.{isTime, isMetres, isAltitude, goodFixFields}
+use Rattle.rules.specs.declared.Position.{Position}
+use Rattle.rules.specs.declared.Height.{Height}
+use Rattle.rules.specs.declared.FixFields.{FixFields}
+use Rattle.rules.proofs.Inverse.{false-true, and-inv, need-inv}
+use Rattle.words.specs.Values.{IsTime, IsLatitude, IsLongitude, IsAngle, nought, negated, as-it-is, over60000, IsAltitude, plain, minus, IsFixFields}
+
+-- ---- one of two letters
+
+pub either-exactly : (x a b : ℕ) → (isEither x a b ≡ true) ↔ ((x ≡ a) ⊎ (x ≡ b))
+unfolding isEither
+either-exactly x a b = (there (eqb x a) (eqb x b) refl refl, here)
+  where
+    there : (s t : Bool) → eqb x a ≡ s → eqb x b ≡ t → (s || t) ≡ true → (x ≡ a) ⊎ (x ≡ b)
+    there true t p q e = inl (eqb-true x a p)
+    there false true p q e = inr (eqb-true x b q)
+    there false false p q e = absurd (false-true e)
+
+    here : (x ≡ a) ⊎ (x ≡ b) → (eqb x a || eqb x b) ≡ true
+    here (inl h) = rw (eq-eqb x a h)
+    here (inr h) = rw (eq-eqb x b h) (or-true (eqb x a))
+
+-- ---- times and positions
+
+pub time-exactly : (t : ℕ) → (isTime t ≡ true) ↔ IsTime t
+time-exactly t = (λ e. let h : t ≤ 86399 = leb-true _ _ e in omega arith, λ h. le-leb t 86399 (omega arith))
+
+position-exactly : (most a b : ℕ) (p : Position) → (isPosition most a b p ≡ true) ↔ ((p .count ≤ most) × ((p .letter ≡ a) ⊎ (p .letter ≡ b)))
+unfolding isPosition
+position-exactly most a b p = (
+  λ e. let h = and-inv (leb (p .count) most) _ e in (leb-true _ _ (h .0), either-exactly _ a b .0 (h .1)),
+  λ h. rw (le-leb _ _ (h .0)) (either-exactly _ a b .1 (h .1)),
+)
+
+pub latitude-exactly : (p : Position) → (isLatitude p ≡ true) ↔ IsLatitude p
+latitude-exactly p = let x = position-exactly _ _ _ p in (λ e. let h = x .0 e in record { most = h .0; letter = h .1 }, λ w. x .1 (w .most, w .letter))
+
+pub longitude-exactly : (p : Position) → (isLongitude p ≡ true) ↔ IsLongitude p
+longitude-exactly p = let x = position-exactly _ _ _ p in (λ e. let h = x .0 e in record { most = h .0; letter = h .1 }, λ w. x .1 (w .most, w .letter))
+
+-- ---- degrees
+
+-- 0 over 60,000 is plain zero
+zero-over : over60000 0 ≡ fin false 0 (pos 0)
+unfolding round units odd size
+zero-over = refl
+
+angle-is : (p : Position) → IsAngle p (angle p)
+unfolding angle isNegated quotient
+angle-is p = go (eqb (p .count) 0) refl (isEither (p .letter) (code "S") (code "W")) refl
+  where
+    least : eqb (p .count) 0 ≡ false → 1 ≤ p .count
+    least e = let n = eqb-false (p .count) 0 e in omega (arith, n)
+
+    go : (z : Bool) → eqb (p .count) 0 ≡ z → (b : Bool) → isEither (p .letter) (code "S") (code "W") ≡ b → IsAngle p (cond (not z && b) (neg (over60000 (p .count))) (over60000 (p .count)))
+    go true e b h = let z = eqb-true (p .count) 0 e in subst (IsAngle p) (sym (ap over60000 z ∙ zero-over)) (nought z)
+    go false e true h = negated (least e) (either-exactly _ _ _ .0 h)
+    go false e false h =
+        let no : ((p .letter ≡ code "S") ⊎ (p .letter ≡ code "W")) → ⊥ = λ w. false-true (sym h ∙ either-exactly _ _ _ .1 w) in
+        as-it-is (least e) (λ s. no (inl s)) (λ w. no (inr w))
+
+-- there is one such number
+angle-once : (p : Position) {x y : Float} → IsAngle p x → IsAngle p y → x ≡ y
+angle-once p (nought a) (nought b) = refl
+angle-once p (nought a) (negated b w) = absurd (omega arith)
+angle-once p (nought a) (as-it-is b s w) = absurd (omega arith)
+angle-once p (negated a w) (nought b) = absurd (omega arith)
+angle-once p (negated a w) (negated b v) = refl
+angle-once p (negated a (inl w)) (as-it-is b s v) = absurd (s w)
+angle-once p (negated a (inr w)) (as-it-is b s v) = absurd (v w)
+angle-once p (as-it-is a s w) (nought b) = absurd (omega arith)
+angle-once p (as-it-is a s v) (negated b (inl w)) = absurd (s w)
+angle-once p (as-it-is a s v) (negated b (inr w)) = absurd (v w)
+angle-once p (as-it-is a s w) (as-it-is b t v) = refl
+
+pub angle-exactly : (p : Position) (x : Float) → (angle p ≡ x) ↔ IsAngle p x
+angle-exactly p x = (λ e. subst (IsAngle p) e (angle-is p), angle-once p (angle-is p))
+
+-- ---- altitudes
+
+pub altitude-exactly : (h : Height) → (isAltitude h ≡ true) ↔ IsAltitude h
+unfolding isAltitude
+altitude-exactly h = (there (h .metres) refl, here)
+  where
+    there : (z : ℤ) → h .metres ≡ z → isMetres z ≡ true → IsAltitude h
+    there (pos n) q e = plain n q (leb-true _ _ e)
+    there (negsuc n) q e = let k : n + 1 ≤ 9999 = leb-true _ _ e in minus (suc n) q (omega arith) (omega arith)
+
+    below : (n : ℕ) → 1 ≤ n → n ≤ 9999 → isMetres (negℤ (pos n)) ≡ true
+    below zero p q = absurd (omega arith)
+    below (suc n) p q = le-leb (n + 1) 9999 (omega arith)
+
+    here : IsAltitude h → isMetres (h .metres) ≡ true
+    here (plain n q m) = ap isMetres q ∙ le-leb n 99999 m
+    here (minus n q l m) = ap isMetres q ∙ below n l m
+
+-- ---- the fields of a fix
+
+pub fix-exactly : (f : FixFields) → (goodFixFields f ≡ true) ↔ IsFixFields f
+unfolding goodFixFields
+fix-exactly f = (there, here)
+  where
+    there : goodFixFields f ≡ true → IsFixFields f
+    there e =
+        let a = need-inv (isTime (f .time)) false true _ false-true e in
+        let b = need-inv (isLatitude (f .lat)) false true _ false-true (a .1) in
+        let c = need-inv (isLongitude (f .lon)) false true _ false-true (b .1) in
+        let d = need-inv (isEither (f .validity) 65 86) false true _ false-true (c .1) in
+        let p = need-inv (isAltitude (f .pressure)) false true _ false-true (d .1) in
+        record {
+          time = time-exactly _ .0 (a .0);
+          lat = latitude-exactly _ .0 (b .0);
+          lon = longitude-exactly _ .0 (c .0);
+          validity = either-exactly _ _ _ .0 (d .0);
+          pressure = altitude-exactly _ .0 (p .0);
+          gnss = altitude-exactly _ .0 (p .1);
+        }
+
+    here : IsFixFields f → goodFixFields f ≡ true
+    here w =
+        rw (time-exactly _ .1 (w .time), latitude-exactly _ .1 (w .lat), longitude-exactly _ .1 (w .lon), either-exactly _ _ _ .1 (w .validity), altitude-exactly _ .1 (w .pressure)) (altitude-exactly _ .1 (w .gnss))

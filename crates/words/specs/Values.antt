@@ -1,0 +1,49 @@
+-- Document 01, 'Fields': how far a time, a position and an altitude go, and so the fields of a fix; and 'I and J layouts': the degrees of a position.
+use Prim.Native.Nat.{ℕ, _*_, _≤_, _<_}
+use Prim.Native.Char.{code}
+use mathlib.Core.Bool.{false}
+use mathlib.Core.Logic.{_⊎_}
+use mathlib.Core.Path.{_≡_}
+use lib.IntN.{pos, negℤ}
+use lib.Ieee.{Float, fin, binary64, round, neg}
+use Rattle.rules.specs.declared.Position.{Position}
+use Rattle.rules.specs.declared.Height.{Height}
+use Rattle.rules.specs.declared.FixFields.{FixFields}
+
+-- "Time: HHMMSS, 00 to 23, 00 to 59, 00 to 59, read as seconds of the day.": of 24 hours
+abbrev pub IsTime : ℕ → Type 0
+IsTime t = t < 24 * 60 * 60
+
+-- "Position: a count of thousandths of a minute with its letter kept beside it."; "Latitude at most 5,400,000": 90 degrees; "N or S"
+pub record IsLatitude (p : Position) : Type 0 where
+  pub most : p .count ≤ 90 * 60 * 1000
+  pub letter : (p .letter ≡ code "N") ⊎ (p .letter ≡ code "S")
+
+-- "longitude at most 10,800,000": 180 degrees; "E or W"
+pub record IsLongitude (p : Position) : Type 0 where
+  pub most : p .count ≤ 180 * 60 * 1000
+  pub letter : (p .letter ≡ code "E") ⊎ (p .letter ≡ code "W")
+
+-- "the count over 60,000, one rounded division": the f64 nearest to that fraction
+abbrev pub over60000 : ℕ → Float
+over60000 count = round binary64 false count 60000
+
+-- "negated for S and W, and plain zero for count 0 under either letter"
+pub data IsAngle (p : Position) : Float → Type 0 where
+  nought : p .count ≡ 0 → IsAngle p (fin false 0 (pos 0))
+  negated : 1 ≤ p .count → (p .letter ≡ code "S") ⊎ (p .letter ≡ code "W") → IsAngle p (neg (over60000 (p .count)))
+  as-it-is : 1 ≤ p .count → (p .letter ≡ code "S" → ⊥) → (p .letter ≡ code "W" → ⊥) → IsAngle p (over60000 (p .count))
+
+-- "Altitude in metres: five digits, or a minus and four digits that are not all zero. So -9,999 to 99,999."
+pub data IsAltitude (h : Height) : Type 0 where
+  plain : (n : ℕ) → h .metres ≡ pos n → n ≤ 99999 → IsAltitude h
+  minus : (n : ℕ) → h .metres ≡ negℤ (pos n) → 1 ≤ n → n ≤ 9999 → IsAltitude h
+
+-- "B: time ..; latitude ..; longitude ..; A or V ..; pressure altitude ..; GNSS altitude .."
+pub record IsFixFields (f : FixFields) : Type 0 where
+  pub time : IsTime (f .time)
+  pub lat : IsLatitude (f .lat)
+  pub lon : IsLongitude (f .lon)
+  pub validity : (f .validity ≡ code "A") ⊎ (f .validity ≡ code "V")
+  pub pressure : IsAltitude (f .pressure)
+  pub gnss : IsAltitude (f .gnss)
