@@ -183,7 +183,7 @@ static void words(void) {
     say_text("explain, no byte", hive_explain(TEXT(FIVE), 7, 5, 0, text, sizeof text, answer, HIVE_ANSWER));
     say_text("explain, past the last line", hive_explain(TEXT(FIVE), 16, 6, 0, text, sizeof text, answer, HIVE_ANSWER));
     say_text("explain, byte 121", hive_explain(TEXT(FIVE), 3, 4, 121, text, sizeof text, answer, HIVE_ANSWER));
-    say_text("explain 22", hive_explain(TEXT(FIVE), 22, 4, 8, text, sizeof text, answer, HIVE_ANSWER));
+    say_text("explain 26", hive_explain(TEXT(FIVE), 26, 4, 8, text, sizeof text, answer, HIVE_ANSWER));
     say_text("explain, answer of 15", hive_explain(TEXT(FIVE), 9, 4, 8, text, sizeof text, answer, 15));
 }
 
