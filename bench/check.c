@@ -1,4 +1,4 @@
-/* The check of a whole IGC file in one pass: refusals 1 to 16 of document 01, the counts, and the table of the lines' offsets. */
+/* The check of a whole IGC file in one pass: refusals 1 to 16 of document 01 and 22 to 25 of document 02, the counts, and the table of the lines' offsets. */
 #include "lines.h"
 
 struct answer check(const uint8_t *file, size_t length, uint32_t *table, size_t entries)

@@ -1,4 +1,4 @@
-/* The check of a whole IGC file by the rules of document 01, written by hand in C to measure the library against. */
+/* The check of a whole IGC file by the rules of documents 01 and 02, written by hand in C to measure the library against. */
 #ifndef BENCH_CHECK_H
 #define BENCH_CHECK_H
 

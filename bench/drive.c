@@ -87,7 +87,7 @@ struct measured {
 static int is_expected(const struct said *said, const struct flight *flight, size_t lines)
 {
     if (flight->is_damaged)
-        return said->number == HIVE_FORM && said->answer[HIVE_REFUSED_LINE] == lines - 1 && said->answer[HIVE_REFUSED_BYTE] == 8;
+        return said->number == HIVE_POSITION && said->answer[HIVE_REFUSED_LINE] == lines - 1 && said->answer[HIVE_REFUSED_BYTE] == 8;
     return said->number == 0 && said->answer[HIVE_LINES] == lines;
 }
 

@@ -1,4 +1,5 @@
-/* A line of an IGC file checked by hand in C: refusals 3 to 15 of document 01. The code that check.c and rival.c share; each of them has it whole, as its own. */
+/* A line of an IGC file checked by hand in C: refusals 3 to 15 of document 01, and 22 to 25 of document 02. The code that check.c, ahead.c and rival.c share; each of them has
+   it whole, as its own. */
 #ifndef BENCH_LINES_H
 #define BENCH_LINES_H
 
@@ -147,26 +148,29 @@ struct fault {
 
 static const struct fault none = {0, 0};
 
-static struct fault form(uint32_t byte)
+/* The refusal of a field against its rule, by what the field holds: FORM is that of every other field. */
+enum { FORM = 9, TIME = 22, POSITION = 23, ALTITUDE = 24, DATE = 25 };
+
+static struct fault bad(uint32_t number, uint32_t byte)
 {
-    return (struct fault){9, byte};
+    return (struct fault){number, byte};
 }
 
 static struct fault read_layout(const uint8_t *line, size_t length, uint32_t start, struct layout *layout)
 {
     uint32_t count = two(line + 1);
     if (!all(line + 1, 2, DIGIT) || length != 3 + 7 * (size_t)count)
-        return form(2);
+        return bad(FORM, 2);
     layout->length = start - 1;
     for (uint32_t n = 0; n < count; n++) {
         const uint8_t *entry = line + 3 + 7 * n;
         uint32_t byte = 4 + 7 * n, first = two(entry), last = two(entry + 2);
         if (!all(entry, 2, DIGIT))
-            return form(byte);
+            return bad(FORM, byte);
         if (!all(entry + 2, 2, DIGIT))
-            return form(byte + 2);
+            return bad(FORM, byte + 2);
         if (!all(entry + 4, 3, CODE))
-            return form(byte + 4);
+            return bad(FORM, byte + 4);
         if (first != layout->length + 1 || last < first)
             return (struct fault){10, byte};
         for (uint32_t before = 0; before < n; before++)
@@ -199,29 +203,29 @@ static struct fault check_columns(const uint8_t *line, const struct layout *layo
 static struct fault check_fix(const uint8_t *line, const struct layout *layout, uint32_t *seconds)
 {
     if (!is_time(line + 1, seconds))
-        return form(2);
+        return bad(TIME, 2);
     if (!is_latitude(line + 7))
-        return form(8);
+        return bad(POSITION, 8);
     if (!is_longitude(line + 15))
-        return form(16);
+        return bad(POSITION, 16);
     if (!either(line[24], 'A', 'V'))
-        return form(25);
+        return bad(FORM, 25);
     if (!is_altitude(line + 25))
-        return form(26);
+        return bad(ALTITUDE, 26);
     if (!is_altitude(line + 30))
-        return form(31);
+        return bad(ALTITUDE, 31);
     return check_columns(line, layout);
 }
 
 static struct fault check_satellites(const uint8_t *line, size_t length, uint32_t *seconds)
 {
     if (!is_time(line + 1, seconds))
-        return form(2);
+        return bad(TIME, 2);
     if (length % 2 == 0)
-        return form(8);
+        return bad(FORM, 8);
     for (size_t at = 7; at < length; at += 2)
         if (!all(line + at, 2, CODE))
-            return form(at + 1);
+            return bad(FORM, at + 1);
     return none;
 }
 
@@ -229,15 +233,15 @@ static struct fault check_head(const uint8_t *line, struct state *state)
 {
     uint32_t day, month, year, seconds;
     if (!is_date(line + 1, &day, &month, &year))
-        return form(2);
+        return bad(DATE, 2);
     if (!is_time(line + 7, &seconds))
-        return form(8);
+        return bad(TIME, 8);
     if (memcmp(line + 13, "000000", 6) != 0 && !is_date(line + 13, &day, &month, &year))
-        return form(14);
+        return bad(DATE, 14);
     if (!all(line + 19, 4, DIGIT))
-        return form(20);
+        return bad(FORM, 20);
     if (!all(line + 23, 2, DIGIT))
-        return form(24);
+        return bad(FORM, 24);
     state->declared = true;
     state->points_due = two(line + 23) + 4;
     return none;
@@ -246,9 +250,9 @@ static struct fault check_head(const uint8_t *line, struct state *state)
 static struct fault check_point(const uint8_t *line, struct state *state)
 {
     if (!is_latitude(line + 1))
-        return form(2);
+        return bad(POSITION, 2);
     if (!is_longitude(line + 9))
-        return form(10);
+        return bad(POSITION, 10);
     state->points_due--;
     return none;
 }
@@ -323,19 +327,19 @@ static struct limits limits_of(const struct state *state, uint8_t kind)
     }
 }
 
-/* Checks 9 to 13; a timed line's time goes to `seconds`. */
+/* Checks 9 to 13, with 22 to 25 in 9's place; a timed line's time goes to `seconds`. */
 static struct fault check_fields(const uint8_t *line, size_t length, struct state *state, uint32_t *seconds)
 {
     struct answer *said = &state->said;
     switch (line[0]) {
     case 'A':
-        return !all(line + 1, 3, CODE) ? form(2) : !all(line + 4, 3, CODE) ? form(5) : none;
+        return !all(line + 1, 3, CODE) ? bad(FORM, 2) : !all(line + 4, 3, CODE) ? bad(FORM, 5) : none;
     case 'H':
         if (state->stage == RECORDER)
-            return memcmp(line + 1, "FDTE", 4) != 0                            ? form(2)
-                   : !is_date(line + 5, &said->day, &said->month, &said->year) ? form(6)
+            return memcmp(line + 1, "FDTE", 4) != 0                            ? bad(FORM, 2)
+                   : !is_date(line + 5, &said->day, &said->month, &said->year) ? bad(DATE, 6)
                                                                                : none;
-        return !either(line[1], 'F', 'O') ? form(2) : !all(line + 2, 3, CODE) ? form(3) : none;
+        return !either(line[1], 'F', 'O') ? bad(FORM, 2) : !all(line + 2, 3, CODE) ? bad(FORM, 3) : none;
     case 'I':
         return read_layout(line, length, 36, &state->fixes);
     case 'J':
@@ -343,15 +347,15 @@ static struct fault check_fields(const uint8_t *line, size_t length, struct stat
     case 'C':
         return state->points_due ? check_point(line, state) : check_head(line, state);
     case 'D':
-        return !either(line[1], '1', '2') ? form(2) : !all(line + 2, 4, CODE) ? form(3) : none;
+        return !either(line[1], '1', '2') ? bad(FORM, 2) : !all(line + 2, 4, CODE) ? bad(FORM, 3) : none;
     case 'E':
-        return !is_time(line + 1, seconds) ? form(2) : !all(line + 7, 3, CODE) ? form(8) : none;
+        return !is_time(line + 1, seconds) ? bad(TIME, 2) : !all(line + 7, 3, CODE) ? bad(FORM, 8) : none;
     case 'F':
         return check_satellites(line, length, seconds);
     case 'B':
         return check_fix(line, &state->fixes, seconds);
     case 'K':
-        return !is_time(line + 1, seconds) ? form(2) : check_columns(line, &state->notes);
+        return !is_time(line + 1, seconds) ? bad(TIME, 2) : check_columns(line, &state->notes);
     default:
         return none;
     }

@@ -1,5 +1,5 @@
 /* Calls every function of the library on small inputs and prints what it returns and leaves in what is lent: the number, then the answer.
-   c/test holds the output against c/expected/calls, which is worked out from document 01 by hand. */
+   c/test holds the output against c/expected/calls, which is worked out from documents 01 and 02 by hand. */
 #include <stdio.h>
 #include <string.h>
 
@@ -101,8 +101,12 @@ static void lines(void) {
     say_fix("fix by a J line", hive_fix(TEXT(B), TEXT(J), answer, HIVE_ANSWER, heights, HIVE_HEIGHTS));
     say_fix("fix with no I line", hive_fix(TEXT(B), NULL, 0, answer, HIVE_ANSWER, heights, HIVE_HEIGHTS));
     say_fix("fix over 90 degrees", hive_fix(TEXT("B1200009000001N00015000WA-001200120"), NULL, 0, answer, HIVE_ANSWER, heights, HIVE_HEIGHTS));
+    say_fix("fix at 24 hours", hive_fix(TEXT("B2400005130000N00015000WA0010000120"), NULL, 0, answer, HIVE_ANSWER, heights, HIVE_HEIGHTS));
+    say_fix("fix at minus zero metres", hive_fix(TEXT("B1200005130000N00015000WA00100-0000"), NULL, 0, answer, HIVE_ANSWER, heights, HIVE_HEIGHTS));
+    say_fix("fix, neither A nor V", hive_fix(TEXT("B1200005130000N00015000WX0010000120"), NULL, 0, answer, HIVE_ANSWER, heights, HIVE_HEIGHTS));
     say_fix("fix below zero", hive_fix(TEXT("B1200009000000S18000000EV-001299999"), NULL, 0, answer, HIVE_ANSWER, heights, HIVE_HEIGHTS));
     say("extra", hive_extra(TEXT(K), TEXT(J), answer, HIVE_ANSWER));
+    say("extra at 60 minutes", hive_extra(TEXT("K126000123"), TEXT(J), answer, HIVE_ANSWER));
     say("extra by an I line", hive_extra(TEXT(K), TEXT(I), answer, HIVE_ANSWER));
     say("extra, a B line", hive_extra(TEXT(B), TEXT(J), answer, HIVE_ANSWER));
     say("column SIU", hive_column(TEXT(B), TEXT(I), 'S', 'I', 'U', answer, HIVE_ANSWER));
@@ -131,12 +135,19 @@ static void lines(void) {
 static void others(void) {
     say("date", hive_date(TEXT("HFDTE150724"), answer, HIVE_ANSWER));
     say("no date", hive_date(TEXT("HFDTE290223"), answer, HIVE_ANSWER));
+    say("no FDTE", hive_date(TEXT("HFDTX290223"), answer, HIVE_ANSWER));
     say("event", hive_event(TEXT("E120000ABC"), answer, HIVE_ANSWER));
+    say("event at 60 seconds", hive_event(TEXT("E120060ABC"), answer, HIVE_ANSWER));
     say("satellites", hive_satellites(TEXT("F1200000102"), answer, HIVE_ANSWER));
+    say("satellites at 24 hours", hive_satellites(TEXT("F2400000102"), answer, HIVE_ANSWER));
     say("half a pair", hive_satellites(TEXT("F120000010"), answer, HIVE_ANSWER));
     say("head", hive_head(TEXT("C150724093000160724000102"), answer, HIVE_ANSWER));
     say("head with no flight date", hive_head(TEXT("C150724093000000000000102"), answer, HIVE_ANSWER));
+    say("head, declared on day 0", hive_head(TEXT("C000724093000160724000102"), answer, HIVE_ANSWER));
+    say("head at 24 hours", hive_head(TEXT("C150724240000160724000102"), answer, HIVE_ANSWER));
+    say("head, no such flight date", hive_head(TEXT("C150724093000310624000102"), answer, HIVE_ANSWER));
     say("point", hive_point(TEXT("C5130000N00015000WHOME"), answer, HIVE_ANSWER));
+    say("point over 180 degrees", hive_point(TEXT("C5130000N18000001WHOME"), answer, HIVE_ANSWER));
     say("point, a B line", hive_point(TEXT(B), answer, HIVE_ANSWER));
 }
 
@@ -163,7 +174,8 @@ static void words(void) {
     say_out("name 21, text of 10", hive_name(21, out, 10, answer, HIVE_ANSWER));
     say_out("name 21, text of 9", hive_name(21, out, 9, answer, HIVE_ANSWER));
     say_out("name 0", hive_name(0, out, sizeof out, answer, HIVE_ANSWER));
-    say_out("name 22, no text", hive_name(22, NULL, 0, answer, HIVE_ANSWER));
+    say_out("name 25", hive_name(25, out, sizeof out, answer, HIVE_ANSWER));
+    say_out("name 26, no text", hive_name(26, NULL, 0, answer, HIVE_ANSWER));
     say_out("name, answer of 15", hive_name(9, out, sizeof out, answer, 15));
     say_text("explain", hive_explain(TEXT(FIVE), 9, 4, 8, text, sizeof text, answer, HIVE_ANSWER));
     say_text("explain, no line", hive_explain(NULL, 0, 1, 0, 0, text, 26, answer, HIVE_ANSWER));
@@ -171,7 +183,7 @@ static void words(void) {
     say_text("explain, no byte", hive_explain(TEXT(FIVE), 7, 5, 0, text, sizeof text, answer, HIVE_ANSWER));
     say_text("explain, past the last line", hive_explain(TEXT(FIVE), 16, 6, 0, text, sizeof text, answer, HIVE_ANSWER));
     say_text("explain, byte 121", hive_explain(TEXT(FIVE), 3, 4, 121, text, sizeof text, answer, HIVE_ANSWER));
-    say_text("explain 22", hive_explain(TEXT(FIVE), 22, 4, 8, text, sizeof text, answer, HIVE_ANSWER));
+    say_text("explain 26", hive_explain(TEXT(FIVE), 26, 4, 8, text, sizeof text, answer, HIVE_ANSWER));
     say_text("explain, answer of 15", hive_explain(TEXT(FIVE), 9, 4, 8, text, sizeof text, answer, 15));
 }
 

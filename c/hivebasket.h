@@ -36,7 +36,8 @@ extern "C" {
 
 enum { HIVE_ANSWER = 16, HIVE_HEIGHTS = 2, HIVE_DEGREES = 2, HIVE_NUMBER = 1 };
 
-/* Refusal numbers. */
+/* Refusal numbers. The first field of a line that is against its rule is told by what it holds: HIVE_TIME a time, HIVE_POSITION a latitude or longitude, HIVE_ALTITUDE an
+   altitude, HIVE_DATE a date, HIVE_FORM anything else. All five have the same place among the checks: after HIVE_CHARACTER, before HIVE_COLUMN. */
 enum {
     HIVE_EMPTY = 1,
     HIVE_TOO_LONG = 2,
@@ -58,7 +59,11 @@ enum {
     HIVE_NO_ROOM = 18,
     HIVE_ABSENT = 19,
     HIVE_NOT_NUMBER = 20,
-    HIVE_INPUT_OVER = 21 /* of the listing program alone */
+    HIVE_INPUT_OVER = 21, /* of the listing program alone */
+    HIVE_TIME = 22,
+    HIVE_POSITION = 23,
+    HIVE_ALTITUDE = 24,
+    HIVE_DATE = 25
 };
 
 /* Places in every answer. */
@@ -66,8 +71,8 @@ enum { HIVE_REFUSED_LINE = 0, HIVE_REFUSED_BYTE = 1 };
 
 /* ---- a file */
 
-/* The check of a whole file, with the table of its lines' offsets. Refused with 1 to 16. The table's first entries are set for the lines before the faulty one (16 or
-   good: for all lines); the others stay.
+/* The check of a whole file, with the table of its lines' offsets. Refused with 1 to 16 or 22 to 25. The table's first entries are set for the lines before the faulty
+   one (16 or good: for all lines); the others stay.
        2 day  3 month  4 year  5 lines  6 B lines  7 K lines  8 bytes of a B line  9 bytes of a K line */
 enum {
     HIVE_DAY = 2,
@@ -100,7 +105,7 @@ uint32_t hive_step(const uint8_t *file, size_t file_length,
                    size_t place,
                    uint64_t *answer, size_t answer_length);
 
-/* ---- a line: 17 for another kind of line or a layout that is not allowed, then 7 to 13 with the byte */
+/* ---- a line: 17 for another kind of line or a layout that is not allowed, then with the byte 7, 8, a field's (9, 22 to 24), 13 */
 
 /* The fix of a B line. The counts are thousandths of a minute; letters and validity are the bytes of the line.
        2 seconds of the day  3 latitude  4 N or S  5 longitude  6 E or W  7 A or V
@@ -191,7 +196,7 @@ uint32_t hive_write_layout(const uint8_t *layout, size_t layout_length,
                            uint8_t *out, size_t out_length,
                            uint64_t *answer, size_t answer_length);
 
-/* ---- further readers: 17 for another kind of line, then 7 to 9 with the byte */
+/* ---- further readers: 17 for another kind of line, then with the byte 7, 8, a field's (9, 22, 23, 25) */
 
 /* The date of a file's second line.
        2 day  3 month  4 year */

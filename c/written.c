@@ -1,6 +1,6 @@
 /* Writes lines of each kind into a small output: at each place of the output, with values at their limits, and with each value outside its limit. Prints the answer and
    the whole output, so the bytes outside the line are seen.
-   c/test holds the output against c/expected/written, which tests/make-expected makes from the independent reading of document 01. */
+   c/test holds the output against c/expected/written, which tests/make-expected makes from the independent reading of documents 01 and 02. */
 #include <stdio.h>
 #include <string.h>
 

@@ -1,4 +1,4 @@
-//! The independent reading of document 01, and files to try it on. Uses the standard library alone, and no part of Hivebasket.
+//! The independent reading of documents 01 and 02, and files to try it on. Uses the standard library alone, and no part of Hivebasket.
 //!
 //!     reading/    the rules, a concern to a file
 //!     files/      files to try it on: valid, damaged, at the limits

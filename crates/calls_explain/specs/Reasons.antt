@@ -4,7 +4,7 @@ use mathlib.Core.Bool.{cond}
 use mathlib.Core.Option.{Option, none, some}
 use lib.Dec.{eqb}
 use Rattle.rules.specs.declared.Reason.{Reason}
-use Rattle.rules.specs.declared.Reason.the-variants.{Empty, TooLong, LineEnd, EmptyLine, Kind, Order, Length, Character, Form, Tile, Twice, Width, Column, Back, TableFull, EndsEarly, BadValue, NoRoom, Absent, NotNumber, InputOver}
+use Rattle.rules.specs.declared.Reason.the-variants.{Empty, TooLong, LineEnd, EmptyLine, Kind, Order, Length, Character, Form, Tile, Twice, Width, Column, Back, TableFull, EndsEarly, BadValue, NoRoom, Absent, NotNumber, InputOver, Time, Position, Altitude, Date}
 use Rattle.calls_explain.specs.declared.Numbered.{Numbered}
 use Rattle.calls_explain.specs.declared.Numbered.the-variants as numbered
 
@@ -31,7 +31,11 @@ reasonNumbered n =
     (cond (eqb n 18) (some NoRoom)
     (cond (eqb n 19) (some Absent)
     (cond (eqb n 20) (some NotNumber)
-    (cond (eqb n 21) (some InputOver) none))))))))))))))))))))
+    (cond (eqb n 21) (some InputOver)
+    (cond (eqb n 22) (some Time)
+    (cond (eqb n 23) (some Position)
+    (cond (eqb n 24) (some Altitude)
+    (cond (eqb n 25) (some Date) none))))))))))))))))))))))))
 
 -- the answer, in the paper's terms
 unfoldable pub numberedTold : Numbered → Option Reason

@@ -29,6 +29,10 @@ pub(crate) fn reason_of(number: u32) -> Numbered
         19 => Numbered::Is(Reason::Absent),
         20 => Numbered::Is(Reason::NotNumber),
         21 => Numbered::Is(Reason::InputOver),
+        22 => Numbered::Is(Reason::Time),
+        23 => Numbered::Is(Reason::Position),
+        24 => Numbered::Is(Reason::Altitude),
+        25 => Numbered::Is(Reason::Date),
         _ => Numbered::NoReason,
     }
 }

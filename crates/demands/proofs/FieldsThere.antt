@@ -12,6 +12,9 @@ use Rattle.rules.specs.Numbers.{numberAt, digitsOf}
 use Rattle.rules.specs.Choice.{Each}
 use Rattle.rules.specs.Listed.{codeAt, codeText}
 use Rattle.rules.specs.Lines.{isDateMark}
+use Rattle.rules.specs.Refusals.{number, reasonOf}
+use Rattle.rules.specs.declared.Class.{Class}
+use Rattle.rules.specs.declared.Class.the-variants as class
 use Rattle.rules.proofs.Inverse.{false-true}
 use Rattle.trips.proofs.Digits.{number-there, number-here}
 use Rattle.trips.proofs.Trip.{Trip}
@@ -24,7 +27,7 @@ use Rattle.sound.proofs.Entries.{code-there, code-here}
 use Rattle.words.specs.Characters.{IsCode}
 use Rattle.words.proofs.Characters.{codes-exactly, word-exactly}
 use Rattle.words.proofs.Values.{either-exactly, time-exactly, latitude-exactly, longitude-exactly, altitude-exactly}
-use Rattle.demands.specs.Checks.{isThere}
+use Rattle.demands.specs.Checks.{isThere, formNumber}
 use Rattle.demands.specs.FieldTexts.{Stood, Field, FieldsTold}
 use Rattle.demands.proofs.Laws.{day-exactly, planned-exactly}
 use Rattle.demands.proofs.EachLine.{mark-there}
@@ -78,11 +81,22 @@ mark-field l = (λ e. record { rest = drop 5 l; bytes = mark-there l e }, in-aga
     in-again [] w = let n = ap length (w .bytes) in absurd (omega arith)
     in-again (x ∷ t) w = ap (λ y. isDateMark (x ∷ y)) (w .bytes)
 
+-- ---- the number of a field that breaks its rule
+
+numbered-by : (c : Class) → number (reasonOf c) ≡ formNumber c
+unfolding number
+numbered-by class.Time = refl
+numbered-by class.Position = refl
+numbered-by class.Altitude = refl
+numbered-by class.Date = refl
+numbered-by class.Other = refl
+
 -- ---- all of them
 
 pub fields-told : FieldsTold
 fields-told = record {
   role = letter;
+  numbered = numbered-by;
   time = trip-field _ _ _ 6 _ time-trip time-exactly;
   date = trip-field _ _ _ 6 _ date-trip day-exactly;
   planned = trip-field _ _ _ 6 _ planned-trip planned-exactly;

@@ -37,12 +37,13 @@ pub record Check : Type 0 where
 abbrev pub check : ℕ → ℕ → Bool → Check
 check n b t = record { number = n; byte = b; passes = t }
 
--- "9 FORM: first field against its rule; line, field's first byte": the number by which a field of a class is refused. Every class has 9
+-- "9 FORM: first field against its rule; line, field's first byte"; "A time field that breaks its rule becomes TIME, a latitude or longitude POSITION, an altitude ALTITUDE,
+-- a date DATE; every other field stays 9." "22 TIME, 23 POSITION, 24 ALTITUDE, 25 DATE, all with 9's line, byte and place in the order."
 abbrev pub formNumber : Class → ℕ
-formNumber class.Time = 9
-formNumber class.Position = 9
-formNumber class.Altitude = 9
-formNumber class.Date = 9
+formNumber class.Time = 22
+formNumber class.Position = 23
+formNumber class.Altitude = 24
+formNumber class.Date = 25
 formNumber class.Other = 9
 
 -- the check of a field, by its class, its first byte and its test

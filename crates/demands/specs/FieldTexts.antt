@@ -16,13 +16,15 @@ use Rattle.rules.specs.Listed.{codeAt, codeText}
 use Rattle.rules.specs.Lines.{kindOf, isDateMark, plannedAt}
 use Rattle.rules.specs.Writes.{plannedText}
 use Rattle.rules.specs.Roles.{roleOf}
+use Rattle.rules.specs.Refusals.{number, reasonOf}
+use Rattle.rules.specs.declared.Class.{Class}
 use Rattle.rules.specs.declared.Family.the-variants as family
 use Rattle.rules.specs.declared.Role.{Role}
 use Rattle.rules.specs.declared.Role.the-variants as role
 use Rattle.words.specs.Characters.{IsCode, CodesAt}
 use Rattle.words.specs.Values.{IsTime, IsLatitude, IsLongitude, IsAltitude}
 use Rattle.demands.specs.Grammar.{IsDay, IsPlanned}
-use Rattle.demands.specs.Checks.{isThere}
+use Rattle.demands.specs.Checks.{isThere, formNumber}
 
 -- "The first byte, A to Z, is the kind. M to Z are 'other' and carried (h)."
 abbrev pub Letter : Role → ℕ → Type 0
@@ -51,9 +53,12 @@ pub record Field {A : Type 0} (read : List ℕ → ℕ → Option A) (text : A �
   pub reads : (l : List ℕ) (at : ℕ) (v : A) → (read l at ≡ some v) ↔ (Within v × Stood l at (text v))
   pub there : (l : List ℕ) (at : ℕ) → (isThere (read l at) ≡ true) ↔ ((v : A) × Within v × Stood l at (text v))
 
--- the role of a line by its first byte, and each field that a check of 9 reads; the pairs of an F line are tested by `isCode` itself (`codes-meant`)
+-- the role of a line by its first byte, and each field that a check of 9 or of 22 to 25 reads; the pairs of an F line are tested by `isCode` itself (`codes-meant`)
 pub record FieldsTold : Type 0 where
   pub role : (b : ℕ) → Letter (roleOf (kindOf b)) b
+  -- "A time field that breaks its rule becomes TIME, a latitude or longitude POSITION, an altitude ALTITUDE, a date DATE; every other field stays 9.": which field is of which
+  -- class stands in Checks, line by line
+  pub numbered : (c : Class) → number (reasonOf c) ≡ formNumber c
   -- "Time: HHMMSS, 00 to 23, 00 to 59, 00 to 59, read as seconds of the day."
   pub time : Field timeAt timeText IsTime
   -- "Years 80 to 99 are 1980 to 1999, 00 to 79 are 2000 to 2079 (h). The day must exist in that month and year."

@@ -16,10 +16,10 @@ fn reason_of(class: Class) -> Reason
     ensures { λ r. ⌜ r ≡ reasonOf class ⌝ }
 {
     match class {
-        Class::Time => Reason::Form,
-        Class::Position => Reason::Form,
-        Class::Altitude => Reason::Form,
-        Class::Date => Reason::Form,
+        Class::Time => Reason::Time,
+        Class::Position => Reason::Position,
+        Class::Altitude => Reason::Altitude,
+        Class::Date => Reason::Date,
         Class::Other => Reason::Form,
     }
 }

@@ -79,7 +79,7 @@ fields =
     ask longitudeLetter "B1200000000000N00000000WA0000000000" (says (pos (code "W"))) ∷
     ask longitudeLetter "B1200000000000N00000000EA0000000000" (says (pos (code "E"))) ∷
     -- "latitude DDMMmmm and N or S": an E is none of them
-    ask latitudeLetter "B1200000000000E00000000EA0000000000" (refuses 9 0 8) ∷
+    ask latitudeLetter "B1200000000000E00000000EA0000000000" (refuses 23 0 8) ∷
     -- "So -9,999 to 99,999."
     ask pressure "B1200000000000N00000000EA-999900000" (says (negℤ (pos 9999))) ∷
     ask pressure "B1200000000000N00000000EA9999900000" (says (pos 99999)) ∷
@@ -91,8 +91,8 @@ fields =
     -- "000000 means not given; every other value must be a date, and the declared date always"
     ask flight "C150724120000000000000100" (says (pos 0)) ∷
     ask flight "C150724120000150724000100" (says (pos 1)) ∷
-    ask flight "C150724120000000001000100" (refuses 9 0 14) ∷
-    ask flight "C000000120000000000000100" (refuses 9 0 2) ∷
+    ask flight "C150724120000000001000100" (refuses 25 0 14) ∷
+    ask flight "C000000120000000000000100" (refuses 25 0 2) ∷
     -- "F: time, then pairs of code characters, perhaps none."
     ask satellites "F120000" (says (pos 43200)) ∷
     ask satellites "F1200000102" (says (pos 43200)) ∷
@@ -191,7 +191,7 @@ kinds =
     -- the kind is the first byte: a point is no head for its length, and a long one for its date
     ask flight "C5130000N00015000W" (refuses 7 0 0) ∷
     ask flight "C5130000N00015000WLASHAM" (refuses 7 0 0) ∷
-    ask flight "C5130000N00015000WLASHAM CLUB" (refuses 9 0 2) ∷
+    ask flight "C5130000N00015000WLASHAM CLUB" (refuses 25 0 2) ∷
     ask point "C5130000N00015000WLASHAM CLUB" (says (pos 3090000)) ∷
     []
 

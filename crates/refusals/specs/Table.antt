@@ -1,4 +1,4 @@
--- Document 01, 'Refusal numbers': the name of each number and when it is given, in the table's own words; and the promises of this crate.
+-- Document 01, 'Refusal numbers', with the numbers of document 02: the name of each number and when it is given, in the documents' own words; and the promises of this crate.
 use Prim.Native.Nat.{ℕ, _-_, _≤_, _<_}
 use Prim.Native.String.{String}
 use mathlib.Core.List.{List, [], _∷_, map}
@@ -40,6 +40,11 @@ rows =
     ∷ row "ABSENT" "code (any 3 bytes) not in the layout"
     ∷ row "NOT_NUMBER" "column is no such number"
     ∷ row "INPUT_OVER" "program's input over 65,536 bytes"
+    -- "A time field that breaks its rule becomes TIME, a latitude or longitude POSITION, an altitude ALTITUDE, a date DATE"
+    ∷ row "TIME" "time field against its rule"
+    ∷ row "POSITION" "latitude or longitude against its rule"
+    ∷ row "ALTITUDE" "altitude against its rule"
+    ∷ row "DATE" "date against its rule"
     ∷ []
 
 unfoldable pub names : List (List ℕ)

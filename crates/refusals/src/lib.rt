@@ -1,11 +1,11 @@
-// Document 01's table of refusals: the number, the name and the meaning of each.
+// The table of refusals, document 01's with the numbers of document 02: the number, the name and the meaning of each.
 ghost use Rattle.pieces.specs.Buffer.{PiecePut};
 ghost use Rattle.refusals.specs.Table.{NumberOf, NamePut, MeaningPut, WordIn, wordAt};
 use pieces::put_text;
 use rules::Reason;
 
 // The names, that of number 1 first; where the first begins, and where each ends.
-const NAMES: [u8; 145] = *b"\
+const NAMES: [u8; 169] = *b"\
     EMPTY\
     TOO_LONG\
     LINE_END\
@@ -27,9 +27,13 @@ const NAMES: [u8; 145] = *b"\
     ABSENT\
     NOT_NUMBER\
     INPUT_OVER\
+    TIME\
+    POSITION\
+    ALTITUDE\
+    DATE\
 ";
 
-const NAME_ENDS: [usize; 22] = [
+const NAME_ENDS: [usize; 26] = [
     0,
     5,
     13,
@@ -52,10 +56,14 @@ const NAME_ENDS: [usize; 22] = [
     125,
     135,
     145,
+    149,
+    157,
+    165,
+    169,
 ];
 
 // When each number is given, in the same way.
-const MEANINGS: [u8; 513] = *b"\
+const MEANINGS: [u8; 624] = *b"\
     no bytes\
     over the limit\
     first CR or LF is not CR LF, or none comes\
@@ -77,9 +85,13 @@ const MEANINGS: [u8; 513] = *b"\
     code (any 3 bytes) not in the layout\
     column is no such number\
     program's input over 65,536 bytes\
+    time field against its rule\
+    latitude or longitude against its rule\
+    altitude against its rule\
+    date against its rule\
 ";
 
-const MEANING_ENDS: [usize; 22] = [
+const MEANING_ENDS: [usize; 26] = [
     0,
     8,
     22,
@@ -102,9 +114,13 @@ const MEANING_ENDS: [usize; 22] = [
     456,
     480,
     513,
+    540,
+    578,
+    603,
+    624,
 ];
 
-// The number of a refusal, by document 01's table.
+// The number of a refusal, by the table.
 pub fn number(reason: Reason) -> u8
     ensures { λ r. ⌜ NumberOf reason r ⌝ }
 {
@@ -130,6 +146,10 @@ pub fn number(reason: Reason) -> u8
         Reason::Absent => 19,
         Reason::NotNumber => 20,
         Reason::InputOver => 21,
+        Reason::Time => 22,
+        Reason::Position => 23,
+        Reason::Altitude => 24,
+        Reason::Date => 25,
     }
 }
 

@@ -109,8 +109,17 @@ examples =
     lines ("AXYZ001" ∷ "HFDTE150724" ∷ "I023638FXA3940SIU" ∷ "B1200005130000N00015000WA001000012001208" ∷ "GA!C" ∷ []) (refuses 8 5 3) ∷
     -- 8: a comma outside the H lines
     lines ("AXYZ001" ∷ "HFDTE150724" ∷ "HFPLTA,B" ∷ "I00" ∷ "LXYZ,A" ∷ "GABC" ∷ []) (refuses 8 5 5) ∷
-    -- 9: 60 minutes of latitude, from byte 8
-    lines ("AXYZ001" ∷ "HFDTE150724" ∷ "I023638FXA3940SIU" ∷ "B1200005160000N00015000WA001000012001208" ∷ "GABC" ∷ []) (refuses 9 4 8) ∷
+    -- 9: X is neither A nor V, at byte 25
+    lines ("AXYZ001" ∷ "HFDTE150724" ∷ "I023638FXA3940SIU" ∷ "B1200005130000N00015000WX001000012001208" ∷ "GABC" ∷ []) (refuses 9 4 25) ∷
+    -- 22: 60 seconds, in the time from byte 2
+    lines ("AXYZ001" ∷ "HFDTE150724" ∷ "I023638FXA3940SIU" ∷ "B1200605130000N00015000WA001000012001208" ∷ "GABC" ∷ []) (refuses 22 4 2) ∷
+    -- 23: 60 minutes of latitude, from byte 8; and of longitude, from byte 16
+    lines ("AXYZ001" ∷ "HFDTE150724" ∷ "I023638FXA3940SIU" ∷ "B1200005160000N00015000WA001000012001208" ∷ "GABC" ∷ []) (refuses 23 4 8) ∷
+    lines ("AXYZ001" ∷ "HFDTE150724" ∷ "I023638FXA3940SIU" ∷ "B1200005130000N00060000WA001000012001208" ∷ "GABC" ∷ []) (refuses 23 4 16) ∷
+    -- 24: a minus before four zeros, in the GNSS altitude from byte 31
+    lines ("AXYZ001" ∷ "HFDTE150724" ∷ "I023638FXA3940SIU" ∷ "B1200005130000N00015000WA00100-000001208" ∷ "GABC" ∷ []) (refuses 24 4 31) ∷
+    -- 25: no 31st of June, in the date from byte 6 of line 2
+    lines ("AXYZ001" ∷ "HFDTE310624" ∷ "I023638FXA3940SIU" ∷ "B1200005130000N00015000WA001000012001208" ∷ "GABC" ∷ []) (refuses 25 2 6) ∷
     -- 9: an odd half pair, before the pair at byte 8 that is no code
     lines ("AXYZ001" ∷ "HFDTE150724" ∷ "F120000a12" ∷ "GABC" ∷ []) (refuses 9 3 8) ∷
     -- 9: the second pair, from byte 10

@@ -1,4 +1,4 @@
--- The marked examples 1 to 12 of document 01, in one table of whole lines and answers, computed. Assumes nothing.
+-- The marked examples 1 to 12 of document 01, as document 02 changed them, in one table of whole lines and answers, computed. Assumes nothing.
 use Prim.Native.Nat.{ℕ}
 use Prim.Native.String.{String}
 use mathlib.Core.Bool.{Bool, true}
@@ -54,23 +54,23 @@ twoTimes first second answer = record {
 pub examples : List Example
 unfolding bytes fileOf
 examples =
-    -- 1. 9000000N is 5,400,000; 9000001N is 9.
+    -- 1. 9000000N is 5,400,000; 9000001N is 23.
     ask latitude "B1200009000000N00000000EA0000000000" (says (pos 5400000)) ∷
-    ask latitude "B1200009000001N00000000EA0000000000" (refuses 9 0 8) ∷
+    ask latitude "B1200009000001N00000000EA0000000000" (refuses 23 0 8) ∷
     -- 2. 18000000E is 10,800,000.
     ask longitude "B1200000000000N18000000EA0000000000" (says (pos 10800000)) ∷
-    -- 3. 4560000N is 9.
-    ask latitude "B1200004560000N00000000EA0000000000" (refuses 9 0 8) ∷
-    -- 4. -0012 is -12; -0000 is 9.
+    -- 3. 4560000N is 23.
+    ask latitude "B1200004560000N00000000EA0000000000" (refuses 23 0 8) ∷
+    -- 4. -0012 is -12; -0000 is 24.
     ask pressure "B1200000000000N00000000EA-001200000" (says (negℤ (pos 12))) ∷
-    ask pressure "B1200000000000N00000000EA-000000000" (refuses 9 0 26) ∷
-    -- 5. 235959 is 86,399; 235960 is 9.
+    ask pressure "B1200000000000N00000000EA-000000000" (refuses 24 0 26) ∷
+    -- 5. 235959 is 86,399; 235960 is 22.
     ask seconds "B2359590000000N00000000EA0000000000" (says (pos 86399)) ∷
-    ask seconds "B2359600000000N00000000EA0000000000" (refuses 9 0 2) ∷
-    -- 6. 290224 and 290200 are dates; 290223 is not.
+    ask seconds "B2359600000000N00000000EA0000000000" (refuses 22 0 2) ∷
+    -- 6. 290224 and 290200 are dates; 290223 is not: "line 2 with 290223 is 25".
     ask year "HFDTE290224" (says (pos 2024)) ∷
     ask year "HFDTE290200" (says (pos 2000)) ∷
-    ask year "HFDTE290223" (refuses 9 0 6) ∷
+    ask year "HFDTE290223" (refuses 25 0 6) ∷
     -- 7. I00 gives B 35.
     ask bLength "I00" (says (pos 35)) ∷
     -- 8. I023638FXA3940SIU gives B 40.

@@ -1,9 +1,9 @@
--- Document 01, 'Refusal numbers': the table, and what an answer says.
+-- Document 01, 'Refusal numbers', with the numbers of document 02: the table, and what an answer says.
 use Prim.Native.Nat.{ℕ}
 use Rattle.rules.specs.declared.Class.{Class}
 use Rattle.rules.specs.declared.Class.the-variants as class
 use Rattle.rules.specs.declared.Reason.{Reason}
-use Rattle.rules.specs.declared.Reason.the-variants.{Empty, TooLong, LineEnd, EmptyLine, Kind, Order, Length, Character, Form, Tile, Twice, Width, Column, Back, TableFull, EndsEarly, BadValue, NoRoom, Absent, NotNumber, InputOver}
+use Rattle.rules.specs.declared.Reason.the-variants.{Empty, TooLong, LineEnd, EmptyLine, Kind, Order, Length, Character, Form, Tile, Twice, Width, Column, Back, TableFull, EndsEarly, BadValue, NoRoom, Absent, NotNumber, InputOver, Time, Position, Altitude, Date}
 use Rattle.rules.specs.declared.Refusal.{Refusal}
 use Rattle.rules.specs.declared.Outcome.{Outcome}
 use Rattle.rules.specs.declared.Outcome.the-variants.{Accepted, Refused}
@@ -31,6 +31,11 @@ number NoRoom = 18
 number Absent = 19
 number NotNumber = 20
 number InputOver = 21
+-- "22 TIME, 23 POSITION, 24 ALTITUDE, 25 DATE"
+number Time = 22
+number Position = 23
+number Altitude = 24
+number Date = 25
 
 -- what an answer says: a value, or the number, line and byte of a refusal
 pub data Said (A : Type 0) : Type 0 where
@@ -72,12 +77,13 @@ unfoldable pub outcomeTold : Outcome → Said (Unit {0})
 outcomeTold Accepted = says tt
 outcomeTold (Refused r) = refusal r
 
--- "9 FORM: first field against its rule". Today a field of any class that breaks its rule is FORM; the number is told here, and nowhere else.
+-- "9 FORM: first field against its rule"; "A time field that breaks its rule becomes TIME, a latitude or longitude POSITION, an altitude ALTITUDE, a date DATE; every
+-- other field stays 9."
 abbrev pub reasonOf : Class → Reason
-reasonOf class.Time = Form
-reasonOf class.Position = Form
-reasonOf class.Altitude = Form
-reasonOf class.Date = Form
+reasonOf class.Time = Time
+reasonOf class.Position = Position
+reasonOf class.Altitude = Altitude
+reasonOf class.Date = Date
 reasonOf class.Other = Form
 
 module _ {A : Type 0} where

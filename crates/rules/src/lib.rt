@@ -1,6 +1,6 @@
 // What every crate shares: the values read from an IGC file, and the answers given. No function stands here; specs/ says what is right.
 
-// Why something is refused, by the names of document 01's table of refusal numbers.
+// Why something is refused, by the names of document 01's table of refusal numbers and of document 02's requests.
 pub enum Reason {
     Empty,
     TooLong,
@@ -23,6 +23,10 @@ pub enum Reason {
     Absent,
     NotNumber,
     InputOver,
+    Time,
+    Position,
+    Altitude,
+    Date,
 }
 
 // The classes of fields, by which a field that breaks its rule is refused.

@@ -1,6 +1,7 @@
-//! Holds the library against the independent reading of document 01 on generated files, valid and damaged:
+//! Holds the library against the independent reading of documents 01 and 02 on generated files, valid and damaged:
 //!     compare [--seed N] [--files N] [--out FILE]
-//! Stops at the first difference, with that file's bytes in FILE. Fails too where some refusal number from 1 to 16 was never met, or some operation never asked.
+//! Stops at the first difference, with that file's bytes in FILE. Fails too where some refusal of a file was never met, or some field that a refusal names, or some operation
+//! never asked.
 
 mod hold;
 #[path = "../library.rs"]
@@ -9,6 +10,7 @@ mod library;
 use hold::{Held, Tally};
 use outside::files::generate::{self, Line, Sample};
 use outside::files::random::Random;
+use outside::files::reached::Reached;
 use outside::files::{Known, Run, examples};
 use outside::options::Options;
 use outside::reading::{LIMIT, Refusal, Role};
@@ -17,8 +19,7 @@ use outside::reading::{LIMIT, Refusal, Role};
 #[derive(Default)]
 struct Met {
     tally: Tally,
-    accepted: u64,
-    refused: [u64; 17],
+    reached: Reached,
     lines: u64,
     aimed: u64,
 }
@@ -28,10 +29,7 @@ fn hold_file(met: &mut Met, random: &mut Random, file: &[u8], entries: usize, kn
     let (answer, table) = hold::check(&mut met.tally, file, entries)?;
     known.agrees(&answer)?;
     met.aimed += u64::from(matches!(known, Known::Refused(_)));
-    match &answer {
-        Ok(_) => met.accepted += 1,
-        Err(Refusal { number, .. }) => met.refused[*number as usize] += 1,
-    }
+    met.reached.add(file, &answer);
     hold::in_words(&mut met.tally, random, file, &answer)?;
     hold::by_number(&mut met.tally, random, file, &table)?;
     let lines = hold::by_stepping(&mut met.tally, random, file)?;
@@ -126,26 +124,25 @@ fn main() {
 }
 
 fn summary(met: &Met, options: &Options) {
-    let refused: u64 = met.refused.iter().sum();
+    let (accepted, refused) = (met.reached.accepted, met.reached.refused());
     println!(
-        "outside: {} files of seed {} ({} lines) answered alike: {} accepted, {refused} refused",
-        met.accepted + refused,
+        "outside: {} files of seed {} ({} lines) answered alike: {accepted} accepted, {refused} refused",
+        accepted + refused,
         options.seed,
-        met.lines,
-        met.accepted
+        met.lines
     );
     println!("outside: {} of the refusals were also known from how the file was made, number, line and byte", met.aimed);
-    let each: Vec<String> = (1..=16).map(|n| format!("{n}: {}", met.refused[n])).collect();
-    println!("outside: refusals by number: {}", each.join(", "));
+    println!("outside: refusals by number: {}", met.reached.by_number());
+    println!("outside: fields that a refusal names, by number, kind of line and byte: {}", met.reached.by_field());
     for (operation, count) in &met.tally.answers {
         let numbers: Vec<String> =
             met.tally.refusals.iter().filter(|((o, _), _)| o == operation).map(|((_, n), c)| format!("{n}: {c}")).collect();
         println!("outside: {operation}: {count} answers held ({})", numbers.join(", "));
     }
     let unasked: Vec<&str> = library::OPERATIONS.into_iter().filter(|o| !met.tally.answers.contains_key(o)).collect();
-    let never: Vec<usize> = (1..=16).filter(|&n| met.refused[n] == 0).collect();
-    if !never.is_empty() || !unasked.is_empty() || met.accepted == 0 {
-        println!("outside: FAILED: accepted {} files, never met {never:?}, never asked {unasked:?}", met.accepted);
+    let (never, strange) = (met.reached.never(&[]), met.reached.strange());
+    if !never.is_empty() || !strange.is_empty() || !unasked.is_empty() || accepted == 0 {
+        println!("outside: FAILED: accepted {accepted} files, never met {never:?}, met {strange:?}, never asked {unasked:?}");
         std::process::exit(1);
     }
 }

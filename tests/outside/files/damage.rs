@@ -2,7 +2,7 @@
 
 use super::generate::{Line, Sample, clock, codes, digits, join, text};
 use super::random::Random;
-use super::rules::fields;
+use super::rules::{Field, fields};
 use crate::reading::file::HALF_DAY;
 use crate::reading::layouts::{FAMILIES, listed};
 use crate::reading::{Family, LISTED, Layout, Refusal, Role};
@@ -85,7 +85,7 @@ fn find(random: &mut Random, sample: &Sample, wanted: impl Fn(&Line) -> bool) ->
     (!places.is_empty()).then(|| *random.pick(&places))
 }
 
-/// Damage that must be refused with `number` (3 to 14, or 16), where the file has a line that it can be done to.
+/// Damage that must be refused with `number` (3 to 14, 16, or 22 to 25), where the file has a line that it can be done to.
 pub fn aimed(random: &mut Random, sample: &Sample, number: u32) -> Option<Aimed> {
     match number {
         3 => Some(ending(random, sample)),
@@ -97,7 +97,7 @@ pub fn aimed(random: &mut Random, sample: &Sample, number: u32) -> Option<Aimed>
         6 => Some(order(random, sample)),
         7 => Some(length(random, sample)),
         8 => character(random, sample),
-        9 => form(random, sample),
+        9 | 22..=25 => form(random, sample, number),
         10..=12 => entry(random, sample, number),
         13 => column(random, sample),
         14 => back(random, sample),
@@ -210,36 +210,48 @@ fn character(random: &mut Random, sample: &Sample) -> Option<Aimed> {
     Some(changed(sample, at, text, 8, byte))
 }
 
-/// A field against its rule, half a pair, or an NN that does not give the line's length.
-fn form(random: &mut Random, sample: &Sample) -> Option<Aimed> {
-    let role = *random.pick(&[
-        Role::Recorder,
-        Role::Day,
-        Role::Header,
-        Role::Layout(Family::Fixes),
-        Role::Layout(Family::Extras),
-        Role::Fix,
-        Role::Fix,
-        Role::Extra,
-        Role::Event,
-        Role::Satellites,
-        Role::Differential,
-        Role::Head,
-        Role::Point,
-    ]);
+/// The roles whose lines have a field with this number.
+fn roles_with(number: u32) -> &'static [Role] {
+    match number {
+        22 => &[Role::Fix, Role::Extra, Role::Event, Role::Satellites, Role::Head],
+        23 => &[Role::Fix, Role::Point],
+        24 => &[Role::Fix],
+        25 => &[Role::Day, Role::Head],
+        _ => &[
+            Role::Recorder,
+            Role::Day,
+            Role::Header,
+            Role::Layout(Family::Fixes),
+            Role::Layout(Family::Extras),
+            Role::Fix,
+            Role::Event,
+            Role::Satellites,
+            Role::Differential,
+            Role::Head,
+        ],
+    }
+}
+
+/// A field with this number against its rule; for 9 also half a pair, or an NN that does not give the line's length.
+fn form(random: &mut Random, sample: &Sample, number: u32) -> Option<Aimed> {
+    let role = *random.pick(roles_with(number));
     let at = find(random, sample, |l| l.role == role)?;
     let line = &sample.lines[at];
     let mut text = line.text.clone();
-    if role == Role::Satellites && text.len() < role.lengths().1 && random.once_in(3) {
+    if number == 9 && role == Role::Satellites && text.len() < role.lengths().1 && random.once_in(3) {
         text.extend(codes(random, 1));
         return Some(changed(sample, at, text, 9, 8));
     }
     if matches!(role, Role::Layout(_)) && random.once_in(3) {
         return Some(changed(sample, at, counted_wrong(random, text), 9, 2));
     }
-    let (first, width, rule) = *random.pick(&fields(line));
+    let choices: Vec<Field> = fields(line).into_iter().filter(|(.., rule)| rule.number() == number).collect();
+    if choices.is_empty() {
+        return None;
+    }
+    let (first, width, rule) = *random.pick(&choices);
     rule.spoil(random, &mut text[first - 1..first - 1 + width]);
-    Some(changed(sample, at, text, 9, first))
+    Some(changed(sample, at, text, number, first))
 }
 
 /// A layout line whose NN does not give its length.

@@ -5,6 +5,7 @@ pub mod examples;
 pub mod generate;
 pub mod limits;
 pub mod random;
+pub mod reached;
 mod rules;
 
 use crate::reading::refusals::TABLE_FULL;
@@ -107,7 +108,7 @@ impl Run {
 
     /// A file damaged at one aim after the other; another file is taken where one has nothing to aim at.
     fn aimed(&self, random: &mut Random, turn: u64) -> (Vec<u8>, Known) {
-        let aims = [3, 4, 5, 6, 7, 8, 9, 9, 9, 10, 11, 12, 13, 14, 16];
+        let aims = [3, 4, 5, 6, 7, 8, 9, 9, 22, 22, 23, 23, 24, 25, 25, 10, 11, 12, 13, 14, 16];
         let aim = aims[(turn % aims.len() as u64) as usize];
         loop {
             let sample = self.sample(random);

@@ -48,6 +48,17 @@ pub fn fields(line: &Line) -> Vec<Field> {
 }
 
 impl Rule {
+    /// The refusal where the rule is broken: 22 a time, 23 a latitude or longitude, 24 an altitude, 25 a date, 9 any other.
+    pub fn number(self) -> u32 {
+        match self {
+            Rule::Time => 22,
+            Rule::Latitude | Rule::Longitude => 23,
+            Rule::Altitude => 24,
+            Rule::Date => 25,
+            Rule::Codes | Rule::Digits | Rule::OneOf(_) | Rule::Word => 9,
+        }
+    }
+
     /// A field changed so that it surely breaks its rule, by characters that are valid.
     pub fn spoil(self, random: &mut Random, field: &mut [u8]) {
         let place = random.below(field.len());

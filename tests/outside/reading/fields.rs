@@ -1,7 +1,7 @@
 //! The fields of a line, each both ways: the value that a text tells, and the text that tells a value.
 
 use super::characters::is_code;
-use super::refusals::{FORM, Fault, Read};
+use super::refusals::{self, FORM, Fault, Read};
 
 /// A kind of field: the refusal where its rule is broken, its width, and the value of its text.
 pub struct Field<T> {
@@ -17,12 +17,13 @@ impl<T> Field<T> {
     }
 }
 
-pub const TIME: Field<u32> = Field { number: FORM, width: 6, value: time };
-pub const DATE: Field<Date> = Field { number: FORM, width: 6, value: date };
-pub const DATE_OR_NONE: Field<Option<Date>> = Field { number: FORM, width: 6, value: date_or_none };
-pub const LATITUDE: Field<Position> = Field { number: FORM, width: 8, value: |text| NORTH_SOUTH.position(text) };
-pub const LONGITUDE: Field<Position> = Field { number: FORM, width: 9, value: |text| EAST_WEST.position(text) };
-pub const ALTITUDE: Field<i32> = Field { number: FORM, width: 5, value: altitude };
+// "A time field that breaks its rule becomes TIME, a latitude or longitude POSITION, an altitude ALTITUDE, a date DATE; every other field stays 9."
+pub const TIME: Field<u32> = Field { number: refusals::TIME, width: 6, value: time };
+pub const DATE: Field<Date> = Field { number: refusals::DATE, width: 6, value: date };
+pub const DATE_OR_NONE: Field<Option<Date>> = Field { number: refusals::DATE, width: 6, value: date_or_none };
+pub const LATITUDE: Field<Position> = Field { number: refusals::POSITION, width: 8, value: |text| NORTH_SOUTH.position(text) };
+pub const LONGITUDE: Field<Position> = Field { number: refusals::POSITION, width: 9, value: |text| EAST_WEST.position(text) };
+pub const ALTITUDE: Field<i32> = Field { number: refusals::ALTITUDE, width: 5, value: altitude };
 pub const FDTE: Field<()> = Field { number: FORM, width: 4, value: |text| (text == b"FDTE").then_some(()) };
 
 /// "Digit fields hold 0 to 9 only."

@@ -1,6 +1,6 @@
-//! The rules of document 01 read independently, in plain Rust: what a file, a line, a column says, or which refusal it meets.
-//! Written from the document and from the list of open points alone, so that a mistake in the library's own definitions is not made here again. A sentence in
-//! quotation marks is the document's.
+//! The rules of document 01, with the requests of document 02 that have landed, read independently, in plain Rust: what a file, a line, a column says, or which refusal it
+//! meets. Written from the documents and from the list of open points alone, so that a mistake in the library's own definitions is not made here again. A sentence in
+//! quotation marks is a document's. Where document 01 says "7 to 13", 22 to 25 stand in 9's place.
 
 pub mod characters;
 pub mod degrees;

@@ -1,6 +1,6 @@
-//! The refusals: the document's table, and how an answer carries one.
+//! The refusals: document 01's table, document 02's new numbers, and how an answer carries one.
 
-/// A row for each refusal: its number, its name, and when it is given.
+/// A row for each refusal: its number, its name, and when it is given. 22 to 25 say which field is bad, "all with 9's line, byte and place in the order".
 macro_rules! refusals {
     ($($number:literal $name:ident $given_when:literal)*) => {
         $(pub const $name: u32 = $number;)*
@@ -30,6 +30,10 @@ refusals! {
     19 ABSENT "code (any 3 bytes) not in the layout"
     20 NOT_NUMBER "column is no such number"
     21 INPUT_OVER "program's input over 65,536 bytes"
+    22 TIME "time field against its rule"
+    23 POSITION "latitude or longitude against its rule"
+    24 ALTITUDE "altitude against its rule"
+    25 DATE "date against its rule"
 }
 
 #[derive(Clone, Copy, PartialEq, Eq, Debug)]

@@ -1,8 +1,9 @@
 //! Small generated files and the reading's answers on them, as theorems for the prover to compute:
 //!     theorems [--seed N] [--files N] [--out FILE]
-//! Writes them to FILE, each below a comment that tells its file and answer, and prints how many files of each number there are.
+//! Writes them to FILE, each below a comment that tells its file and answer, and prints how many files of each number there are, and of each field that a refusal names.
 
 use outside::files::Run;
+use outside::files::reached::Reached;
 use outside::options::Options;
 use outside::reading::layouts::FAMILIES;
 use outside::reading::{Accepted, Answer, check};
@@ -79,7 +80,7 @@ held-{k} = refl
 fn main() {
     let options = Options::given(300, "Held.antt");
     let run = Run::new(options.seed, 5);
-    let mut met = [0u32; 17];
+    let mut reached = Reached::default();
     let mut text = TOP.to_string();
     let (mut number, mut kept) = (0, 0);
     while kept < options.files {
@@ -90,12 +91,12 @@ fn main() {
             continue;
         }
         let mut table = vec![LENT; made.entries];
-        let answer = numbers(&check(&made.file, &mut table));
-        text += &theorem(kept, &made.file, &answer, &table);
-        met[answer[0] as usize] += 1;
+        let answer = check(&made.file, &mut table);
+        text += &theorem(kept, &made.file, &numbers(&answer), &table);
+        reached.add(&made.file, &answer);
         kept += 1;
     }
     std::fs::write(&options.out, text).expect("the theorems can be written");
-    let tally: Vec<String> = (0..met.len()).filter(|&n| met[n] > 0).map(|n| format!("{n}: {}", met[n])).collect();
-    println!("{kept} files of seed {} by number: {}", options.seed, tally.join(", "));
+    println!("{kept} files of seed {}: {} accepted; refused by number: {}", options.seed, reached.accepted, reached.by_number());
+    println!("fields that a refusal names, by number, kind of line and byte: {}", reached.by_field());
 }

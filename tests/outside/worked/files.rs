@@ -146,6 +146,8 @@ fn time_order() {
     assert_eq!(body(&["K235959", "K115959"]), (14, 4, 2));
     assert_eq!(body(&["K235959", "K115958"]), OK);
     assert_eq!(body(&["K000000", "K235959"]), OK);
+    // a time against its rule is no time of the order: 22, and the next line is not reached
+    assert_eq!(body(&["K120000", "K106000", "K110000"]), (22, 4, 2));
     // a declaration's time takes no part
     assert_eq!(body(&[&["E120000PEV", HEAD], &*times(4, POINT), &["F120000"]].concat()), OK);
 }
@@ -158,6 +160,8 @@ fn table() {
     assert_eq!(verdict_with(1, &data), (15, 2, 0));
     assert_eq!(verdict_with(0, &data), (15, 1, 0));
     // a line that is not good has its own refusal
+    assert_eq!(verdict_with(3, &file(&[A, DATE, "K120000", "K126000"])), (22, 4, 2));
+    assert_eq!(verdict_with(1, &file(&[A, "HFDTE290223"])), (25, 2, 6));
     assert_eq!(verdict_with(3, &file(&[A, DATE, "K120000", "K110000"])), (14, 4, 2));
     assert_eq!(verdict_with(3, &file(&[A, DATE, B35])), (16, 4, 0));
     assert_eq!(verdict_with(2, &file(&[A, DATE, B35])), (15, 3, 0));

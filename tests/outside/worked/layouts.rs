@@ -118,9 +118,12 @@ fn columns() {
     assert_eq!(body(&["J020809LAD1010ZZZ", "K12000012-"]), OK);
     assert_eq!(body(&["J020809LAD1010ZZZ", "K1200001-2"]), (13, 4, 8));
     assert_eq!(body(&["J020808ZZZ0909LAD", "K120000-a"]), (13, 4, 9));
-    // 9 before 13 before 14
+    // a field of the line before 13 before 14
     let later = |p: Parts, text: &str| body(&[I2, B40, &(b(p) + text)]);
-    assert_eq!(later(Parts { time: "110000", gnss: "x0000", ..PARTS }, "0x208"), (9, 5, 31));
+    assert_eq!(later(Parts { time: "116000", ..PARTS }, "0x208"), (22, 5, 2));
+    assert_eq!(later(Parts { time: "110000", lon: "18000001W", ..PARTS }, "0x208"), (23, 5, 16));
+    assert_eq!(later(Parts { time: "110000", validity: "B", ..PARTS }, "0x208"), (9, 5, 25));
+    assert_eq!(later(Parts { time: "110000", gnss: "x0000", ..PARTS }, "0x208"), (24, 5, 31));
     assert_eq!(later(Parts { time: "110000", ..PARTS }, "0x208"), (13, 5, 36));
     assert_eq!(later(Parts { time: "110000", ..PARTS }, "01208"), (14, 5, 2));
 }

@@ -56,11 +56,14 @@ fn characters() {
         assert_eq!(body(&[with("LX")]), expected(valid && byte != b',', 3), "{byte} in L");
         assert_eq!(body(&[with("G")]), expected(valid && byte != b',', 2), "{byte} in G");
     }
-    assert_eq!(verdict(&file(&[A, "HFDTE15,724", G])), (9, 2, 6));
+    assert_eq!(verdict(&file(&[A, "HFDTE15,724", G])), (25, 2, 6));
     assert_eq!(verdict(&file(&[A, "HFDTE15!724", G])), (8, 2, 8));
     assert_eq!(verdict(&file(&["AXYZ001,"])), (8, 1, 8));
-    // 8 comes before 9
+    // 8 comes before 9, and before 22 to 25
+    assert_eq!(body(&["D3ABC!"]), (8, 3, 6));
     assert_eq!(body(&["E999999PEV x!"]), (8, 3, 13));
+    assert_eq!(body(&[b(Parts { lat: "9000001N", gnss: "-000!", ..PARTS })]), (8, 3, 35));
+    assert_eq!(verdict(&file(&[A, "HFDTE3201!4", G])), (8, 2, 10));
 }
 
 #[test]
@@ -68,38 +71,45 @@ fn forms() {
     assert_eq!(verdict(&file(&["AXyZ001", DATE, G])), (9, 1, 2));
     assert_eq!(verdict(&file(&["AXYZ-01", DATE, G])), (9, 1, 5));
     assert_eq!(verdict(&file(&[A, "HODTE150724", G])), (9, 2, 2));
-    assert_eq!(verdict(&file(&[A, "HFDTE320124", G])), (9, 2, 6));
-    for (line, byte) in [
-        ("HPABC", 2),
-        ("HFABc", 3),
-        ("D0ABCD", 2),
-        ("D3ABCD", 2),
-        ("D2ABC ", 3),
-        ("E240000PEV", 2),
-        ("E236000PEV", 2),
-        ("E235959PeV", 8),
-        ("F1200001", 8),
-        ("F126000a", 2),
-        ("F120000a", 8),
-        ("F120000aB", 8),
-        ("F120000AB1 ", 10),
-        ("F120000AB12Cd", 12),
-        ("K12000O", 2),
+    assert_eq!(verdict(&file(&[A, "HFDTE320124", G])), (25, 2, 6));
+    for (line, number, byte) in [
+        ("HPABC", 9, 2),
+        ("HFABc", 9, 3),
+        ("D0ABCD", 9, 2),
+        ("D3ABCD", 9, 2),
+        ("D2ABC ", 9, 3),
+        ("E240000PEV", 22, 2),
+        ("E236000PEV", 22, 2),
+        ("E235959PeV", 9, 8),
+        ("F1200001", 9, 8),
+        ("F240000AB", 22, 2),
+        ("F126000a", 22, 2),
+        ("F120000a", 9, 8),
+        ("F120000aB", 9, 8),
+        ("F120000AB1 ", 9, 10),
+        ("F120000AB12Cd", 9, 12),
+        ("K12000O", 22, 2),
+        ("K-12000", 22, 2),
     ] {
-        assert_eq!(body(&[line]), (9, 3, byte), "{line}");
+        assert_eq!(body(&[line]), (number, 3, byte), "{line}");
     }
     assert_eq!(body(&["F120000AB12CD"]), OK);
     let fix = |p: Parts| body(&[b(p)]);
     assert_eq!(fix(Parts { validity: "B", ..PARTS }), (9, 3, 25));
-    assert_eq!(fix(Parts { lat: "5130000E", ..PARTS }), (9, 3, 8));
-    assert_eq!(fix(Parts { lon: "00015000N", ..PARTS }), (9, 3, 16));
-    assert_eq!(fix(Parts { lon: "17960000E", ..PARTS }), (9, 3, 16));
-    assert_eq!(fix(Parts { lon: "18000001W", ..PARTS }), (9, 3, 16));
-    assert_eq!(fix(Parts { pressure: "+0012", ..PARTS }), (9, 3, 26));
-    assert_eq!(fix(Parts { gnss: "0-012", ..PARTS }), (9, 3, 31));
+    assert_eq!(fix(Parts { time: "1200 0", ..PARTS }), (22, 3, 2));
+    assert_eq!(fix(Parts { lat: "5130000E", ..PARTS }), (23, 3, 8));
+    assert_eq!(fix(Parts { lon: "00015000N", ..PARTS }), (23, 3, 16));
+    assert_eq!(fix(Parts { lon: "17960000E", ..PARTS }), (23, 3, 16));
+    assert_eq!(fix(Parts { lon: "18000001W", ..PARTS }), (23, 3, 16));
+    assert_eq!(fix(Parts { pressure: "+0012", ..PARTS }), (24, 3, 26));
+    assert_eq!(fix(Parts { gnss: "0-012", ..PARTS }), (24, 3, 31));
     assert_eq!(fix(Parts { pressure: "-9999", gnss: "99999", ..PARTS }), OK);
     // the first wrong field wins
-    assert_eq!(fix(Parts { lat: "9900000N", gnss: "abcde", ..PARTS }), (9, 3, 8));
+    assert_eq!(fix(Parts { time: "240000", lat: "9900000N", ..PARTS }), (22, 3, 2));
+    assert_eq!(fix(Parts { lat: "9900000N", gnss: "abcde", ..PARTS }), (23, 3, 8));
+    assert_eq!(fix(Parts { lon: "00060000W", validity: "B", ..PARTS }), (23, 3, 16));
+    assert_eq!(fix(Parts { validity: "B", pressure: "-0000", ..PARTS }), (9, 3, 25));
+    assert_eq!(fix(Parts { pressure: "-0000", gnss: "abcde", ..PARTS }), (24, 3, 26));
 }
 
 #[test]
@@ -107,14 +117,19 @@ fn head_fields() {
     let head = |line: &str| body(&[&[line], &*times(4, POINT)].concat());
     assert_eq!(head("C150724110000000000000100"), OK);
     assert_eq!(head("C150724110000160724000100"), OK);
-    assert_eq!(head("C000000110000000000000100"), (9, 3, 2));
-    assert_eq!(head("C150724110060000000000100"), (9, 3, 8));
-    assert_eq!(head("C150724110000000001000100"), (9, 3, 14));
-    assert_eq!(head("C150724110000310424000100"), (9, 3, 14));
+    assert_eq!(head("C000000110000000000000100"), (25, 3, 2));
+    assert_eq!(head("C150724110060000000000100"), (22, 3, 8));
+    assert_eq!(head("C150724110000000001000100"), (25, 3, 14));
+    assert_eq!(head("C150724110000310424000100"), (25, 3, 14));
     assert_eq!(head("C15072411000000000000 100"), (9, 3, 20));
     assert_eq!(head("C15072411000000000000010A"), (9, 3, 24));
-    assert_eq!(body(&[HEAD, "C5130000X00015000W"]), (9, 4, 2));
-    assert_eq!(body(&[HEAD, POINT, "C5130000N00015000X"]), (9, 5, 10));
+    // the first wrong field wins
+    assert_eq!(head("C320124240000310424000100"), (25, 3, 2));
+    assert_eq!(head("C150724240000310424000100"), (22, 3, 8));
+    assert_eq!(head("C150724110000310424 00100"), (25, 3, 14));
+    assert_eq!(body(&[HEAD, "C5130000X00015000W"]), (23, 4, 2));
+    assert_eq!(body(&[HEAD, POINT, "C5130000N00015000X"]), (23, 5, 10));
+    assert_eq!(body(&[HEAD, POINT, "C5160000N18000001E"]), (23, 5, 2));
 }
 
 #[test]
@@ -127,17 +142,19 @@ fn dates() {
     for (n, last) in [31, 28, 31, 30, 31, 30, 31, 31, 30, 31, 30, 31].into_iter().enumerate() {
         let month = n as u32 + 1;
         assert_eq!(date(&format!("{last:02}{month:02}23")), day(last, month, 2023));
-        assert_eq!(date(&format!("{:02}{month:02}23", last + 1)), no(9, 6));
-        assert_eq!(date(&format!("00{month:02}23")), no(9, 6));
+        assert_eq!(date(&format!("{:02}{month:02}23", last + 1)), no(25, 6));
+        assert_eq!(date(&format!("00{month:02}23")), no(25, 6));
     }
-    assert_eq!(date("010023"), no(9, 6));
-    assert_eq!(date("011323"), no(9, 6));
+    assert_eq!(date("010023"), no(25, 6));
+    assert_eq!(date("011323"), no(25, 6));
     assert_eq!(date("290280"), day(29, 2, 1980));
-    assert_eq!(date("290281"), no(9, 6));
+    assert_eq!(date("290281"), no(25, 6));
     assert_eq!(date("290276"), day(29, 2, 2076));
-    assert_eq!(date("300224"), no(9, 6));
+    assert_eq!(date("300224"), no(25, 6));
+    assert_eq!(date("15O724"), no(25, 6));
     assert_eq!(read_date(b"HFDTE1507240"), no(7, 0));
     assert_eq!(read_date(b"HFDTF150724"), no(9, 2));
+    assert_eq!(read_date(b"HFDTF290223"), no(9, 2));
     assert_eq!(read_date(b"AFDTE150724"), no(17, 0));
     assert_eq!(read_date(b""), no(17, 0));
 }

@@ -1,6 +1,7 @@
-//! The reading held against document 01's own examples, and against others worked out by hand from it. Each file of this folder has the tests of one concern.
+//! The reading held against the documents' own examples, and against others worked out by hand from them. Each file of this folder has the tests of one concern.
 #![cfg(test)]
 
+mod damaged;
 mod files;
 mod layouts;
 mod lines;

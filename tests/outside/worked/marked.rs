@@ -11,46 +11,48 @@ fn fix(p: Parts) -> Answer<outside::reading::Fix> {
 #[test]
 fn marked_1() {
     assert_eq!(fix(Parts { lat: "9000000N", ..PARTS }).map(|f| f.latitude.count), Ok(5_400_000));
-    assert_eq!(fix(Parts { lat: "9000001N", ..PARTS }), no(9, 8));
+    assert_eq!(fix(Parts { lat: "9000001N", ..PARTS }), no(23, 8));
     let corner = Point { latitude: Position { count: 5_400_000, letter: b'N' }, longitude: Position { count: 0, letter: b'E' } };
     assert_eq!(read_point(b"C9000000N00000000E"), Ok(corner));
-    assert_eq!(read_point(b"C9000001N00000000E"), no(9, 2));
+    assert_eq!(read_point(b"C9000001N00000000E"), no(23, 2));
 }
 
 #[test]
 fn marked_2() {
     assert_eq!(fix(Parts { lon: "18000000E", ..PARTS }).map(|f| f.longitude.count), Ok(10_800_000));
-    assert_eq!(fix(Parts { lon: "18000001E", ..PARTS }), no(9, 16));
+    assert_eq!(fix(Parts { lon: "18000001E", ..PARTS }), no(23, 16));
     assert_eq!(read_point(b"C9000000N18000000W").map(|p| p.longitude.count), Ok(10_800_000));
+    assert_eq!(read_point(b"C9000000N18000001W"), no(23, 10));
 }
 
 #[test]
 fn marked_3() {
-    assert_eq!(fix(Parts { lat: "4560000N", ..PARTS }), no(9, 8));
+    assert_eq!(fix(Parts { lat: "4560000N", ..PARTS }), no(23, 8));
     assert_eq!(fix(Parts { lat: "4559999N", ..PARTS }).map(|f| f.latitude.count), Ok(45 * 60_000 + 59_999));
 }
 
 #[test]
 fn marked_4() {
     assert_eq!(fix(Parts { pressure: "-0012", ..PARTS }).map(|f| f.pressure), Ok(-12));
-    assert_eq!(fix(Parts { pressure: "-0000", ..PARTS }), no(9, 26));
+    assert_eq!(fix(Parts { pressure: "-0000", ..PARTS }), no(24, 26));
     assert_eq!(fix(Parts { gnss: "-0012", ..PARTS }).map(|f| f.gnss), Ok(-12));
-    assert_eq!(fix(Parts { gnss: "-0000", ..PARTS }), no(9, 31));
+    assert_eq!(fix(Parts { gnss: "-0000", ..PARTS }), no(24, 31));
 }
 
 #[test]
 fn marked_5() {
     assert_eq!(read_extra(b"K235959", &Layout::default()), Ok(86_399));
-    assert_eq!(read_extra(b"K235960", &Layout::default()), no(9, 2));
+    assert_eq!(read_extra(b"K235960", &Layout::default()), no(22, 2));
     assert_eq!(fix(Parts { time: "235959", ..PARTS }).map(|f| f.time), Ok(86_399));
-    assert_eq!(fix(Parts { time: "235960", ..PARTS }), no(9, 2));
+    assert_eq!(fix(Parts { time: "235960", ..PARTS }), no(22, 2));
 }
 
 #[test]
 fn marked_6() {
     assert_eq!(read_date(b"HFDTE290224"), Ok(Date { day: 29, month: 2, year: 2024 }));
     assert_eq!(read_date(b"HFDTE290200"), Ok(Date { day: 29, month: 2, year: 2000 }));
-    assert_eq!(read_date(b"HFDTE290223"), no(9, 6));
+    assert_eq!(read_date(b"HFDTE290223"), no(25, 6));
+    assert_eq!(verdict(&file(&[A, "HFDTE290223", G])), (25, 2, 6));
 }
 
 #[test]

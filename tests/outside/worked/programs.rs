@@ -10,6 +10,15 @@ fn listings() {
     assert_eq!(listing(&[b'x'; 65_536]), "REFUSED 3 1 65537\n");
     assert_eq!(listing(&[b'x'; 65_537]), "REFUSED 21 0 0\n");
     assert_eq!(listing(&file(&[A, DATE, "I013636FXA"])), "REFUSED 12 3 4\n");
+    for (wrong, expected) in [
+        (b(Parts { time: "235960", ..PARTS }), "REFUSED 22 3 2\n"),
+        (b(Parts { lat: "9000001N", ..PARTS }), "REFUSED 23 3 8\n"),
+        (b(Parts { validity: "X", ..PARTS }), "REFUSED 9 3 25\n"),
+        (b(Parts { pressure: "-0000", ..PARTS }), "REFUSED 24 3 26\n"),
+    ] {
+        assert_eq!(listing(&file(&[A, DATE, &wrong, G])), expected);
+    }
+    assert_eq!(listing(&file(&[A, "HFDTE290223", G])), "REFUSED 25 2 6\n");
     let remarks = |count: usize| listing(&file(&[&[A, DATE], &*times(count, "L"), &["GX"]].concat()));
     assert_eq!(remarks(16_381), "OK 16384 0 0 35 7\n");
     assert_eq!(remarks(16_382), "REFUSED 15 16385 0\n");
@@ -22,9 +31,9 @@ fn listings() {
 
 #[test]
 fn explanations() {
-    assert_eq!([0, 1, 9, 21, 22].map(name), [None, Some("EMPTY"), Some("FORM"), Some("INPUT_OVER"), None]);
+    assert_eq!([0, 1, 9, 21, 22, 25, 26].map(name), [None, Some("EMPTY"), Some("FORM"), Some("INPUT_OVER"), Some("TIME"), Some("DATE"), None]);
     let of = |file: &[u8], number, line, byte| explained(file, &Refusal { number, line, byte });
-    assert_eq!(of(b"", 22, 0, 0), None);
+    assert_eq!(of(b"", 26, 0, 0), None);
     assert_eq!(of(b"", 1, 0, 0).unwrap(), "REFUSED 1 EMPTY: no bytes\n");
     let data = b"AB\r\nC\x00D\nE\r\nF";
     assert_eq!(of(data, 7, 1, 0).unwrap(), "REFUSED 7 LENGTH, line 1: outside its limits\nAB\n");

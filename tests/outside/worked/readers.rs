@@ -102,7 +102,11 @@ fn extras_heads_and_points() {
     assert_eq!(read_head(format!("B{}", &HEAD[1..]).as_bytes()), no(17, 0));
     let point = Point { latitude: at(3_090_000, b'N'), longitude: at(15_000, b'W') };
     assert_eq!(read_point(format!("{POINT}x y").as_bytes()), Ok(point));
-    assert_eq!(read_point(HEAD.as_bytes()), no(9, 2));
+    // a head read as a point, and a point as a head: 15072411 is no latitude, 513000 no date
+    assert_eq!(read_point(HEAD.as_bytes()), no(23, 2));
+    assert_eq!(read_head(format!("{POINT}LANDING").as_bytes()), no(25, 2));
+    assert_eq!(read_head(b"C150724116001160724123402"), no(22, 8));
+    assert_eq!(read_extra(b"K000060", &Layout::default()), no(22, 2));
     assert_eq!(read_point(b"C"), no(7, 0));
     assert_eq!(read_point(b""), no(17, 0));
 }
@@ -113,6 +117,9 @@ fn events_and_satellites() {
     assert_eq!(read_event(b"E120001PE"), no(7, 0));
     assert_eq!(read_event(b"F120001"), no(17, 0));
     assert_eq!(read_satellites(b"F120001"), Ok(43_201));
+    assert_eq!(read_event(b"E126001PEV"), no(22, 2));
+    assert_eq!(read_event(b"E120001pEV"), no(9, 8));
     assert_eq!(read_satellites(b"F120001040"), no(9, 8));
+    assert_eq!(read_satellites(b"F320001040"), no(22, 2));
     assert_eq!(read_satellites(b"E120001PEV"), no(17, 0));
 }

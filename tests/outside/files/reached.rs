@@ -1,0 +1,85 @@
+//! What the files of a run have reached: how many were accepted, how many were refused with each number, and which fields had a number that names them.
+
+use crate::reading::{Accepted, Answer};
+use std::collections::BTreeMap;
+
+/// The refusals of a file.
+const NUMBERS: [u32; 20] = [1, 2, 3, 4, 5, 6, 7, 8, 9, 10, 11, 12, 13, 14, 15, 16, 22, 23, 24, 25];
+
+/// A field that its refusal names: the number, the kind of its line, and its first byte.
+type Field = (u32, char, u64);
+
+/// Every such field: the time of B, E, F and K lines and of the C head; latitude and longitude of B lines and C points; both altitudes of B lines; the date of line 2, and of
+/// the C head the declared and the flight date.
+const FIELDS: [Field; 14] = [
+    (22, 'B', 2),
+    (22, 'C', 8),
+    (22, 'E', 2),
+    (22, 'F', 2),
+    (22, 'K', 2),
+    (23, 'B', 8),
+    (23, 'B', 16),
+    (23, 'C', 2),
+    (23, 'C', 10),
+    (24, 'B', 26),
+    (24, 'B', 31),
+    (25, 'C', 2),
+    (25, 'C', 14),
+    (25, 'H', 6),
+];
+
+#[derive(Default)]
+pub struct Reached {
+    pub accepted: u64,
+    numbers: BTreeMap<u32, u64>,
+    fields: BTreeMap<Field, u64>,
+}
+
+impl Reached {
+    pub fn add(&mut self, file: &[u8], answer: &Answer<Accepted>) {
+        let Err(refused) = answer else {
+            self.accepted += 1;
+            return;
+        };
+        *self.numbers.entry(refused.number).or_default() += 1;
+        if (22..=25).contains(&refused.number) {
+            // The lines before the faulty one are good, so that each ends with its first LF.
+            let line = file.split(|&c| c == b'\n').nth(refused.line as usize - 1).unwrap();
+            *self.fields.entry((refused.number, line[0].into(), refused.byte)).or_default() += 1;
+        }
+    }
+
+    pub fn refused(&self) -> u64 {
+        self.numbers.values().sum()
+    }
+
+    /// How often each number was reached.
+    pub fn by_number(&self) -> String {
+        let each: Vec<String> = self.numbers.iter().map(|(number, count)| format!("{number}: {count}")).collect();
+        each.join(", ")
+    }
+
+    /// How often each field was reached that its number names.
+    pub fn by_field(&self) -> String {
+        let each: Vec<String> = self.fields.iter().map(|(field, count)| format!("{}: {count}", told(field))).collect();
+        each.join(", ")
+    }
+
+    /// What should have been reached and was not: the numbers, and the fields. `but` are numbers that this run cannot reach.
+    pub fn never(&self, but: &[u32]) -> Vec<String> {
+        let numbers = NUMBERS.iter().filter(|n| !but.contains(n) && !self.numbers.contains_key(n)).map(u32::to_string);
+        let fields = FIELDS.iter().filter(|f| !self.fields.contains_key(f)).map(told);
+        numbers.chain(fields).collect()
+    }
+
+    /// What should never be reached and was: a number that no file has, or one that names a field where no such field stands.
+    pub fn strange(&self) -> Vec<String> {
+        let numbers = self.numbers.keys().filter(|n| !NUMBERS.contains(n)).map(u32::to_string);
+        let fields = self.fields.keys().filter(|f| !FIELDS.contains(f)).map(told);
+        numbers.chain(fields).collect()
+    }
+}
+
+fn told((number, kind, byte): &Field) -> String {
+    format!("{number} in {kind} at {byte}")
+}
