@@ -10,8 +10,8 @@ ghost use Rattle.rules.specs.declared.Family.the-variants as family;
 ghost use Rattle.state.specs.States.{Few};
 ghost use Rattle.pace.specs.Paces.{paced, Known};
 ghost use Rattle.ahead.specs.Runs.{MayRun, BothAllowed, Gauged, Ran};
-use pace::Pace;
-use pace::Taken;
+use clock::Pace;
+use clock::Taken;
 use rules::Family;
 use rules::Layout;
 use rules::State;
@@ -73,7 +73,7 @@ fn run_lines(
         let Taken::Next(next) = pace::take_line(file, p, b, fixes, k, extras) else {
             return ahead_at(p, st);
         };
-        if !state::put_entry(lent, table, p.lines as usize, p.at as u32) {
+        if !enter::put_entry(lent, table, p.lines, p.at as u32) {
             return ahead_at(p, st);
         }
         p = next;
