@@ -2,7 +2,8 @@
 ghost use mathlib.Core.Path.{_≡_};
 ghost use mathlib.Core.List.{_∷_, []};
 ghost use lib.ListN.{length};
-ghost use Rattle.answers.specs.Answers.{size, RefusalNumber, RefusalNumbers, ValueNumbers, TimeNumbers, AnswerGiven, BytesBetween};
+ghost use Rattle.answers.specs.Answers.{size, RefusalNumber, RefusalNumbers, ValueNumbers, TimeNumbers, PresenceNumbers, AnswerGiven, BytesBetween};
+use rules::PresenceRead;
 use rules::Refusal;
 use rules::TimeRead;
 
@@ -77,6 +78,16 @@ pub fn time(read: TimeRead) -> Numbers
     match read {
         TimeRead::Secs(t) => accepted(t as u64, 0, 0, 0, 0, 0, 0, 0, 0),
         TimeRead::Refused(why) => refused(why),
+    }
+}
+
+// Which listed codes a layout carries, in numbers: the word, and how many columns.
+pub fn presence(read: PresenceRead) -> Numbers
+    ensures { λ r. ⌜ PresenceNumbers read r ⌝ }
+{
+    match read {
+        PresenceRead::Carries(p) => accepted(p.word as u64, p.count as u64, 0, 0, 0, 0, 0, 0, 0),
+        PresenceRead::Refused(why) => refused(why),
     }
 }
 
