@@ -125,13 +125,13 @@ pub fn entry_at(line: &[u8], i: u8, start: usize, before: Layout) -> EntryRead
     placed(start, before, Entry { first, last, code }, at as u32 + 1)
 }
 
-// Where the first column of a family starts: byte 36 of a B line, byte 8 of a K line.
+// Where the first column of a family starts: byte 36 of a B line, byte 8 of a K or an N line.
 pub fn first_start(family: Family) -> usize
     ensures { λ r. ⌜ StartGiven family r ⌝ }
 {
     match family {
         Family::B => 36,
-        Family::K => 8,
+        Family::Extra(_) => 8,
     }
 }
 

@@ -136,7 +136,7 @@ pub fn line_length(family: Family, l: Layout) -> u8
     if n == 0 {
         return match family {
             Family::B => 35,
-            Family::K => 7,
+            Family::Extra(_) => 7,
         };
     }
     if 13 < n {

@@ -15,6 +15,7 @@ use fix::form;
 use rules::Class;
 use rules::DateRead;
 use rules::Day;
+use rules::Extra;
 use rules::Family;
 use rules::FixFields;
 use rules::FixFieldsRead;
@@ -287,11 +288,11 @@ pub fn fix_line(line: &[u8], layout: Layout) -> FixFieldsRead
     }
 }
 
-// A K line by a J layout: its time. Refusals: LENGTH, CHARACTER, FORM at 2, COLUMN. Defined for every layout value.
+// A K line by a J layout, or an N line by an M layout: its time. Refusals: LENGTH, CHARACTER, FORM at 2, COLUMN. Defined for every layout value.
 pub fn extra_line(line: &[u8], layout: Layout) -> TimeRead
     ensures { λ r. ⌜ ExtraChecked (now (line .entry)) layout r ⌝ }
 {
-    if let Outcome::Refused(r) = shaped_by(Family::K, layout, line) {
+    if let Outcome::Refused(r) = shaped_by(Family::Extra(Extra::K), layout, line) {
         return TimeRead::Refused(r);
     }
     let Time::Secs(t) = field::time_at(line, 1) else {
@@ -312,7 +313,7 @@ pub fn columned_line(family: Family, line: &[u8], layout: Layout) -> TimeRead
             FixFieldsRead::Is(f) => TimeRead::Secs(f.time),
             FixFieldsRead::Refused(r) => TimeRead::Refused(r),
         },
-        Family::K => extra_line(line, layout),
+        Family::Extra(_) => extra_line(line, layout),
     }
 }
 
@@ -333,7 +334,9 @@ pub fn kind_of(b: u8) -> Kind
         b'J' => Kind::J,
         b'K' => Kind::K,
         b'L' => Kind::L,
-        b'M'..=b'Z' => Kind::Other,
+        b'M' => Kind::M,
+        b'N' => Kind::N,
+        b'O'..=b'Z' => Kind::Other,
         _ => Kind::NoKind,
     }
 }
