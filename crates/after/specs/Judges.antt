@@ -13,7 +13,7 @@ use Rattle.rules.specs.declared.Outcome.{Outcome}
 use Rattle.rules.specs.declared.Reason.{Reason}
 use Rattle.rules.specs.declared.State.{State}
 use Rattle.rules.specs.declared.TimeRead.{TimeRead}
-use Rattle.order.specs.States.{countedIn}
+use Rattle.state.specs.States.{countedIn}
 
 -- the state after a line stands beside the answer; the state at the start where refused
 pub record JudgedTold (s : Said State) (r : Judged) : Type 0 where

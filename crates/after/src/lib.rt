@@ -28,7 +28,7 @@ fn refused(why: Refusal) -> Judged
 {
     Judged {
         outcome: Outcome::Refused(why),
-        state: order::start_state(),
+        state: state::start_state(),
     }
 }
 
@@ -49,7 +49,7 @@ fn timed_at(t: u32, st: State) -> Judged
     if order::is_back(st.clock, t) {
         return refused_at(Reason::Back, 2);
     }
-    passed(order::clocked_to(t, st))
+    passed(state::clocked_to(t, st))
 }
 
 // After a line that leaves this state where it is accepted.
@@ -66,7 +66,7 @@ fn after_date(read: DateRead, st: State) -> Judged
     ensures { λ r. ⌜ JudgedTold (andThen (dateReadTold read) λ d. says (dated d st)) r ⌝ }
 {
     match read {
-        DateRead::On(date) => passed(order::dated_to(date, st)),
+        DateRead::On(date) => passed(state::dated_to(date, st)),
         DateRead::Refused(why) => refused(why),
     }
 }
@@ -75,7 +75,7 @@ fn after_head(read: HeadRead, st: State) -> Judged
     ensures { λ r. ⌜ JudgedTold (andThen (headTold read) λ h. says (begun h st)) r ⌝ }
 {
     match read {
-        HeadRead::Is(head) => passed(order::begun_by(head, st)),
+        HeadRead::Is(head) => passed(state::begun_by(head, st)),
         HeadRead::Refused(why) => refused(why),
     }
 }
@@ -84,7 +84,7 @@ fn after_point(read: PointRead, st: State) -> Judged
     ensures { λ r. ⌜ JudgedTold (andThen (pointTold read) λ _. says (pointed st)) r ⌝ }
 {
     match read {
-        PointRead::Is(_) => passed(order::pointed_by(st)),
+        PointRead::Is(_) => passed(state::pointed_by(st)),
         PointRead::Refused(why) => refused(why),
     }
 }
@@ -116,7 +116,7 @@ pub fn judge_layout(family: Family, line: &[u8], st: State) -> Judged
     let read = layout::layout_line(family, line);
     let outcome = read.outcome;
     let layout = read.layout;
-    after_outcome(outcome, order::laid_out(family, layout, st))
+    after_outcome(outcome, state::laid_out(family, layout, st))
 }
 
 // A C line: a point where points are still to come, else the head of a declaration.
@@ -134,9 +134,9 @@ pub fn judge_columned(family: Family, line: &[u8], st: State) -> Judged
     ensures { λ r. ⌜ ColumnedJudged family (now (line .entry)) st r ⌝ }
 {
     let flight = st.flight;
-    let layout = order::layout_of(family, flight.layouts);
+    let layout = state::layout_of(family, flight.layouts);
     after_time(
         line::columned_line(family, line, layout),
-        order::counted_in(family, st),
+        state::counted_in(family, st),
     )
 }

@@ -16,9 +16,9 @@ use Rattle.rules.specs.Roles.{afterH, inBody}
 use Rattle.rules.specs.declared.Seal.{Seal}
 use Rattle.rules.specs.declared.State.{State}
 use Rattle.rules.proofs.Inverse.{and-inv}
-use Rattle.order.specs.Turns.{Passed, entry, EntryPut, Here}
-use Rattle.order.proofs.Counts.{lines-counted}
-use Rattle.order.proofs.Turns.{put-so, put-fits, put-long, here-next}
+use Rattle.state.specs.Turns.{Passed, entry, EntryPut, Here}
+use Rattle.state.proofs.Counts.{lines-counted}
+use Rattle.state.proofs.Turns.{put-so, put-fits, put-long, here-next}
 use Rattle.sure.specs.Sure.{patternOf}
 use Rattle.pace.specs.Paces.{paced, Going, Takes, TakenAs}
 use Rattle.pace.specs.declared.Pace.{Pace}

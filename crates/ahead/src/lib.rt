@@ -7,7 +7,7 @@ ghost use Rattle.rules.specs.Families.{firstStart};
 ghost use Rattle.rules.specs.Roles.{afterH, inBody};
 ghost use Rattle.rules.specs.Layouts.{allowed};
 ghost use Rattle.rules.specs.declared.Family.the-variants as family;
-ghost use Rattle.order.specs.States.{Few};
+ghost use Rattle.state.specs.States.{Few};
 ghost use Rattle.pace.specs.Paces.{paced, Known};
 ghost use Rattle.ahead.specs.Runs.{MayRun, BothAllowed, Gauged, Ran};
 use pace::Pace;
@@ -73,7 +73,7 @@ fn run_lines(
         let Taken::Next(next) = pace::take_line(file, p, b, fixes, k, extras) else {
             return ahead_at(p, st);
         };
-        if !order::put_entry(lent, table, p.lines as usize, p.at as u32) {
+        if !state::put_entry(lent, table, p.lines as usize, p.at as u32) {
             return ahead_at(p, st);
         }
         p = next;
@@ -100,7 +100,7 @@ fn may_run(file: &[u8], from: usize, st: State) -> bool
     if file.len() < from {
         return false;
     }
-    order::has_few(st)
+    state::has_few(st)
 }
 
 // Whether both layouts are allowed.

@@ -23,8 +23,8 @@ use Rattle.rules.specs.declared.Seal.{Seal}
 use Rattle.rules.specs.declared.State.{State}
 use Rattle.cut.specs.Steps.{unplaced}
 use Rattle.cut.proofs.Places.{refuses-unplaced}
-use Rattle.order.specs.Turns.{roomOf, entered, Here}
-use Rattle.order.proofs.Turns.{put-long, here-few, here-next}
+use Rattle.state.specs.Turns.{roomOf, entered, Here}
+use Rattle.state.proofs.Turns.{put-long, here-few, here-next}
 use Rattle.turn.specs.Turns.{Reached, turnAt, Turned, TurnTaken}
 use Rattle.turn.specs.declared.Turn.{Turn}
 use Rattle.file.specs.Checks.{LinesChecked}

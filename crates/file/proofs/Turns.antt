@@ -15,8 +15,8 @@ use Rattle.rules.specs.declared.Reason.the-variants.{TableFull}
 use Rattle.rules.specs.declared.Seal.{Seal}
 use Rattle.rules.specs.declared.State.{State}
 use Rattle.laws.proofs.Splitting.{none-left, line-at}
-use Rattle.order.specs.Turns.{Passed}
-use Rattle.order.proofs.Turns.{passed-count}
+use Rattle.state.specs.Turns.{Passed}
+use Rattle.state.proofs.Turns.{passed-count}
 use Rattle.turn.specs.Turns.{inNext, Reached, goodLine, turnIn, turnAt, MayTake}
 use Rattle.turn.proofs.Turns.{may-so}
 

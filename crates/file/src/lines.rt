@@ -20,7 +20,7 @@ pub(crate) fn refused(why: Refusal) -> Checked
 {
     Checked {
         outcome: Outcome::Refused(why),
-        flight: order::no_flight(),
+        flight: state::no_flight(),
     }
 }
 
@@ -59,7 +59,7 @@ pub(crate) fn check_lines(seal: Seal, file: &[u8], lent: bool, table: &mut [u32]
     ensures { λ r. ⌜ LinesChecked seal lent (now (file .entry)) (now (table .entry)) r (now (table .exit)) ⌝ }
 {
     let mut at: usize = 0;
-    let mut st = order::start_state();
+    let mut st = state::start_state();
     while at < file.len() {
         let run = ahead::run_ahead(file, lent, table, at, st);
         let from = run.at;

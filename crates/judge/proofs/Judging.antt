@@ -13,10 +13,11 @@ use Rattle.rules.specs.Refusals.{no}
 use Rattle.rules.specs.declared.Reason.the-variants as reason
 use Rattle.rules.specs.declared.Role.{Role}
 use Rattle.rules.specs.declared.State.{State}
-use Rattle.order.specs.States.{Few, hasFew, leadingTold}
+use Rattle.order.specs.Following.{leadingTold}
+use Rattle.state.specs.States.{Few, hasFew}
 use Rattle.order.specs.declared.Leading.{Leading}
 use Rattle.order.specs.declared.Leading.the-variants as leading
-use Rattle.order.proofs.States.{few-has}
+use Rattle.state.proofs.States.{few-has}
 use Rattle.judge.specs.Lines.{judgeFew}
 
 -- ---- a state whose counts are few, or not

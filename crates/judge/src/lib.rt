@@ -3,7 +3,7 @@ ghost use Prim.Native.Nat.{_≤_};
 ghost use Rattle.rules.specs.Order.{ruled, judge};
 ghost use Rattle.rules.specs.Families.{countOf};
 ghost use Rattle.rules.specs.declared.Family.{Family};
-ghost use Rattle.order.specs.States.{Few};
+ghost use Rattle.state.specs.States.{Few};
 ghost use Rattle.after.specs.Judges.{JudgedTold};
 ghost use Rattle.judge.specs.Lines.{LineJudged};
 use order::Leading;
@@ -37,7 +37,7 @@ fn ruled_line(r: Role, line: &[u8], st: State) -> Judged
 pub fn judge_line(line: &[u8], st: State) -> Judged
     ensures { λ r. ⌜ LineJudged (now (line .entry)) st r ⌝ }
 {
-    if !order::has_few(st) {
+    if !state::has_few(st) {
         return after::refused_at(Reason::BadValue, 0);
     }
     judge_few(line, st)
@@ -57,5 +57,5 @@ fn judge_few(line: &[u8], st: State) -> Judged
     let Leading::To(stage) = order::order_of(role, st) else {
         return after::refused_at(Reason::Order, 1);
     };
-    ruled_line(role, line, order::moved_to(stage, st))
+    ruled_line(role, line, state::moved_to(stage, st))
 }

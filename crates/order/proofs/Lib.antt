@@ -1,5 +1,2 @@
 pub mod Others
-pub mod Counts
-pub mod Turns
-pub mod States
 pub mod Only

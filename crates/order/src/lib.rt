@@ -1,25 +1,17 @@
-// Which kind of line may follow which, the time order, and the state that the lines so far have left.
+// Which kind of line may follow which, and the time order.
 ghost use mathlib.Core.Path.{_≡_};
-ghost use Rattle.rules.specs.Families.{withLayout};
 ghost use Rattle.rules.specs.Order.{fitsDeclaration};
 ghost use Rattle.rules.specs.Roles.{isDeclaring, afterLayout, leading, stageAfter};
 ghost use Rattle.rules.specs.declared.Role.the-variants as role;
-ghost use Rattle.order.specs.Turns.{EntryPut};
-ghost use Rattle.order.specs.States.{leadingTold, EndGiven, RoleGiven, RoleTest, OrderTold, BackTest, FewCounts, FewTest, NoFlight, BeforeAll, Moved, Dated, LayoutKept, LaidOut, OneCounted, CountedIn, Begun, Pointed, Clocked};
-use rules::Counts;
-use rules::Date;
+ghost use Rattle.order.specs.Following.{leadingTold, EndGiven, RoleGiven, RoleTest, OrderTold, BackTest};
 use rules::Family;
-use rules::Flight;
-use rules::Head;
 use rules::Kind;
-use rules::Layout;
-use rules::Layouts;
 use rules::Role;
 use rules::Seal;
 use rules::State;
 
 // The parts of a file, as far as its lines have come.
-const AT_START: u8 = 0;
+pub const AT_START: u8 = 0;
 
 const AFTER_A: u8 = 1;
 
@@ -177,198 +169,5 @@ pub fn is_back(before: u32, now: u32) -> bool
     if 43200 < before - now {
         return false;
     }
-    true
-}
-
-// Whether the counts of each family are few.
-pub fn are_few(counts: Counts) -> bool
-    ensures { λ r. ⌜ FewCounts counts r ⌝ }
-{
-    if 16777216 < counts.b {
-        return false;
-    }
-    counts.k <= 16777216
-}
-
-// Whether the counts are few: no more than a file has bytes, at most.
-pub fn has_few(st: State) -> bool
-    ensures { λ r. ⌜ FewTest st r ⌝ }
-{
-    let flight = st.flight;
-    if 16777216 < flight.lines {
-        return false;
-    }
-    are_few(flight.counts)
-}
-
-// What stands beside a refused file.
-pub fn no_flight() -> Flight
-    ensures { λ r. ⌜ NoFlight r ⌝ }
-{
-    let date = Date {
-        day: 0,
-        month: 0,
-        year: 0,
-    };
-    let layouts = Layouts {
-        b: basics::empty_layout(),
-        k: basics::empty_layout(),
-    };
-    Flight {
-        date,
-        layouts,
-        lines: 0,
-        counts: Counts { b: 0, k: 0 },
-    }
-}
-
-// The state before the first line.
-pub fn start_state() -> State
-    ensures { λ r. ⌜ BeforeAll r ⌝ }
-{
-    State {
-        stage: AT_START,
-        declared: false,
-        points: 0,
-        clock: 0,
-        flight: no_flight(),
-    }
-}
-
-// The state with one line more, in the part of the file that it leads to. A count past a file's most bytes is left, and so below.
-pub fn moved_to(stage: u8, st: State) -> State
-    ensures { λ r. ⌜ Moved stage st r ⌝ }
-{
-    if 16777216 < st.flight.lines {
-        return st;
-    }
-    let lines = st.flight.lines + 1;
-    let mut next = st;
-    next.stage = stage;
-    next.flight.lines = lines;
-    next
-}
-
-// The state with the date of the file.
-pub fn dated_to(date: Date, st: State) -> State
-    ensures { λ r. ⌜ Dated date st r ⌝ }
-{
-    let mut flight = st.flight;
-    flight.date = date;
-    let mut next = st;
-    next.flight = flight;
-    next
-}
-
-// The layout of a family among those of a file.
-pub fn layout_of(family: Family, layouts: Layouts) -> Layout
-    ensures { λ r. ⌜ LayoutKept family layouts r ⌝ }
-{
-    match family {
-        Family::B => layouts.b,
-        Family::K => layouts.k,
-    }
-}
-
-fn with_layout(family: Family, layout: Layout, layouts: Layouts) -> Layouts
-    ensures { λ r. ⌜ r ≡ withLayout family layout layouts ⌝ }
-{
-    let mut next = layouts;
-    match family {
-        Family::B => {
-            next.b = layout;
-        }
-        Family::K => {
-            next.k = layout;
-        }
-    }
-    next
-}
-
-// The state with the layout of a family.
-pub fn laid_out(family: Family, layout: Layout, st: State) -> State
-    ensures { λ r. ⌜ LaidOut family layout st r ⌝ }
-{
-    let mut flight = st.flight;
-    flight.layouts = with_layout(family, layout, flight.layouts);
-    let mut next = st;
-    next.flight = flight;
-    next
-}
-
-// The counts with one line of a family more. Counts that are not few are left.
-pub fn one_more(family: Family, counts: Counts) -> Counts
-    ensures { λ r. ⌜ OneCounted family counts r ⌝ }
-{
-    if !are_few(counts) {
-        return counts;
-    }
-    match family {
-        Family::B => Counts {
-            b: counts.b + 1,
-            k: counts.k,
-        },
-        Family::K => Counts {
-            b: counts.b,
-            k: counts.k + 1,
-        },
-    }
-}
-
-// The state with one line of a family more.
-pub fn counted_in(family: Family, st: State) -> State
-    ensures { λ r. ⌜ CountedIn family st r ⌝ }
-{
-    let mut flight = st.flight;
-    flight.counts = one_more(family, flight.counts);
-    let mut next = st;
-    next.flight = flight;
-    next
-}
-
-// The state in a declaration, of whose points none has come.
-pub fn begun_by(head: Head, st: State) -> State
-    ensures { λ r. ⌜ Begun head st r ⌝ }
-{
-    let points = head.turns as u32 + 4;
-    let mut next = st;
-    next.declared = true;
-    next.points = points;
-    next
-}
-
-// The state with one point less to come.
-pub fn pointed_by(st: State) -> State
-    ensures { λ r. ⌜ Pointed st r ⌝ }
-{
-    if st.points < 1 {
-        return st;
-    }
-    let points = st.points - 1;
-    let mut next = st;
-    next.points = points;
-    next
-}
-
-// The state after a line of this time.
-pub fn clocked_to(t: u32, st: State) -> State
-    ensures { λ r. ⌜ Clocked t st r ⌝ }
-{
-    let mut next = st;
-    next.clock = t;
-    next
-}
-
-// Puts a line's offset into the lent table, if one is lent, at its place: whether the table has room for it. Where it has none, the table stays.
-pub fn put_entry(lent: bool, table: &mut [u32], n: usize, at: u32) -> bool
-    ensures { λ r. ⌜ EntryPut lent (now (table .entry)) n at r (now (table .exit)) ⌝ }
-{
-    if !lent {
-        return true;
-    }
-    if table.len() <= n {
-        return false;
-    }
-    table[n] = at;
     true
 }

@@ -35,8 +35,8 @@ use Rattle.plain.proofs.Laws.{mild-text}
 use Rattle.sure.specs.Sure.{patternOf, sureTime}
 use Rattle.sure.proofs.Said.{SureParts, parts, sure-columned}
 use Rattle.cut.proofs.Cuts.{Cut}
-use Rattle.order.specs.States.{areFew, moreOf}
-use Rattle.order.proofs.States.{are-few, few-more}
+use Rattle.tally.specs.Counting.{areFew, moreOf}
+use Rattle.tally.proofs.Counting.{are-few, few-more}
 use Rattle.pace.specs.Paces.{paced, onward, takenTold, AfterTime, Going, Known, Judges, JudgedAs, MildAs, Takes, TakenAs}
 use Rattle.pace.specs.declared.Pace.{Pace}
 use Rattle.pace.specs.declared.Taken.{Taken}

@@ -17,8 +17,8 @@ use Rattle.rules.specs.declared.Family.{Family}
 use Rattle.rules.specs.declared.Family.the-variants as family
 use Rattle.rules.specs.declared.State.{State}
 use Rattle.rules.specs.declared.Time.{Time}
-use Rattle.order.specs.States.{areFew}
-use Rattle.order.specs.Turns.{Passed}
+use Rattle.tally.specs.Counting.{areFew}
+use Rattle.state.specs.Turns.{Passed}
 use Rattle.plain.specs.Plain.{isMild, every}
 use Rattle.sure.specs.Sure.{patternOf}
 use Rattle.pace.specs.declared.Pace.{Pace}

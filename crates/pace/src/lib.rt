@@ -60,7 +60,7 @@ fn columned_line(
     ensures { λ r. ⌜ ColumnedTold family (now (line .entry)) size (now (pattern .entry)) p next r ⌝ }
 {
     let time = sure::sure_line(family, line, size, pattern);
-    after_time(time, p, next, order::one_more(family, p.counts))
+    after_time(time, p, next, tally::one_more(family, p.counts))
 }
 
 // The line behind the pace's bytes, of a family, with its CR LF behind `size` bytes.
@@ -139,7 +139,7 @@ fn has_room(p: Pace) -> bool
     if 33554432 < p.lines {
         return false;
     }
-    order::are_few(p.counts)
+    tally::are_few(p.counts)
 }
 
 // The line behind the pace's bytes, by its first one: the numbers after it where it is surely good, by the lengths of B and K lines and the patterns of their columns.

@@ -18,10 +18,10 @@ use Rattle.rules.specs.declared.Refusal.{Refusal}
 use Rattle.rules.specs.declared.State.{State}
 use Rattle.rules.proofs.Inverse.{and-inv}
 use Rattle.cut.proofs.Cuts.{Cut, Torn}
-use Rattle.order.specs.States.{Few, hasFew}
-use Rattle.order.specs.Turns.{roomOf, EntryPut}
-use Rattle.order.proofs.States.{few-has, has-few}
-use Rattle.order.proofs.Turns.{put-so, put-none, put-fits, put-full}
+use Rattle.state.specs.States.{Few, hasFew}
+use Rattle.state.specs.Turns.{roomOf, EntryPut}
+use Rattle.state.proofs.States.{few-has, has-few}
+use Rattle.state.proofs.Turns.{put-so, put-none, put-fits, put-full}
 use Rattle.after.specs.Judges.{JudgedTold}
 use Rattle.judge.specs.Lines.{judgeFew}
 use Rattle.judge.proofs.Judging.{judge-few}

@@ -16,8 +16,8 @@ use Rattle.rules.specs.declared.Reason.{Reason}
 use Rattle.rules.specs.declared.Reason.the-variants.{LineEnd, TableFull, BadValue}
 use Rattle.rules.specs.declared.Refusal.{Refusal}
 use Rattle.rules.specs.declared.State.{State}
-use Rattle.order.specs.States.{Few, hasFew}
-use Rattle.order.specs.Turns.{roomOf, entry}
+use Rattle.state.specs.States.{Few, hasFew}
+use Rattle.state.specs.Turns.{roomOf, entry}
 use Rattle.turn.specs.declared.Turn.{Turn}
 
 -- a refusal in the line that comes next

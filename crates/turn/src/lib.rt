@@ -4,7 +4,7 @@ ghost use mathlib.Core.Path.{_≡_};
 ghost use lib.ListN.{drop};
 ghost use Rattle.rules.specs.Refusals.{inLine, andThen, outcomeTold};
 ghost use Rattle.rules.specs.Split.{linesOf};
-ghost use Rattle.order.specs.Turns.{roomOf};
+ghost use Rattle.state.specs.Turns.{roomOf};
 ghost use Rattle.turn.specs.Turns.{inNext, halt, mayTake, MayTake, goodLine, turnIn, Turned, TurnTaken};
 use cut::Ended;
 use rules::Judged;
@@ -50,7 +50,7 @@ fn enter(lent: bool, table: &mut [u32], at: usize, st: State, next: usize, after
     ensures { λ r. ⌜ Turned (goodLine (roomOf lent (now (table .entry))) st next after) lent (now (table .entry)) at st r (now (table .exit)) ⌝ }
 {
     let n = st.flight.lines as usize;
-    if !order::put_entry(lent, table, n, at as u32) {
+    if !state::put_entry(lent, table, n, at as u32) {
         return halted(Reason::TableFull, 0, at, st);
     }
     Turn {
@@ -87,7 +87,7 @@ fn may_take(file: &[u8], at: usize, st: State) -> bool
     if 16777216 < file.len() {
         return false;
     }
-    order::has_few(st)
+    state::has_few(st)
 }
 
 // The line at a place where one may be taken.

@@ -3,7 +3,7 @@ use Prim.Native.Nat.{ℕ}
 use mathlib.Core.Path.{_≡_, sym, _∙_}
 use native.Mathlib.Omega.{arith}
 use borrow.Author.Needs.{needs}
-use Rattle.order.proofs.States.{has-few}
+use Rattle.state.proofs.States.{has-few}
 use Rattle.ahead.proofs.may_run.Statement.{statement}
 use Rattle.ahead.proofs.may_run.Tie as tie
 

@@ -5,7 +5,7 @@ use native.Mathlib.Omega.{arith}
 use borrow.Author.Needs.{needs}
 use borrow.Author.Tests.{not-true, not-false}
 use lib.ListN.{length}
-use Rattle.order.proofs.Turns.{put-none}
+use Rattle.state.proofs.Turns.{put-none}
 use Rattle.ahead.proofs.Runs.{taken-is, Running, running-first, running-next, running-less, running-end}
 use Rattle.ahead.proofs.run_lines.Statement.{statement}
 use Rattle.ahead.proofs.run_lines.Tie as tie

@@ -2,7 +2,7 @@
 use mathlib.Core.Path.{sym, _∙_}
 use borrow.Author.Needs.{needs}
 use borrow.Author.Tests.{not-true, not-false}
-use Rattle.order.proofs.States.{has-few}
+use Rattle.state.proofs.States.{has-few}
 use Rattle.judge.proofs.Judging.{judge-many, judge-counted}
 use Rattle.judge.proofs.judge_line.Statement.{statement}
 use Rattle.judge.proofs.judge_line.Tie as tie

@@ -6,7 +6,7 @@ use borrow.Author.Needs.{needs}
 use Rattle.rules.specs.Roles.{afterLayout, stageAfter}
 use Rattle.rules.specs.declared.Family.{Family}
 use Rattle.rules.specs.declared.Family.the-variants as family
-use Rattle.order.specs.States.{leadingTold}
+use Rattle.order.specs.Following.{leadingTold}
 use Rattle.order.proofs.layout_after.Statement.{statement}
 use Rattle.order.proofs.layout_after.Tie as tie
 

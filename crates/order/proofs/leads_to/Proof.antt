@@ -1,6 +1,6 @@
 -- `order::leads_to` meets its contract. Assumes nothing.
 use borrow.Author.Tests.{le-leb, lt-leb}
-use Rattle.order.specs.States.{leadingTold}
+use Rattle.order.specs.Following.{leadingTold}
 use Rattle.order.proofs.leads_to.Statement.{statement}
 use Rattle.order.proofs.leads_to.Tie as tie
 

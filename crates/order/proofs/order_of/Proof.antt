@@ -3,7 +3,7 @@ use borrow.Author.Needs.{needs}
 use borrow.Author.Tests.{not-true, not-false}
 use Rattle.rules.specs.Order.{orderOf}
 use Rattle.rules.proofs.Links.{tests}
-use Rattle.order.specs.States.{leadingTold}
+use Rattle.order.specs.Following.{leadingTold}
 use Rattle.order.proofs.order_of.Statement.{statement}
 use Rattle.order.proofs.order_of.Tie as tie
 

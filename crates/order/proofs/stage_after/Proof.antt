@@ -2,7 +2,7 @@
 use mathlib.Core.Path.{_∙_}
 use borrow.Author.Needs.{needs}
 use Rattle.rules.specs.Roles.{stageAfter}
-use Rattle.order.specs.States.{leadingTold}
+use Rattle.order.specs.Following.{leadingTold}
 use Rattle.order.proofs.Others.{body-role}
 use Rattle.order.proofs.stage_after.Statement.{statement}
 use Rattle.order.proofs.stage_after.Tie as tie

@@ -3,8 +3,8 @@ use Prim.Native.Nat.{_-_}
 use native.Mathlib.Omega.{arith}
 use borrow.Author.Needs.{needs}
 use lib.ListN.{length}
-use Rattle.order.specs.Turns.{Here}
-use Rattle.order.proofs.Turns.{here-first, here-few}
+use Rattle.state.specs.Turns.{Here}
+use Rattle.state.proofs.Turns.{here-first, here-few}
 use Rattle.file.proofs.Checks.{here-end, here-long, here-on, here-stop}
 use Rattle.file.proofs.lines.check_lines.Statement.{statement}
 use Rattle.file.proofs.lines.check_lines.Tie as tie

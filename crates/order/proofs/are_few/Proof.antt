@@ -1,9 +1,0 @@
--- `order::are_few` meets its contract. Assumes nothing.
-use borrow.Author.Tests.{le-leb, lt-leb}
-use Rattle.order.specs.States.{areFew}
-use Rattle.order.proofs.are_few.Statement.{statement}
-use Rattle.order.proofs.are_few.Tie as tie
-
-pub are-few-spec : {M : Type 1} → statement M
-unfolding areFew
-are-few-spec = tie.close (tie.spec (λ c. simp (lt-leb _ _ (c .if1 .taken))) (λ c. rw (le-leb _ _ (c .before .if1 .left))))

@@ -1,0 +1,33 @@
+// The counts of each family's lines: whether they are few, and one line more.
+ghost use Rattle.tally.specs.Counting.{FewCounts, OneCounted};
+use rules::Counts;
+use rules::Family;
+
+// Whether the counts of each family are few.
+pub fn are_few(counts: Counts) -> bool
+    ensures { λ r. ⌜ FewCounts counts r ⌝ }
+{
+    if 16777216 < counts.b {
+        return false;
+    }
+    counts.k <= 16777216
+}
+
+// The counts with one line of a family more. Counts that are not few are left.
+pub fn one_more(family: Family, counts: Counts) -> Counts
+    ensures { λ r. ⌜ OneCounted family counts r ⌝ }
+{
+    if !are_few(counts) {
+        return counts;
+    }
+    match family {
+        Family::B => Counts {
+            b: counts.b + 1,
+            k: counts.k,
+        },
+        Family::K => Counts {
+            b: counts.b,
+            k: counts.k + 1,
+        },
+    }
+}
