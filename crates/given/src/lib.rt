@@ -5,7 +5,7 @@ ghost use mathlib.Core.Path.{_≡_};
 ghost use Rattle.rules.specs.Layouts.{LayoutTold};
 ghost use Rattle.rules.specs.Refusals.{no};
 ghost use Rattle.given.specs.Given.{columnAtTold, entryAt, layoutFor, toldLayout, LayoutBy, FixBy, ExtraBy, ColumnBy, NumberBy, EntryBy, PresenceBy};
-use known::FamilyRead;
+use families::FamilyRead;
 use rules::ColumnRead;
 use rules::Entry;
 use rules::Family;
@@ -71,7 +71,7 @@ pub fn extra(line: &[u8], columns: &[u8]) -> TimeRead
 fn layout_for(line: &[u8], columns: &[u8]) -> LayoutRead
     ensures { λ r. ⌜ LayoutTold (layoutFor (now (line .entry)) (now (columns .entry))) r ⌝ }
 {
-    let FamilyRead::Of(f) = known::family(line) else {
+    let FamilyRead::Of(f) = families::family(line) else {
         return layout::refused(Refusal {
             reason: Reason::BadValue,
             line: 0,
@@ -138,7 +138,7 @@ fn entry_at(l: Layout, n: usize) -> ColumnAt
 fn told_layout(columns: &[u8]) -> LayoutRead
     ensures { λ r. ⌜ LayoutTold (toldLayout (now (columns .entry))) r ⌝ }
 {
-    let FamilyRead::Of(f) = known::layout_family(columns) else {
+    let FamilyRead::Of(f) = families::layout_family(columns) else {
         return layout::refused(Refusal {
             reason: Reason::BadValue,
             line: 0,

@@ -18,9 +18,9 @@ use Rattle.rules.specs.declared.Reason.the-variants.{BadValue}
 use Rattle.rules.specs.declared.Refusal.{Refusal}
 use Rattle.rules.specs.declared.Wrote.{Wrote}
 use Rattle.rules.specs.declared.Wrote.the-variants as wrote
-use Rattle.known.specs.Known.{familyTold}
-use Rattle.known.specs.declared.FamilyRead.{FamilyRead}
-use Rattle.known.specs.declared.FamilyRead.the-variants as familyRead
+use Rattle.families.specs.Letters.{familyTold}
+use Rattle.families.specs.declared.FamilyRead.{FamilyRead}
+use Rattle.families.specs.declared.FamilyRead.the-variants as familyRead
 use Rattle.given.specs.Given.{orBadValue}
 use Rattle.given.proofs.Layouts.{layout-then, layout-refused}
 use Rattle.given_write.specs.Written.{SaidWritten}

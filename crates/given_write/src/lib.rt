@@ -1,6 +1,6 @@
 // A line written by a layout that is given as the text of its own line.
 ghost use Rattle.given_write.specs.Written.{FixWrittenBy, ExtraWrittenBy, LayoutWrittenBy};
-use known::FamilyRead;
+use families::FamilyRead;
 use rules::Family;
 use rules::Fix;
 use rules::Outcome;
@@ -38,7 +38,7 @@ pub fn extra(seconds: u32, columns: &[u8], layout: &[u8], out: &mut [u8], place:
 pub fn layout(line: &[u8], out: &mut [u8], place: usize) -> Wrote
     ensures { λ r. ⌜ LayoutWrittenBy (now (line .entry)) place (now (out .entry)) r (now (out .exit)) ⌝ }
 {
-    let FamilyRead::Of(f) = known::layout_family(line) else {
+    let FamilyRead::Of(f) = families::layout_family(line) else {
         return Wrote::Refused(Refusal {
             reason: Reason::BadValue,
             line: 0,

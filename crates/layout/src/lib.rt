@@ -4,7 +4,6 @@ mod values;
 
 pub use entry::Spot;
 pub use entry::empty_layout;
-pub use entry::first_start;
 pub use entry::look;
 pub use listed::keeps_rule;
 pub use listed::listed_at;

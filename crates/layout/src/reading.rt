@@ -7,7 +7,7 @@ ghost use Rattle.rules.specs.Promises.{LayoutChecked};
 ghost use Rattle.layout.specs.Parts.{LayoutRefused};
 use entry::EntryRead;
 use entry::empty_layout;
-use entry::first_start;
+use families::first_start;
 use rules::Entry;
 use rules::Family;
 use rules::Layout;

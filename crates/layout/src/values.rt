@@ -12,7 +12,7 @@ use entry::EntryRead;
 use entry::carries;
 use entry::empty_layout;
 use entry::find;
-use entry::first_start;
+use families::first_start;
 use entry::placed;
 use listed::listed_at;
 use rules::ColumnRead;

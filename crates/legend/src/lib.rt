@@ -50,23 +50,13 @@ fn fill_entries(l: Layout, out: &mut [u8])
     }
 }
 
-// I for the layout of B lines, J for that of K lines.
-fn letter(family: Family) -> u8
-    ensures { λ r. ⌜ r ≡ layoutLetter family ⌝ }
-{
-    match family {
-        Family::B => b'I',
-        Family::K => b'J',
-    }
-}
-
 // A layout's line and its CR LF, at the front of an output.
 fn fill_layout(family: Family, l: Layout, out: &mut [u8])
     requires { ⌜ Spellable l ⌝ }
     ensures { λ _. ⌜ Fills (now (out .entry)) 0 (layoutText family l ++ crlf) (now (out .exit)) ⌝ }
 {
     let n = l.count;
-    put::byte(out, 0, letter(family));
+    put::byte(out, 0, families::layout_letter(family));
     put::digits(out, 1, 2, n as u64);
     fill_entries(l, out);
     put::text(out, 3 + 7 * n, b"\r\n");
