@@ -24,6 +24,7 @@ use Rattle.rules.specs.declared.Layout.{Layout}
 use Rattle.rules.specs.declared.Family.{Family}
 use Rattle.rules.specs.Lines.{shaped, layoutLine}
 use Rattle.rules.specs.Reads.{layoutSaid}
+use Rattle.rules.specs.declared.Extra.the-variants as extra
 use Rattle.rules.specs.declared.Family.the-variants as family
 use Rattle.rules.proofs.Inverse.{refuses-says, given-inv, need-inv, then-inv, and-inv}
 use Rattle.trips.proofs.Laws.{past, byte-there}
@@ -123,7 +124,8 @@ told-tiles start layout t =
 letter-is : (f : Family) → (1 ≤ layoutLetter f) × (isValid false (layoutLetter f) ≡ true)
 unfolding isValid
 letter-is family.B = (omega arith, refl)
-letter-is family.K = (omega arith, refl)
+letter-is (family.Extra extra.K) = (omega arith, refl)
+letter-is (family.Extra extra.N) = (omega arith, refl)
 
 -- ---- a line that reads as a layout
 

@@ -298,10 +298,10 @@ stands-start = record {
   sound = sound-start;
   staged = staged-start;
   lines = refl;
-  counts = every (λ f. countOf f (start .flight .counts) ≡ beginning (lineLetter f) []) refl refl;
+  counts = every (λ f. countOf f (start .flight .counts) ≡ beginning (lineLetter f) []) refl refl refl;
   declaration = undeclared tt;
   clock = refl;
-  told = every (λ f. AtMostOne f (layoutOf f (start .flight .layouts)) (those (layoutLetter f) [])) absent absent;
+  told = every (λ f. AtMostOne f (layoutOf f (start .flight .layouts)) (those (layoutLetter f) [])) absent absent absent;
 }
 
 -- a family's layout is that of the entries that were told
