@@ -32,7 +32,8 @@ use Rattle.laws.proofs.Passing.{front-over}
 use Rattle.laws.proofs.Splitting.{none-left}
 use Rattle.demands.specs.Grammar.{IsText, OrderFrom, InOrder, IsALine, IsDateLine, AtMostOne, Parts, toldIn, linesIn, SealedBy, Keeps, joinLines, Meets, beginning, countsIn, flightOf}
 use Rattle.sound.proofs.Entries.{said-some}
-use Rattle.demands.proofs.Leading.{every, all-layouts, counts-more, Part, Leads, a-line, date-line, h-line, layout-line, body-line, g-line, l-line, Sound, sound-start, judge-leads, leads-judge}
+use Rattle.sound.proofs.Families.{every, all-layouts}
+use Rattle.demands.proofs.Leading.{counts-more, Part, Leads, a-line, date-line, h-line, layout-line, body-line, g-line, l-line, Sound, sound-start, judge-leads, leads-judge}
 use Rattle.demands.proofs.Leading as part
 use Rattle.demands.proofs.Sections.{Passes, done, next, passes-join, all-passed, before, begins, lines-joined, none-fit, ended, comes, passes-run, stops-run, at-end, Fresh, passes-above, Above, Section, split, above-end, section-passes, headers-there, headers-here, layout-there, layout-here, body-same, body-stage, body-there, body-here, seals-there, seals-here, seal-needed, remarks-there, remarks-here}
 

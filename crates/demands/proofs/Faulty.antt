@@ -35,9 +35,10 @@ use Rattle.laws.proofs.Walking.{columned-time, event-time, satellites-time}
 use Rattle.demands.specs.Coming.{isAmong, only, without, isOpen, isBody, lettersBefore, mayCome, orZero, entryOf, entriesTold, endsAt, sizeOf, lastTime, isInTime}
 use Rattle.demands.specs.Checks.{isThere, Check, check, AllPass, FailsFirst, oneEach, shapeChecks, columnChecks, timeCheck, pairChecks, hasCode, entryChecks, layoutChecks, dateChecks, headerChecks, headChecks, pointChecks, thenTime, roleChecks, checksOf, lineChecks, eventChecks, satelliteChecks}
 use Rattle.demands.specs.Grammar.{laid}
-use Rattle.demands.proofs.Leading.{letter-tests, none-pass}
+use Rattle.demands.proofs.Leading.{letter-tests}
 use Rattle.demands.proofs.Standing.{only-without, none-open, declaration-told, laid-out, Stands}
 use Rattle.sound.proofs.Each.{each-join}
+use Rattle.sound.proofs.Families.{none-pass}
 use Rattle.sound.proofs.Placed.{with-laid, entries-laid}
 use Rattle.sound.proofs.Columns.{end-of, line-end}
 use Rattle.demands.proofs.Laws.{shape-there}

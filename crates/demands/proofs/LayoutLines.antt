@@ -1,4 +1,4 @@
--- I and J lines both ways: the entries that a line is read as are those that it has, and they tile in the grammar's words; such a line reads as a layout exactly when it is
+-- I, J and M lines both ways: the entries that a line is read as are those that it has, and they tile in the grammar's words; such a line reads as a layout exactly when it is
 -- the text of entries that tile, and the layout is theirs; and so exactly when the layout is allowed and has 13 slots. Assumes nothing.
 use Prim.Native.Nat.{ℕ, zero, suc, _+_, _-_, _*_, _/_, _%_, _≤_}
 use mathlib.Core.Bool.{true, false, _&&_}
@@ -261,7 +261,7 @@ module _ (f : Family) (layout : Layout) where
       ∙ ap (λ x. layoutLetter f ∷ (digitsOf 2 (length (w .entries)) ++ entryTexts x)) (sym (entries-laid (w .entries)))
       ∙ ap (λ x. layoutLetter f ∷ (digitsOf 2 (x .count) ++ entryTexts (entriesOf x))) (sym (w .slots))
 
-  -- a line reads as the layout exactly when it is an I or a J line of it
+  -- a line reads as the layout exactly when it is an I, a J or an M line of it
   pub layout-line-exactly : (l : List ℕ) → (layoutSaid f l ≡ says layout) ↔ IsLayoutLine f layout l
   layout-line-exactly l = (reads-line l, line-reads l)
 

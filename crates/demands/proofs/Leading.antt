@@ -5,14 +5,14 @@ use Prim.Native.Char.{code}
 use mathlib.Core.Bool.{Bool, true, false, _&&_, cond, not}
 use mathlib.Core.List.{List, [], _∷_}
 use mathlib.Core.Logic.{inl, inr}
-use mathlib.Core.Path.{_≡_, refl, sym, _∙_}
+use mathlib.Core.Path.{_≡_, refl, sym}
 use mathlib.Core.Option.{Option, none, some}
 use native.Mathlib.Omega.{arith}
 use borrow.Author.Tests.{le-leb, lt-leb, leb-true, leb-false, eqb-true, eqb-false, ne-eqb, ltb-true, ltb-false, le-ltb, lt-ltb}
 use lib.Dec.{leb, eqb, ltb}
 use lib.ListN.{length, getD}
 use Rattle.rules.specs.Choice.{bytes}
-use Rattle.rules.specs.Families.{lineLetter, layoutLetter, layoutOf, withLayout, countOf, oneMore}
+use Rattle.rules.specs.Families.{lineLetter, layoutLetter, layoutOf, countOf, oneMore}
 use Rattle.rules.specs.Files.{hasRoom}
 use Rattle.rules.specs.Refusals.{says}
 use Rattle.rules.specs.Lines.{kindOf}
@@ -38,20 +38,14 @@ use Rattle.laws.proofs.Passing as passes
 use Rattle.demands.specs.Coming.{isAmong, lettersBefore, timedLetters}
 use Rattle.demands.specs.FieldTexts.{Letter}
 use Rattle.demands.specs.Grammar.{Follows, IsALine, IsDateLine, IsHLine, IsLayoutLine, IsHeadLine, IsPointLine, IsLLine, IsGLine, Timed, columned, event, satellites, Untimed, differential, remark, other, Fits}
+use Rattle.sound.proofs.Families.{every, line-role, tells-role, put-by}
 use Rattle.sound.proofs.Placed.{sound-empty}
 use Rattle.demands.proofs.Laws.{cond-false}
 use Rattle.demands.proofs.EachLine.{a-there, a-said, date-there, date-said, h-there, h-said, d-there, d-said, e-there, e-said, f-there, f-said, l-there, l-said, g-there, g-said, other-there, other-said, columned-letter, columned-there, columned-said, head-there, head-said, point-there, point-said}
 use Rattle.demands.proofs.LayoutLines.{IsTold, layout-there, layout-said, layout-told}
 
--- ---- the families, one by one
+-- ---- room in a table, as the rules test it and as the grammar says it
 
--- what holds of each family
-abbrev pub every : (P : Family → Type 0) → P family.B → P (family.Extra extra.K) → P (family.Extra extra.N) → (f : Family) → P f
-every P b k n family.B = b
-every P b k n (family.Extra extra.K) = k
-every P b k n (family.Extra extra.N) = n
-
--- room in a table, as the rules test it and as the grammar says it
 pub fits-there : (room : Option ℕ) (n : ℕ) → hasRoom room n ≡ true → Fits room n
 fits-there none n h = tt
 fits-there (some most) n h = leb-true n most h
@@ -59,42 +53,6 @@ fits-there (some most) n h = leb-true n most h
 pub fits-so : (room : Option ℕ) (n : ℕ) → Fits room n → hasRoom room n ≡ true
 fits-so none n h = refl
 fits-so (some most) n h = le-leb n most h
-
--- a test that each of them passes, and one that each fails
-all-pass : (test : Family → Bool) → (test family.B && (test (family.Extra extra.K) && test (family.Extra extra.N))) ≡ true → (f : Family) → test f ≡ true
-all-pass test e =
-    let b = and-inv (test family.B) _ e in
-    let x = and-inv (test (family.Extra extra.K)) (test (family.Extra extra.N)) (b .1) in
-    every (λ f. test f ≡ true) (b .0) (x .0) (x .1)
-
-pub none-pass : (test : Family → Bool) → (not (test family.B) && (not (test (family.Extra extra.K)) && not (test (family.Extra extra.N)))) ≡ true → (f : Family) → test f ≡ false
-none-pass test e f = not-inv (test f) (all-pass (λ g. not (test g)) e f)
-
-pub all-layouts : (a b : Layouts) → ((f : Family) → layoutOf f a ≡ layoutOf f b) → a ≡ b
-all-layouts a b h = λ i. record { b = h family.B i; k = h (family.Extra extra.K) i; n = h (family.Extra extra.N) i }
-
--- what holds of the layout that is put in, and of each that stays
-pub put-by : (P : Family → Layout → Type 0) (f : Family) (i : Layout) (ls : Layouts) → P f i → ((g : Family) → sameFamily g f ≡ false → P g (layoutOf g ls))
-    → (g : Family) → P g (layoutOf g (withLayout f i ls))
-put-by P family.B i ls h k = every (λ g. P g (layoutOf g (withLayout family.B i ls))) h (k (family.Extra extra.K) refl) (k (family.Extra extra.N) refl)
-put-by P (family.Extra extra.K) i ls h k = every (λ g. P g (layoutOf g (withLayout (family.Extra extra.K) i ls))) (k family.B refl) h (k (family.Extra extra.N) refl)
-put-by P (family.Extra extra.N) i ls h k = every (λ g. P g (layoutOf g (withLayout (family.Extra extra.N) i ls))) (k family.B refl) (k (family.Extra extra.K) refl) h
-
-pub put-own : (f : Family) (i : Layout) (ls : Layouts) → layoutOf f (withLayout f i ls) ≡ i
-put-own f i ls = every (λ f. layoutOf f (withLayout f i ls) ≡ i) refl refl refl f
-
-pub same-family : (f : Family) → sameFamily f f ≡ true
-same-family = all-pass (λ f. sameFamily f f) refl
-
-pub is-same : (f g : Family) → sameFamily g f ≡ true → g ≡ f
-is-same family.B = every (λ g. sameFamily g family.B ≡ true → g ≡ family.B) (λ e. refl) (λ e. absurd (false-true e)) (λ e. absurd (false-true e))
-is-same (family.Extra extra.K) =
-    every (λ g. sameFamily g (family.Extra extra.K) ≡ true → g ≡ family.Extra extra.K) (λ e. absurd (false-true e)) (λ e. refl) (λ e. absurd (false-true e))
-is-same (family.Extra extra.N) =
-    every (λ g. sameFamily g (family.Extra extra.N) ≡ true → g ≡ family.Extra extra.N) (λ e. absurd (false-true e)) (λ e. absurd (false-true e)) (λ e. refl)
-
-pub put-others : (f : Family) (i : Layout) (ls : Layouts) (g : Family) → sameFamily g f ≡ false → layoutOf g (withLayout f i ls) ≡ layoutOf g ls
-put-others f i ls = put-by (λ g x. sameFamily g f ≡ false → x ≡ layoutOf g ls) f i ls (λ n. absurd (false-true (sym n ∙ same-family f))) (λ g n m. refl)
 
 -- ---- the role of a letter
 
@@ -137,14 +95,6 @@ tells-letter f {b} = every (λ f. Letter (role.Tells f) b → b ≡ layoutLetter
 
 pub line-letter : (f : Family) {b : ℕ} → Letter (role.Columned f) b → b ≡ lineLetter f
 line-letter f {b} = every (λ f. Letter (role.Columned f) b → b ≡ lineLetter f) (λ e. e) (λ e. e) (λ e. e) f
-
-pub tells-role : (f : Family) → roleOf (kindOf (layoutLetter f)) ≡ role.Tells f
-unfolding kindOf
-tells-role = every (λ f. roleOf (kindOf (layoutLetter f)) ≡ role.Tells f) refl refl refl
-
-pub line-role : (f : Family) → roleOf (kindOf (lineLetter f)) ≡ role.Columned f
-unfolding kindOf
-line-role = every (λ f. roleOf (kindOf (lineLetter f)) ≡ role.Columned f) refl refl refl
 
 -- a line with a role has bytes
 pub not-empty : (l : List ℕ) → isRole (roleIn l) ≡ true → 1 ≤ length l
@@ -389,7 +339,7 @@ module _ (l : List ℕ) (st : State) where
       role-judged role.Declares inBody (rw (s .0)) refl (fits-point st h) (leading-so afterH inBody inBody (st .stage) p q) (passes.point (w .point) (λ z. omega arith) (s .1))
   body-judge g p q (timed t (columned f w) z o) =
       let k = columned-letter f (layoutOf f (st .flight .layouts)) t l w in
-      role-judged (role.Columned f) inBody (rw k (line-role f)) refl (fits-plain st z) (leading-so afterH inBody inBody (st .stage) p q)
+      role-judged (role.Columned f) inBody (line-role f _ k) refl (fits-plain st z) (leading-so afterH inBody inBody (st .stage) p q)
       (passes.columned f t (columned-said f (layoutOf f (st .flight .layouts)) t l (g f) w) (follows-time (st .clock) t o))
   body-judge g p q (timed t (event w) z o) =
       let s = e-said l t w in
@@ -414,7 +364,7 @@ module _ (l : List ℕ) (st : State) where
       role-judged role.Heads afterH (rw (w .letter)) refl (fits-plain st p) (leading-so afterA afterH afterH (st .stage) a b) (passes.header n (h-said l w))
   leads-judge g (layout-line f i a b p w) =
       let s = layout-said f i l w in
-      role-judged (role.Tells f) (afterLayout f) (rw (s .0) (tells-role f)) refl (fits-plain st p) (leading-so afterH (afterLayout f - 1) (afterLayout f) (st .stage) a b)
+      role-judged (role.Tells f) (afterLayout f) (tells-role f _ (s .0)) refl (fits-plain st p) (leading-so afterH (afterLayout f - 1) (afterLayout f) (st .stage) a b)
       (passes.layout f i (s .1))
   leads-judge g (body-line a b w) = body-judge g a b w
   leads-judge g (g-line a b p w) =

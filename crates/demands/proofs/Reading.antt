@@ -48,12 +48,13 @@ use Rattle.demands.specs.Grammar as grammar
 use Rattle.demands.specs.Coming.{isAmong}
 use Rattle.demands.specs.Readings.{Entered, ReadsFix, ReadsExtra, ReadsColumned, ReadsColumns, ReadsValue, ReadsLayout, ReadsPresence, ReadsLine, ReadsHead, ReadsPoint, NoC, ReadsDeclaration, nowhere, declared, total, Steps, Readable}
 use Rattle.sound.proofs.Each.{each-map, each-join, each-cut}
+use Rattle.sound.proofs.Families.{every, none-pass, line-role, tells-role}
 use Rattle.demands.proofs.EachLine.{e-said, f-said, start-low, fix-reads, extra-reads, columned-letter, columned-fields, head-reads, point-reads, head-said, point-said}
 use Rattle.demands.proofs.Readers.{date-exactly, event-exactly, satellite-exactly, on-map}
 use Rattle.demands.proofs.ByLayout.{presence-reads}
 use Rattle.demands.proofs.ByLayout as by-layout
 use Rattle.demands.proofs.LayoutLines.{IsTold, layout-said, layout-line-exactly, told}
-use Rattle.demands.proofs.Leading.{every, none-pass, tells-role, line-role, other-role}
+use Rattle.demands.proofs.Leading.{other-role}
 use Rattle.demands.proofs.Sections.{before}
 use Rattle.demands.proofs.Accepted.{lines-cut, accepted-as}
 use Rattle.demands.proofs.Columns.{columns-read}
@@ -201,12 +202,6 @@ module _ (layouts : Layouts) (l : List ℕ) where
   not : {A : Type 0} (n : ℕ) → reader (roleIn l) ≡ n → (r : Role) → roleIn l ≡ r → eqb n (reader r) ≡ false → A
   not n k r z d = absurd (eqb-false n (reader r) d (sym k ∙ ap reader z))
 
-  line-is : (f : Family) → getD l 0 0 ≡ lineLetter f → roleIn l ≡ role.Columned f
-  line-is f z = rw z (line-role f)
-
-  tells-is : (f : Family) → getD l 0 0 ≡ layoutLetter f → roleIn l ≡ role.Tells f
-  tells-is f z = rw z (tells-role f)
-
   event-is : getD l 0 0 ≡ code "E" → roleIn l ≡ role.Event
   unfolding kindOf
   event-is z = rw z
@@ -216,20 +211,20 @@ module _ (layouts : Layouts) (l : List ℕ) where
   satellites-is z = rw z
 
   no-columns : (n : ℕ) → reader (roleIn l) ≡ n → eqb n (reader (role.Columned family.B)) ≡ false → (g : Family) → getD l 0 0 ≡ lineLetter g → ReadsColumned g (layoutOf g layouts) l
-  no-columns n k d g z = not n k (role.Columned g) (line-is g z) d
+  no-columns n k d g z = not n k (role.Columned g) (line-role g _ z) d
 
   no-layout : (n : ℕ) → reader (roleIn l) ≡ n → eqb n (reader (role.Tells family.B)) ≡ false → (g : Family) → getD l 0 0 ≡ layoutLetter g → ReadsValue (layoutSaid g) (IsLayoutLine g) (layoutOf g layouts) l
-  no-layout n k d g z = not n k (role.Tells g) (tells-is g z) d
+  no-layout n k d g z = not n k (role.Tells g) (tells-role g _ z) d
 
   idle : Idle l → ReadsLine layouts l
   idle k = record { columned = no-columns 0 k refl; tells = no-layout 0 k refl; event = λ z. not 0 k role.Event (event-is z) refl; satellites = λ z. not 0 k role.Satellites (satellites-is z) refl }
 
   columned-reads : (f : Family) (t : ℕ) → IsTold f (layoutOf f layouts) → IsColumned f (layoutOf f layouts) t l → ReadsLine layouts l
   columned-reads f t i w =
-      let r = line-is f (columned-letter f (layoutOf f layouts) t l w) in
+      let r = line-role f _ (columned-letter f (layoutOf f layouts) t l w) in
       let k = ap reader r in
       record {
-        columned = λ g z. let q = line-is g z in let e : f ≡ g = cc (q, r) in rw (← e) (reads-columned f (layoutOf f layouts) t l i w);
+        columned = λ g z. let q = line-role g _ z in let e : f ≡ g = cc (q, r) in rw (← e) (reads-columned f (layoutOf f layouts) t l i w);
         tells = no-layout 2 k refl;
         event = λ z. not 2 k role.Event (event-is z) refl;
         satellites = λ z. not 2 k role.Satellites (satellites-is z) refl;
@@ -237,11 +232,11 @@ module _ (layouts : Layouts) (l : List ℕ) where
 
   layout-reads : (f : Family) → IsLayoutLine f (layoutOf f layouts) l → ReadsLine layouts l
   layout-reads f w =
-      let r = tells-is f (layout-said f (layoutOf f layouts) l w .0) in
+      let r = tells-role f _ (layout-said f (layoutOf f layouts) l w .0) in
       let k = ap reader r in
       record {
         columned = no-columns 1 k refl;
-        tells = λ g z. let q = tells-is g z in let e : f ≡ g = cc (q, r) in rw (← e) (record { is = w; reads = layout-line-exactly f (layoutOf f layouts) l .1 w });
+        tells = λ g z. let q = tells-role g _ z in let e : f ≡ g = cc (q, r) in rw (← e) (record { is = w; reads = layout-line-exactly f (layoutOf f layouts) l .1 w });
         event = λ z. not 1 k role.Event (event-is z) refl;
         satellites = λ z. not 1 k role.Satellites (satellites-is z) refl;
       }

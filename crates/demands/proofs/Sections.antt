@@ -35,8 +35,9 @@ use Rattle.laws.proofs.Splitting.{Text, cut, lines-of-line}
 use Rattle.laws.proofs.Counted.{judged-more}
 use Rattle.demands.specs.Grammar.{IsText, joinLines, Follows, OrderFrom, IsHLine, IsPointLine, IsLLine, IsGLine, AtMostOne, absent, given, Timed, columned, event, satellites, Untimed, differential, remark, other, Items, Body, undeclared, declared, SealedBy}
 use Rattle.demands.specs.Grammar as grammar
+use Rattle.sound.proofs.Families.{put-own, put-others}
 use Rattle.demands.proofs.EachLine.{e-said, f-said, columned-letter}
-use Rattle.demands.proofs.Leading.{put-own, put-others, Part, recorder, header, telling, body, seals, remarks, countedBy, afterTimed, InBody, head, point, timed, quiet, Leads, a-line, date-line, h-line, layout-line, body-line, g-line, l-line, Sound, judge-leads, leads-judge, stays-sound}
+use Rattle.demands.proofs.Leading.{Part, recorder, header, telling, body, seals, remarks, countedBy, afterTimed, InBody, head, point, timed, quiet, Leads, a-line, date-line, h-line, layout-line, body-line, g-line, l-line, Sound, judge-leads, leads-judge, stays-sound}
 
 -- ---- a run of good lines
 

@@ -34,9 +34,10 @@ use Rattle.demands.specs.Grammar as grammar
 use Rattle.demands.specs.Coming.{orZero, isAmong, only, without, endsWith, pointsOf, isOpen, lettersBefore, those, firstEntries, timedLetters, lastTime}
 use Rattle.demands.specs.FieldTexts.{Letter}
 use Rattle.sound.proofs.Each.{each-join}
+use Rattle.sound.proofs.Families.{every, none-pass, put-by, same-family, is-same}
 use Rattle.demands.proofs.EachLine.{head-reads, head-said, head-there, point-there}
 use Rattle.demands.proofs.LayoutLines.{there, layout-laid, layout-there, layout-said}
-use Rattle.demands.proofs.Leading.{every, put-by, same-family, is-same, letter, tells-letter, isTelling, isSealing, leadsTo, letter-tests, counts-more, Sound, sound-start, some-points, plain-fits, head-fits, order-inv, judge-leads, stays-sound, none-pass}
+use Rattle.demands.proofs.Leading.{letter, tells-letter, isTelling, isSealing, leadsTo, letter-tests, counts-more, Sound, sound-start, some-points, plain-fits, head-fits, order-inv, judge-leads, stays-sound}
 use Rattle.demands.proofs.Sections.{layout-stage}
 
 -- ---- what a line tells of itself

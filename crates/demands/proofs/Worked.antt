@@ -33,8 +33,8 @@ use Rattle.demands.specs.Grammar.{IsText, july, AtMostOne, absent, given
 use Rattle.laws.proofs.Splitting.{lines-are-text}
 use Rattle.demands.proofs.Sections.{text-is}
 use Rattle.sound.proofs.Each.{each-map, each-join, each-cut}
+use Rattle.sound.proofs.Families.{every, none-pass}
 use Rattle.demands.proofs.Laws.{are-valid}
-use Rattle.demands.proofs.Leading.{every, none-pass}
 use Rattle.demands.proofs.EachLine.{columned-letter, head-said, point-said}
 use Rattle.demands.proofs.Reading.{Aside, other-than, untimed-aside, front, back, in-three, front-aside, back-by}
 
