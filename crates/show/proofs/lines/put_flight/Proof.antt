@@ -1,53 +1,30 @@
+-- `show::lines::put_flight` meets its contract. Assumes nothing.
 use borrow.Author.Needs.{needs}
+use Rattle.rules.specs.Choice.{bytes}
+use Rattle.show.specs.Lines.{okNumbers}
+use Rattle.pieces.proofs.Laws.{then}
 use Rattle.show.proofs.lines.put_flight.Statement.{statement}
 use Rattle.show.proofs.lines.put_flight.Tie as tie
-use Rattle.show.proofs.lines.put_flight.Reads as reads
-use Rattle.show.proofs.lines.put_flight.Lts as lts
-use Rattle.pieces.proofs.put_byte.Reads as put-byte-reads
-use Rattle.show.proofs.lines.put_counted.Reads as put-counted-reads
-use Rattle.show.proofs.lines.put_two.Reads as put-two-reads
-
-slice-aggregate-put-counted : tie.Need-slice-aggregate-put-counted
-slice-aggregate-put-counted c = search needs
-
-cast-put-counted : tie.Need-cast-put-counted
-cast-put-counted c = search needs
-
-cast-put-counted-2 : tie.Need-cast-put-counted-2
-cast-put-counted-2 c = search needs
-
-put-counted-requires : tie.Need-put-counted-requires
-put-counted-requires c κs = search needs
-
-put-two-requires : tie.Need-put-two-requires
-put-two-requires c κs = search needs
-
-cast-put-two : tie.Need-cast-put-two
-cast-put-two c = search needs
-
-put-two-requires-2 : tie.Need-put-two-requires-2
-put-two-requires-2 c κs = search needs
-
-put-byte-requires : tie.Need-put-byte-requires
-put-byte-requires c κs = search needs
-
-same-length : tie.Need-same-length
-same-length c = search needs
 
 returns : tie.Need-returns
-returns c = search needs
+unfolding okNumbers bytes
+returns c =
+    let s2 = c .before .before .before .before .before .before in
+    let s1 = s2 .before .before .before .before .before in
+    let t = s1 .before .before .before .before in
+    then (t .put-counted .ensures) (then (s1 .put-two .ensures) (then (s2 .put-two2 .ensures) (c .before .before .put-byte .ensures)))
 
 pub put-flight-spec : {M : Type 1} → statement M
 put-flight-spec =
     tie.close
     (tie.spec
-    slice-aggregate-put-counted
-    cast-put-counted
-    cast-put-counted-2
-    put-counted-requires
-    put-two-requires
-    cast-put-two
-    put-two-requires-2
-    put-byte-requires
-    same-length
+    (λ c. search needs)
+    (λ c. search needs)
+    (λ c. search needs)
+    (λ c κs. search needs)
+    (λ c κs. search needs)
+    (λ c. search needs)
+    (λ c κs. search needs)
+    (λ c κs. search needs)
+    (λ c. search needs)
     returns)
