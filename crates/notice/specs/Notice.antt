@@ -7,6 +7,7 @@ use lib.Dec.{eqb}
 use lib.ListN.{length}
 use Rattle.rules.specs.Choice.{bytes}
 use Rattle.rules.specs.Listing.{decimal, shown, lf}
+use Rattle.rules.specs.declared.Counts.{Counts}
 use Rattle.rules.specs.declared.Date.{Date}
 use Rattle.rules.specs.declared.Flight.{Flight}
 use Rattle.rules.specs.declared.Refusal.{Refusal}
@@ -32,9 +33,13 @@ dateShown d = decimal (d .year) ++ (twoDigits (d .month) ++ twoDigits (d .day))
 unfoldable pub counted : List ℕ → ℕ → List ℕ
 counted word n = word ++ shown n
 
-unfoldable pub countsShown : ℕ → ℕ → ℕ → List ℕ
+unfoldable pub extrasShown : Counts → List ℕ
 unfolding bytes
-countsShown lines fixes extras = counted (bytes ", lines") lines ++ (counted (bytes ", fixes") fixes ++ counted (bytes ", K lines") extras)
+extrasShown ns = counted (bytes ", K lines") (ns .k) ++ counted (bytes ", N lines") (ns .n)
+
+unfoldable pub countsShown : ℕ → Counts → List ℕ
+unfolding bytes
+countsShown lines ns = counted (bytes ", lines") lines ++ (counted (bytes ", fixes") (ns .b) ++ extrasShown ns)
 
 -- a file is signed where it has a G line
 unfoldable pub signedShown : Bool → List ℕ
@@ -43,7 +48,7 @@ signedShown signed = cond signed (bytes ", signed" ++ lf) (bytes ", not signed" 
 
 unfoldable pub acceptedShown : Flight → Bool → List ℕ
 unfolding bytes
-acceptedShown f signed = bytes ": accepted, " ++ (dateShown (f .date) ++ (countsShown (f .lines) (f .counts .b) (f .counts .k) ++ signedShown signed))
+acceptedShown f signed = bytes ": accepted, " ++ (dateShown (f .date) ++ (countsShown (f .lines) (f .counts) ++ signedShown signed))
 
 -- ---- the promises
 
