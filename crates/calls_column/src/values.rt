@@ -21,7 +21,7 @@ fn span(first: usize, last: usize) -> Numbers
 {
     let start = between(1, first);
     let length = between(start as usize, last);
-    accepted(start, length, 0, 0, 0, 0, 0, 0, 0)
+    accepted(&[start, length])
 }
 
 pub(crate) fn column(read: ColumnRead) -> Numbers
@@ -38,7 +38,7 @@ pub(crate) fn signed(read: NumberRead) -> Numbers
     ensures { λ r. ⌜ r ≡ inNumbers signedNumbers (numberReadTold read) ⌝ }
 {
     match read {
-        NumberRead::Is(_) => accepted(0, 0, 0, 0, 0, 0, 0, 0, 0),
+        NumberRead::Is(_) => accepted(&[]),
         NumberRead::Refused(why) => refused(why),
     }
 }
@@ -50,17 +50,7 @@ fn entry_values(e: Entry) -> Numbers
     let code = e.code as u64;
     let first = e.first as u64;
     let last = e.last as u64;
-    accepted(
-        code / 65536,
-        code / 256 % 256,
-        code % 256,
-        first,
-        last,
-        0,
-        0,
-        0,
-        0,
-    )
+    accepted(&[code / 65536, code / 256 % 256, code % 256, first, last])
 }
 
 pub(crate) fn entry(read: ColumnAt) -> Numbers
@@ -77,7 +67,7 @@ pub(crate) fn presence(read: PresenceRead) -> Numbers
     ensures { λ r. ⌜ r ≡ inNumbers presenceNumbers (presenceTold read) ⌝ }
 {
     match read {
-        PresenceRead::Carries(p) => accepted(p.word as u64, p.count as u64, 0, 0, 0, 0, 0, 0, 0),
+        PresenceRead::Carries(p) => accepted(&[p.word as u64, p.count as u64]),
         PresenceRead::Refused(why) => refused(why),
     }
 }
