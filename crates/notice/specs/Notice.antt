@@ -19,7 +19,7 @@ unfoldable pub nameShown : List ℕ → List ℕ
 unfolding bytes
 nameShown name = cond (eqb (length name) 0) (bytes "(no name, or one over 4,096 bytes)") name
 
--- ---- a file that is accepted: its date, its counts of lines, fixes and K lines, and whether a G line is there
+-- ---- a file that is accepted: its date, its counts of lines, fixes, K lines and N lines, and whether a G line is there
 
 -- a dash and a number below 100, with a zero in front where it has one digit
 unfoldable pub twoDigits : ℕ → List ℕ
