@@ -13,7 +13,7 @@ are-allowed-spec =
     (λ c κs. search needs)
     (λ c z. absurd (false-true z))
     (λ c κs. search needs)
-    (λ c z. let y : _≡_ {A = ℕ} 0 1 = cc in absurd (omega arith))
+    (λ c z. absurd (false-true z))
     (λ c κs. search needs)
     (λ c z. record {
       fixes = sym (c .before .before .before .before .allowed .ensures) ∙ not-false _ (c .before .before .before .if1 .left);
