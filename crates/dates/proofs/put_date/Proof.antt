@@ -1,9 +1,9 @@
--- `notice::put_date` meets its contract. Assumes nothing.
+-- `dates::put_date` meets its contract. Assumes nothing.
 use borrow.Author.Needs.{needs}
 use Rattle.pieces.proofs.Laws.{pieces}
-use Rattle.notice.specs.Notice.{dateShown}
-use Rattle.notice.proofs.put_date.Statement.{statement}
-use Rattle.notice.proofs.put_date.Tie as tie
+use Rattle.dates.specs.Dates.{dateShown}
+use Rattle.dates.proofs.put_date.Statement.{statement}
+use Rattle.dates.proofs.put_date.Tie as tie
 
 pub put-date-spec : {M : Type 1} → statement M
 unfolding dateShown

@@ -1,8 +1,8 @@
--- `values::presence` meets its contract. Assumes nothing.
+-- `answers::presence` meets its contract. Assumes nothing.
 use borrow.Author.Needs.{needs}
 use Rattle.rules.specs.Layouts.{presenceTold}
-use Rattle.calls_column.proofs.values.presence.Statement.{statement}
-use Rattle.calls_column.proofs.values.presence.Tie as tie
+use Rattle.answers.proofs.presence.Statement.{statement}
+use Rattle.answers.proofs.presence.Tie as tie
 
 pub presence-spec : {M : Type 1} → statement M
 unfolding presenceTold

@@ -1,9 +1,9 @@
--- `notice::put_dashed` meets its contract. Assumes nothing.
+-- `dates::put_dashed` meets its contract. Assumes nothing.
 use borrow.Author.Needs.{needs}
 use Rattle.pieces.proofs.Laws.{pieces}
-use Rattle.notice.specs.Notice.{twoDigits}
-use Rattle.notice.proofs.put_dashed.Statement.{statement}
-use Rattle.notice.proofs.put_dashed.Tie as tie
+use Rattle.dates.specs.Dates.{twoDigits}
+use Rattle.dates.proofs.put_dashed.Statement.{statement}
+use Rattle.dates.proofs.put_dashed.Tie as tie
 
 pub put-dashed-spec : {M : Type 1} → statement M
 unfolding twoDigits
