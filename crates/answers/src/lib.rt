@@ -1,7 +1,8 @@
 // The lent answer of a call from C: its numbers, of which the first two tell a refusal's line and byte and the others the values.
 ghost use mathlib.Core.Path.{_≡_};
 ghost use lib.ListN.{length};
-ghost use Rattle.answers.specs.Answers.{size, RefusalNumber, RefusalNumbers, ValueNumbers, TimeNumbers, AnswerGiven, BytesBetween};
+ghost use Rattle.answers.specs.Answers.{size, RefusalNumber, RefusalNumbers, ValueNumbers, TimeNumbers, PresenceNumbers, AnswerGiven, BytesBetween};
+use rules::PresenceRead;
 use rules::Refusal;
 use rules::TimeRead;
 
@@ -91,6 +92,16 @@ pub fn time(read: TimeRead) -> Numbers
     match read {
         TimeRead::Secs(t) => accepted(&[t as u64]),
         TimeRead::Refused(why) => refused(why),
+    }
+}
+
+// Which listed codes a layout carries, in numbers: the word, and how many columns.
+pub fn presence(read: PresenceRead) -> Numbers
+    ensures { λ r. ⌜ PresenceNumbers read r ⌝ }
+{
+    match read {
+        PresenceRead::Carries(p) => accepted(&[p.word as u64, p.count as u64]),
+        PresenceRead::Refused(why) => refused(why),
     }
 }
 

@@ -4,9 +4,9 @@ use mathlib.Core.Bool.{_&&_, cond}
 use mathlib.Core.List.{List}
 use mathlib.Core.Path.{_≡_}
 use lib.IntN.{ℤ}
-use Rattle.answers.specs.Answers.{size, inNumbers, timeNumbers, hasRoom, Answered, AnswerGiven}
+use Rattle.answers.specs.Answers.{size, inNumbers, timeNumbers, presenceNumbers, hasRoom, Answered, AnswerGiven}
 use Rattle.given.specs.Given.{extraBy, columnBy, numberBy, entryBy, presenceBy}
-use Rattle.calls_column.specs.Values.{spanNumbers, signedNumbers, entryNumbers, presenceNumbers, integersOf}
+use Rattle.calls_column.specs.Values.{spanNumbers, signedNumbers, entryNumbers, integersOf}
 
 -- the time of a K or an N line
 abbrev pub ExtraAnswered : List ℕ → List ℕ → List ℕ → ℕ → List ℕ → Type 0

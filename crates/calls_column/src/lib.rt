@@ -81,5 +81,5 @@ pub fn entry(layout: &[u8], n: usize, answer: &mut [u64]) -> u32
 pub fn presence(layout: &[u8], answer: &mut [u64]) -> u32
     ensures { λ r. ⌜ PresenceAnswered (now (layout .entry)) (now (answer .entry)) r (now (answer .exit)) ⌝ }
 {
-    answers::give(answer, values::presence(given::presence(layout)))
+    answers::give(answer, answers::presence(given::presence(layout)))
 }
