@@ -1,4 +1,4 @@
-/* The check in the shape that the library's own has, in C: B and K lines that are surely good are taken in a run, with tests for plain bytes, for each field and for columns of
+/* The check in the shape that the library's own has, in C: B, K and N lines that are surely good are taken in a run, with tests for plain bytes, for each field and for columns of
    digits, and every other line goes to the code that check.c has. It shows what the library's shape costs in C; rival.c is the faster one. */
 #include "lines.h"
 
@@ -71,38 +71,41 @@ static inline bool is_sure(const uint8_t *line, size_t left, size_t fixed, const
     return all_within(line + fixed, length - fixed, '0', 9) || check_columns(line, layout).number == 0;
 }
 
-/* The B and K lines from `at` on, as far as they are surely good and the table has room; returns the place behind them. */
+/* The B, K and N lines from `at` on, as far as they are surely good and the table has room; returns the place behind them. */
 static size_t run_ahead(const uint8_t *file, size_t length, size_t at, struct state *state, uint32_t *table, size_t entries)
 {
-    uint32_t before = state->seconds, lines = state->said.lines, notes = 0, begun = lines;
+    uint32_t before = state->seconds, lines = state->said.lines, notes = 0, unsigned_notes = 0, begun = lines;
     while (at < length && lines < entries) {
         const uint8_t *line = file + at;
         uint32_t seconds;
-        bool is_note = line[0] == 'K';
-        if (!is_note && line[0] != 'B')
+        uint8_t kind = line[0];
+        if (kind != 'B' && kind != 'K' && kind != 'N')
             break;
-        if (!(is_note ? is_sure(line, length - at, 7, &state->notes, &seconds) : is_sure(line, length - at, 35, &state->fixes, &seconds)))
+        const struct layout *layout = kind == 'B' ? &state->fixes : kind == 'K' ? &state->notes : &state->unsigned_notes;
+        if (!(kind == 'B' ? is_sure(line, length - at, 35, layout, &seconds) : is_sure(line, length - at, 7, layout, &seconds)))
             break;
         if (seconds < before && before - seconds <= 43200)
             break;
         table[lines++] = at;
-        notes += is_note;
+        notes += kind == 'K';
+        unsigned_notes += kind == 'N';
         before = seconds;
-        at += (is_note ? state->notes.length : state->fixes.length) + 2;
+        at += layout->length + 2;
     }
     if (lines > begun) {
         state->stage = BODY;
         state->seconds = before;
         state->said.lines = lines;
         state->said.k_lines += notes;
-        state->said.b_lines += lines - begun - notes;
+        state->said.n_lines += unsigned_notes;
+        state->said.b_lines += lines - begun - notes - unsigned_notes;
     }
     return at;
 }
 
 struct answer ahead(const uint8_t *file, size_t length, uint32_t *table, size_t entries)
 {
-    struct state state = {.fixes.length = 35, .notes.length = 7};
+    struct state state = {.fixes.length = 35, .notes.length = 7, .unsigned_notes.length = 7};
     struct answer refused;
     if (length == 0)
         return refuse(1, 0, 0);

@@ -3,7 +3,7 @@
 
 struct answer check(const uint8_t *file, size_t length, uint32_t *table, size_t entries)
 {
-    struct state state = {.fixes.length = 35, .notes.length = 7};
+    struct state state = {.fixes.length = 35, .notes.length = 7, .unsigned_notes.length = 7};
     struct answer refused;
     if (length == 0)
         return refuse(1, 0, 0);

@@ -11,6 +11,7 @@ struct answer {
     uint32_t day, month, year;
     uint32_t lines, b_lines, k_lines;
     uint32_t b_length, k_length;
+    uint32_t n_lines, n_length;
 };
 
 /* Checks a file; the table gets the offset of each good line, and its other entries stay. */

@@ -131,13 +131,13 @@ struct layout {
 /* ---- a line */
 
 /* How far a file has come. */
-enum stage { START, RECORDER, HEADERS, FIX_LAYOUT, NOTE_LAYOUT, BODY, SEAL, REMARKS };
+enum stage { START, RECORDER, HEADERS, FIX_LAYOUT, NOTE_LAYOUT, UNSIGNED_LAYOUT, BODY, SEAL, REMARKS };
 
 struct state {
     enum stage stage;
     bool declared;
     uint32_t points_due, seconds;
-    struct layout fixes, notes;
+    struct layout fixes, notes, unsigned_notes;
     struct answer said;
 };
 
@@ -280,6 +280,9 @@ static bool may_follow(const struct state *state, uint8_t kind, enum stage *next
     case 'J':
         *next = NOTE_LAYOUT;
         return stage <= FIX_LAYOUT;
+    case 'M':
+        *next = UNSIGNED_LAYOUT;
+        return stage <= NOTE_LAYOUT;
     case 'G':
         *next = SEAL;
         return stage <= SEAL;
@@ -307,6 +310,7 @@ static struct limits limits_of(const struct state *state, uint8_t kind)
         return state->stage == RECORDER ? (struct limits){11, 11} : (struct limits){5, 255};
     case 'I':
     case 'J':
+    case 'M':
         return (struct limits){3, 99};
     case 'C':
         return (struct limits){state->points_due ? 18 : 25, 255};
@@ -318,6 +322,8 @@ static struct limits limits_of(const struct state *state, uint8_t kind)
         return (struct limits){state->fixes.length, state->fixes.length};
     case 'K':
         return (struct limits){state->notes.length, state->notes.length};
+    case 'N':
+        return (struct limits){state->unsigned_notes.length, state->unsigned_notes.length};
     case 'L':
         return (struct limits){1, 99};
     case 'G':
@@ -344,6 +350,8 @@ static struct fault check_fields(const uint8_t *line, size_t length, struct stat
         return read_layout(line, length, 36, &state->fixes);
     case 'J':
         return read_layout(line, length, 8, &state->notes);
+    case 'M':
+        return read_layout(line, length, 8, &state->unsigned_notes);
     case 'C':
         return state->points_due ? check_point(line, state) : check_head(line, state);
     case 'D':
@@ -356,6 +364,8 @@ static struct fault check_fields(const uint8_t *line, size_t length, struct stat
         return check_fix(line, &state->fixes, seconds);
     case 'K':
         return !is_time(line + 1, seconds) ? bad(TIME, 2) : check_columns(line, &state->notes);
+    case 'N':
+        return !is_time(line + 1, seconds) ? bad(TIME, 2) : check_columns(line, &state->unsigned_notes);
     default:
         return none;
     }
@@ -363,7 +373,7 @@ static struct fault check_fields(const uint8_t *line, size_t length, struct stat
 
 static bool is_timed(uint8_t kind)
 {
-    return kind == 'B' || kind == 'E' || kind == 'F' || kind == 'K';
+    return kind == 'B' || kind == 'E' || kind == 'F' || kind == 'K' || kind == 'N';
 }
 
 /* Checks 4 to 14 of a line. `invalid` is where the line's first character that no line but H may have stands, or the length. */
@@ -398,6 +408,7 @@ static struct fault check_line(const uint8_t *line, size_t length, size_t invali
     state->said.lines++;
     state->said.b_lines += kind == 'B';
     state->said.k_lines += kind == 'K';
+    state->said.n_lines += kind == 'N';
     return none;
 }
 
@@ -433,10 +444,10 @@ static inline bool take_line(const uint8_t *file, size_t length, size_t *at, str
     return true;
 }
 
-/* Whether B and K lines may stand here. No I or J line can follow them, so both layouts are known. */
+/* Whether B, K and N lines may stand here. No I, J or M line can follow them, so all layouts are known. */
 static inline bool may_run(const struct state *state, uint8_t kind)
 {
-    return (kind == 'B' || kind == 'K') && state->points_due == 0 && state->stage >= HEADERS && state->stage <= BODY;
+    return (kind == 'B' || kind == 'K' || kind == 'N') && state->points_due == 0 && state->stage >= HEADERS && state->stage <= BODY;
 }
 
 /* The answer of a file that has no line left. */
@@ -447,6 +458,7 @@ static struct answer ended(const struct state *state)
     struct answer said = state->said;
     said.b_length = state->fixes.length;
     said.k_length = state->notes.length;
+    said.n_length = state->unsigned_notes.length;
     return said;
 }
 

@@ -1,4 +1,4 @@
-/* The same check by the idea 'decide quickly or not at all': B and K lines that are surely good are taken in a run, 16 bytes at a time, and every other line goes to the code
+/* The same check by the idea 'decide quickly or not at all': B, K and N lines that are surely good are taken in a run, 16 bytes at a time, and every other line goes to the code
    that check.c has. A line's length is known from its layout, so what each of its places may hold, CR and LF too, is put down once for a file. */
 #include <emmintrin.h>
 
@@ -8,7 +8,7 @@
 
 enum { BLOCK = 16, MOST_PLACES = 112 };
 
-/* What each place of a B or K line may hold: a byte of a range, or one other byte; behind the line, any byte. */
+/* What each place of a B, K or N line may hold: a byte of a range, or one other byte; behind the line, any byte. */
 struct places {
     size_t size, blocks;
     _Alignas(BLOCK) uint8_t low[MOST_PLACES];
@@ -160,7 +160,7 @@ static uint32_t seconds_of(uint64_t clock)
 
 struct plan {
     bool is_made, has_text;
-    struct places fixes, notes;
+    struct places fixes, notes, unsigned_notes;
 };
 
 static inline bool is_sure(const uint8_t *line, size_t left, const struct places *places, bool has_text, uint64_t before, uint64_t clock)
@@ -169,11 +169,11 @@ static inline bool is_sure(const uint8_t *line, size_t left, const struct places
     return left >= places->blocks * BLOCK && (keeps_places(line, places, has_text) & (clock >= before) & (clock < midnight));
 }
 
-/* The B and K lines from `at` on, as far as they are surely good and the table has room; returns the place behind them. */
+/* The B, K and N lines from `at` on, as far as they are surely good and the table has room; returns the place behind them. */
 static inline size_t run_ahead(const uint8_t *file, size_t length, size_t at, struct state *state, const struct plan *plan, bool has_text, uint32_t *table, size_t entries)
 {
     uint64_t before = clock_at(state->seconds);
-    uint32_t lines = state->said.lines, notes = 0, begun = lines;
+    uint32_t lines = state->said.lines, notes = 0, unsigned_notes = 0, begun = lines;
     while (length - at >= 8 && lines < entries) {
         const uint8_t *line = file + at;
         uint64_t clock = clock_of(line);
@@ -187,6 +187,11 @@ static inline size_t run_ahead(const uint8_t *file, size_t length, size_t at, st
             if (!is_sure(line, length - at, places, has_text, before, clock))
                 break;
             notes++;
+        } else if (line[0] == 'N') {
+            places = &plan->unsigned_notes;
+            if (!is_sure(line, length - at, places, has_text, before, clock))
+                break;
+            unsigned_notes++;
         } else
             break;
         table[lines++] = at;
@@ -198,23 +203,26 @@ static inline size_t run_ahead(const uint8_t *file, size_t length, size_t at, st
         state->seconds = seconds_of(before);
         state->said.lines = lines;
         state->said.k_lines += notes;
-        state->said.b_lines += lines - begun - notes;
+        state->said.n_lines += unsigned_notes;
+        state->said.b_lines += lines - begun - notes - unsigned_notes;
     }
     return at;
 }
 
-/* Both layouts put down by places. */
+/* The layouts put down by places. */
 static void make_plan(struct plan *plan, const struct state *state)
 {
     put_line(&plan->fixes, 'B', &state->fixes);
     put_line(&plan->notes, 'K', &state->notes);
-    plan->has_text = memchr(plan->fixes.text, 0xFF, MOST_PLACES) || memchr(plan->notes.text, 0xFF, MOST_PLACES);
+    put_line(&plan->unsigned_notes, 'N', &state->unsigned_notes);
+    plan->has_text = memchr(plan->fixes.text, 0xFF, MOST_PLACES) || memchr(plan->notes.text, 0xFF, MOST_PLACES) ||
+                     memchr(plan->unsigned_notes.text, 0xFF, MOST_PLACES);
     plan->is_made = true;
 }
 
 struct answer rival(const uint8_t *file, size_t length, uint32_t *table, size_t entries)
 {
-    struct state state = {.fixes.length = 35, .notes.length = 7};
+    struct state state = {.fixes.length = 35, .notes.length = 7, .unsigned_notes.length = 7};
     struct plan plan;
     struct answer refused;
     plan.is_made = false;

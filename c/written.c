@@ -9,9 +9,10 @@
 #define TEXT(s) (const uint8_t *)(s), strlen(s)
 #define NO_LINE NULL, 0
 
-/* HDT from byte 36 to 38 of B lines, and from byte 8 to 10 of K lines. */
+/* HDT from byte 36 to 38 of B lines, from byte 8 to 10 of K lines, and there of N lines. */
 static const char I[] = "I013638HDT";
 static const char J[] = "J010810HDT";
+static const char M[] = "M010810HDT";
 
 static uint64_t answer[HIVE_ANSWER];
 static uint8_t out[260];
@@ -115,13 +116,13 @@ static void heads(void) {
     head_text("a*b");
 }
 
-/* ---- I and J lines */
+/* ---- I, J and M lines */
 
 static void layout(const char *line, size_t place) {
     say(24, hive_write_layout(TEXT(line), place, OUT(24)));
 }
 
-/* Good ones at each place; then the first start, a width, a finish below its start, a gap, a code twice, and a character that is no code's. */
+/* Good ones at each place; then the first start, a width, a finish below its start, a gap, a code twice, and a character that is no code's; then M lines. */
 static void layouts(void) {
     layout(I, 0);
     layout("J010813HDT", 6);
@@ -136,26 +137,39 @@ static void layouts(void) {
     layout("I023638HDT4042ZZZ", 0);
     layout("I023638HDT3941HDT", 0);
     layout("I023638HDT3941ZZz", 0);
+    layout(M, 2);
+    layout(M, 13);
+    layout("M013638HDT", 0);
+    layout("M010809HDT", 0);
 }
 
-/* ---- K lines */
+/* ---- K and N lines */
 
-static void extra(uint32_t seconds, const char *columns, size_t place) {
-    say(16, hive_write_extra(seconds, TEXT(columns), TEXT(J), place, OUT(16)));
+static void extra(char kind, uint32_t seconds, const char *columns, const char *line, size_t place) {
+    say(16, hive_write_extra(kind, seconds, TEXT(columns), TEXT(line), place, OUT(16)));
 }
 
+static void extras_of(char kind, const char *line) {
+    extra(kind, 0, "090", line, 0);
+    extra(kind, 86399, "090", line, 4);
+    extra(kind, 0, "090", line, 5);
+    extra(kind, 0, "090", line, 17);
+    extra(kind, 3600, "", "", 7);
+    extra(kind, 86400, "090", line, 0);
+    extra(kind, 0, "09", line, 0);
+    extra(kind, 0, "0900", line, 0);
+    extra(kind, 0, "0*0", line, 0);
+    extra(kind, 0, "0A0", line, 0);
+    extra(kind, 0, "090", I, 0);
+}
+
+/* The same writes of both; then each by the other's layout line, and a letter that is neither. */
 static void extras(void) {
-    extra(0, "090", 0);
-    extra(86399, "090", 4);
-    extra(0, "090", 5);
-    extra(0, "090", 17);
-    say(16, hive_write_extra(3600, NO_LINE, NO_LINE, 7, OUT(16)));
-    extra(86400, "090", 0);
-    extra(0, "09", 0);
-    extra(0, "0900", 0);
-    extra(0, "0*0", 0);
-    extra(0, "0A0", 0);
-    say(16, hive_write_extra(0, TEXT("090"), TEXT(I), 0, OUT(16)));
+    extras_of('K', J);
+    extras_of('N', M);
+    extra('K', 0, "090", M, 0);
+    extra('N', 0, "090", J, 0);
+    extra('B', 0, "", "", 0);
 }
 
 /* ---- B lines */

@@ -2,6 +2,18 @@
 
 pub const ANSWER: usize = 16;
 
+/// Places in the answer of hive_check.
+pub const DAY: usize = 2;
+pub const MONTH: usize = 3;
+pub const YEAR: usize = 4;
+pub const LINES: usize = 5;
+pub const B_LINES: usize = 6;
+pub const K_LINES: usize = 7;
+pub const B_LENGTH: usize = 8;
+pub const K_LENGTH: usize = 9;
+pub const N_LINES: usize = 10;
+pub const N_LENGTH: usize = 11;
+
 /// What stands in lent memory before a call, so that an entry left unset shows.
 pub const BEFORE: u64 = 0x5A5A_5A5A_5A5A_5A5A;
 
@@ -56,6 +68,7 @@ mod c {
             al: usize,
         ) -> u32;
         pub fn hive_write_extra(
+            kind: u8,
             seconds: u32,
             c: *const u8,
             cl: usize,
@@ -119,12 +132,12 @@ mod c {
     }
 }
 
-/// The answer of the checks in C that the library is measured against (bench/check.h).
+/// The answer of the checks in C that the library is measured against (bench/check.h); its values are those of hive_check, in the same order.
 #[repr(C)]
 struct ByHand {
     number: u32,
     place: [u32; 2],
-    values: [u32; 8],
+    values: [u32; 10],
 }
 
 unsafe extern "C" {
@@ -288,9 +301,11 @@ pub fn write_layout(text: &[u8], place: usize, out: &mut [u8]) -> Told {
     told(|a, al| unsafe { c::hive_write_layout(text.as_ptr(), text.len(), place, out.as_mut_ptr(), out.len(), a, al) })
 }
 
-pub fn write_extra(seconds: u32, columns: &[u8], layout: &[u8], place: usize, out: &mut [u8]) -> Told {
+/// A K or an N line, by its letter.
+pub fn write_extra(kind: u8, seconds: u32, columns: &[u8], layout: &[u8], place: usize, out: &mut [u8]) -> Told {
     told(|a, al| unsafe {
         c::hive_write_extra(
+            kind,
             seconds,
             columns.as_ptr(),
             columns.len(),

@@ -8,6 +8,7 @@ use Rattle.rules.specs.Families.{firstStart}
 use Rattle.rules.specs.Roles.{afterH, inBody}
 use Rattle.rules.specs.Layouts.{allowed, lineLength, entriesOf}
 use Rattle.rules.specs.declared.Family.{Family}
+use Rattle.rules.specs.declared.Extra.the-variants as extra
 use Rattle.rules.specs.declared.Family.the-variants as family
 use Rattle.rules.specs.declared.Layout.{Layout}
 use Rattle.rules.specs.declared.Seal.{Seal}
@@ -28,9 +29,10 @@ pub record MayRun (file : List ℕ) (from : ℕ) (st : State) : Type 0 where
   pub few : Few st
 
 -- a line can tell each of the layouts
-pub record BothAllowed (st : State) : Type 0 where
+pub record AllAllowed (st : State) : Type 0 where
   pub fixes : allowed (firstStart family.B) (st .flight .layouts .b) ≡ true
-  pub extras : allowed (firstStart family.K) (st .flight .layouts .k) ≡ true
+  pub extras : allowed (firstStart (family.Extra extra.K)) (st .flight .layouts .k) ≡ true
+  pub unsigned : allowed (firstStart (family.Extra extra.N)) (st .flight .layouts .n) ≡ true
 
 -- what is known of the lines of a family with this layout
 pub record Gauged (f : Family) (l : Layout) (r : Gauge) : Type 0 where

@@ -6,12 +6,14 @@ ghost use lib.ListN.{length};
 ghost use Rattle.rules.specs.Families.{firstStart};
 ghost use Rattle.rules.specs.Roles.{afterH, inBody};
 ghost use Rattle.rules.specs.Layouts.{allowed};
+ghost use Rattle.rules.specs.declared.Extra.the-variants as extra;
 ghost use Rattle.rules.specs.declared.Family.the-variants as family;
 ghost use Rattle.state.specs.States.{Few};
 ghost use Rattle.pace.specs.Paces.{paced, Known};
-ghost use Rattle.ahead.specs.Runs.{MayRun, BothAllowed, Gauged, Ran};
+ghost use Rattle.ahead.specs.Runs.{MayRun, AllAllowed, Gauged, Ran};
 use clock::Pace;
 use clock::Taken;
+use rules::Extra;
 use rules::Family;
 use rules::Layout;
 use rules::State;
@@ -62,15 +64,17 @@ fn run_lines(
     fixes: &[u8],
     k: usize,
     extras: &[u8],
+    n: usize,
+    unsigned: &[u8],
     st: State,
 ) -> Ahead
     requires { ⌜ (from ≤ length (now file)) × (length (now file) ≤ 16777216) × Few st × (st .points ≡ 0) × (afterH ≤ st .stage) × (st .stage ≤ inBody)
-        × Known family.B st b (now fixes) × Known family.K st k (now extras) ⌝ }
+        × Known family.B st b (now fixes) × Known (family.Extra extra.K) st k (now extras) × Known (family.Extra extra.N) st n (now unsigned) ⌝ }
     ensures { λ r. ⌜ Ran lent (now (file .entry)) (now (table .entry)) from st r (now (table .exit)) ⌝ }
 {
     let mut p = pace_of(from, st);
     while p.at < file.len() {
-        let Taken::Next(next) = pace::take_line(file, p, b, fixes, k, extras) else {
+        let Taken::Next(next) = pace::take_line(file, p, b, fixes, k, extras, n, unsigned) else {
             return ahead_at(p, st);
         };
         if !enter::put_entry(lent, table, p.lines, p.at as u32) {
@@ -103,18 +107,22 @@ fn may_run(file: &[u8], from: usize, st: State) -> bool
     state::has_few(st)
 }
 
-// Whether both layouts are allowed.
+// Whether all layouts are allowed.
 fn are_allowed(st: State) -> bool
-    ensures { λ r. ⌜ (r ≡ true → BothAllowed st) ⌝ }
+    ensures { λ r. ⌜ (r ≡ true → AllAllowed st) ⌝ }
 {
     let flight = st.flight;
     let layouts = flight.layouts;
     let fixes = layouts.b;
     let extras = layouts.k;
+    let unsigned = layouts.n;
     if !layout::allowed(Family::B, fixes) {
         return false;
     }
-    layout::allowed(Family::K, extras)
+    if !layout::allowed(Family::Extra(Extra::K), extras) {
+        return false;
+    }
+    layout::allowed(Family::Extra(Extra::N), unsigned)
 }
 
 // What a run knows of the lines of a family: their length, and the pattern of their columns, in the first `end` bytes.
@@ -142,45 +150,54 @@ fn run_known(
     from: usize,
     fixes: Gauge,
     extras: Gauge,
+    unsigned: Gauge,
     st: State,
 ) -> Ahead
-    requires { ⌜ MayRun (now file) from st × BothAllowed st × Gauged family.B (st .flight .layouts .b) fixes × Gauged family.K (st .flight .layouts .k) extras ⌝ }
+    requires { ⌜ MayRun (now file) from st × AllAllowed st × Gauged family.B (st .flight .layouts .b) fixes
+        × Gauged (family.Extra extra.K) (st .flight .layouts .k) extras × Gauged (family.Extra extra.N) (st .flight .layouts .n) unsigned ⌝ }
     ensures { λ r. ⌜ Ran lent (now (file .entry)) (now (table .entry)) from st r (now (table .exit)) ⌝ }
 {
     let b = fixes.size;
-    let m = fixes.end;
-    let columns = fixes.pattern;
+    let in_fixes = fixes.end;
+    let fix_columns = fixes.pattern;
     let k = extras.size;
-    let n = extras.end;
-    let others = extras.pattern;
+    let in_extras = extras.end;
+    let extra_columns = extras.pattern;
+    let n = unsigned.size;
+    let in_unsigned = unsigned.end;
+    let unsigned_columns = unsigned.pattern;
     run_lines(
         file,
         lent,
         table,
         from,
         b,
-        &columns[..m],
+        &fix_columns[..in_fixes],
         k,
-        &others[..n],
+        &extra_columns[..in_extras],
+        n,
+        &unsigned_columns[..in_unsigned],
         st,
     )
 }
 
 // The lines from a place on where they may come, with what the layouts say of them.
 fn run_body(file: &[u8], lent: bool, table: &mut [u32], from: usize, st: State) -> Ahead
-    requires { ⌜ MayRun (now file) from st × BothAllowed st ⌝ }
+    requires { ⌜ MayRun (now file) from st × AllAllowed st ⌝ }
     ensures { λ r. ⌜ Ran lent (now (file .entry)) (now (table .entry)) from st r (now (table .exit)) ⌝ }
 {
     let flight = st.flight;
     let layouts = flight.layouts;
     let fixes = layouts.b;
     let extras = layouts.k;
+    let unsigned = layouts.n;
     let b = gauge_of(Family::B, fixes);
-    let k = gauge_of(Family::K, extras);
-    run_known(file, lent, table, from, b, k, st)
+    let k = gauge_of(Family::Extra(Extra::K), extras);
+    let n = gauge_of(Family::Extra(Extra::N), unsigned);
+    run_known(file, lent, table, from, b, k, n, st)
 }
 
-// The B, K, E, F and L lines from a place on, as far as they may come, are surely good and the table, if one is lent, has room: the place after them and the state
+// The B, K, N, E, F and L lines from a place on, as far as they may come, are surely good and the table, if one is lent, has room: the place after them and the state
 // there, with their offsets put into it. It may stop before any line; what it passed is passed as the check passes it.
 pub fn run_ahead(file: &[u8], lent: bool, table: &mut [u32], from: usize, st: State) -> Ahead
     ensures { λ r. ⌜ Ran lent (now (file .entry)) (now (table .entry)) from st r (now (table .exit)) ⌝ }

@@ -20,7 +20,7 @@ fn span(first: usize, last: usize) -> Numbers
 {
     let start = between(1, first);
     let length = between(start as usize, last);
-    accepted(start, length, 0, 0, 0, 0, 0, 0, 0)
+    accepted(&[start, length])
 }
 
 pub(crate) fn column(read: ColumnRead) -> Numbers
@@ -37,7 +37,7 @@ pub(crate) fn signed(read: NumberRead) -> Numbers
     ensures { λ r. ⌜ r ≡ inNumbers signedNumbers (numberReadTold read) ⌝ }
 {
     match read {
-        NumberRead::Is(_) => accepted(0, 0, 0, 0, 0, 0, 0, 0, 0),
+        NumberRead::Is(_) => accepted(&[]),
         NumberRead::Refused(why) => refused(why),
     }
 }
@@ -49,17 +49,7 @@ fn entry_values(e: Entry) -> Numbers
     let code = e.code as u64;
     let first = e.first as u64;
     let last = e.last as u64;
-    accepted(
-        code / 65536,
-        code / 256 % 256,
-        code % 256,
-        first,
-        last,
-        0,
-        0,
-        0,
-        0,
-    )
+    accepted(&[code / 65536, code / 256 % 256, code % 256, first, last])
 }
 
 pub(crate) fn entry(read: ColumnAt) -> Numbers

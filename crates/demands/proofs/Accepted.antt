@@ -2,7 +2,7 @@
 use Prim.Native.Nat.{ℕ, _+_, _-_, _≤_}
 use Prim.Native.Char.{code}
 use mathlib.Core.Bool.{true, false}
-use mathlib.Core.List.{List, [], _∷_, _++_, append-nil}
+use mathlib.Core.List.{List, [], _∷_, _++_, append-nil, append-assoc}
 use mathlib.Core.Logic.{inl, _↔_}
 use mathlib.Core.Option.{Option, none}
 use mathlib.Core.Path.{_≡_, refl, sym, _∙_, ap, subst}
@@ -15,11 +15,12 @@ use Rattle.rules.specs.Families.{lineLetter, layoutOf, countOf}
 use Rattle.rules.specs.Refusals.{says}
 use Rattle.rules.specs.Layouts.{emptyLayout, isSaid}
 use Rattle.rules.specs.Roles.{sameFamily, afterA, afterH, afterLayout, inBody, afterG}
-use Rattle.rules.specs.Order.{start, moved, dated}
+use Rattle.rules.specs.Order.{start, moved, dated, noFlight}
 use Rattle.rules.specs.Split.{end, linesOf}
 use Rattle.rules.specs.Files.{endsAfter, finish, hasRoom, run, verdict}
 use Rattle.rules.specs.declared.Date.{Date}
 use Rattle.rules.specs.declared.Layouts.{Layouts}
+use Rattle.rules.specs.declared.Extra.the-variants as extra
 use Rattle.rules.specs.declared.Family.{Family}
 use Rattle.rules.specs.declared.Family.the-variants as family
 use Rattle.rules.specs.declared.Flight.{Flight}
@@ -29,11 +30,12 @@ use Rattle.rules.specs.declared.State.{State}
 use Rattle.rules.proofs.Inverse.{refuses-says, need-inv}
 use Rattle.laws.proofs.Passing.{front-over}
 use Rattle.laws.proofs.Splitting.{none-left}
-use Rattle.demands.specs.Grammar.{IsText, OrderFrom, InOrder, IsALine, IsDateLine, AtMostOne, Parts, linesIn, SealedBy, Keeps, joinLines, Meets, beginning, flightOf}
+use Rattle.demands.specs.Grammar.{IsText, OrderFrom, InOrder, IsALine, IsDateLine, AtMostOne, Parts, toldIn, linesIn, SealedBy, Keeps, joinLines, Meets, beginning, countsIn, flightOf}
 use Rattle.sound.proofs.Entries.{said-some}
-use Rattle.demands.proofs.Leading.{every, told-of, all-layouts, counts-more, Part, Leads, a-line, date-line, h-line, layout-line, body-line, g-line, l-line, Sound, sound-start, judge-leads, leads-judge}
+use Rattle.sound.proofs.Families.{every, all-layouts}
+use Rattle.demands.proofs.Leading.{counts-more, Part, Leads, a-line, date-line, h-line, layout-line, body-line, g-line, l-line, Sound, sound-start, judge-leads, leads-judge}
 use Rattle.demands.proofs.Leading as part
-use Rattle.demands.proofs.Sections.{Passes, done, next, passes-join, all-passed, before, begins, lines-joined, none-fit, ended, comes, passes-run, stops-run, at-end, Fresh, passes-above, Section, split, above-end, section-passes, headers-there, headers-here, layout-there, layout-here, body-same, body-stage, body-there, body-here, seals-there, seals-here, seal-needed, remarks-there, remarks-here}
+use Rattle.demands.proofs.Sections.{Passes, done, next, passes-join, all-passed, before, begins, lines-joined, none-fit, ended, comes, passes-run, stops-run, at-end, Fresh, passes-above, Above, Section, split, above-end, section-passes, headers-there, headers-here, layout-there, layout-here, body-same, body-stage, body-there, body-here, seals-there, seals-here, seal-needed, remarks-there, remarks-here}
 
 -- ---- the counts
 
@@ -90,6 +92,47 @@ front-there {s = s} (next {m = m} {l = l} {ls = ls} e p) h =
 
 -- ---- lines that pass are as the grammar says
 
+-- the layout lines, one family after the other, and then the rest
+in-turn : (is js ms rest : List (List ℕ)) → is ++ (js ++ (ms ++ rest)) ≡ (is ++ (js ++ ms)) ++ rest
+in-turn is js ms rest = simp append-assoc
+
+record AllTold (st : State) (ls : List (List ℕ)) (s : State) : Type 0 where
+  told : Family → List (List ℕ)
+  rest : List (List ℕ)
+  state : State
+  lines : ls ≡ (told family.B ++ (told (family.Extra extra.K) ++ told (family.Extra extra.N))) ++ rest
+  each : (f : Family) → AtMostOne f (layoutOf f (state .flight .layouts)) (told f)
+  date : state .flight .date ≡ st .flight .date
+  fresh : Fresh st → Fresh state
+  low : afterH ≤ state .stage
+  high : state .stage ≤ inBody
+  later : Above inBody state rest s
+
+all-told : {st s : State} {ls : List (List ℕ)} → Above (afterH + 1) st ls s → st .stage ≡ afterH → st .flight .layouts ≡ noFlight .layouts → AllTold st ls s
+all-told {st} a h e =
+    let is = split (part.telling family.B) (omega arith) a in
+    let js = split (part.telling (family.Extra extra.K)) (omega arith) (is .later) in
+    let ms = split (part.telling (family.Extra extra.N)) (omega arith) (js .later) in
+    let I = layout-there family.B (is .section) (ap (λ x. x .b) e) (omega arith) (omega arith) in
+    let J = layout-there (family.Extra extra.K) (js .section) (I .others (family.Extra extra.K) refl ∙ ap (λ x. x .k) e) (I .low) (I .high) in
+    let M = layout-there (family.Extra extra.N) (ms .section) (J .others (family.Extra extra.N) refl ∙ I .others (family.Extra extra.N) refl ∙ ap (λ x. x .n) e) (J .low) (J .high) in
+    let told : Family → List (List ℕ) = every (λ g. List (List ℕ)) (is .front) (js .front) (ms .front) in
+    record {
+      told = told;
+      rest = ms .rest;
+      state = ms .state;
+      lines = is .lines ∙ ap (λ x. is .front ++ x) (js .lines ∙ ap (λ x. js .front ++ x) (ms .lines)) ∙ in-turn (is .front) (js .front) (ms .front) (ms .rest);
+      each = every (λ g. AtMostOne g (layoutOf g (ms .state .flight .layouts)) (told g))
+          (subst (λ x. AtMostOne family.B x (is .front)) (sym (M .others family.B refl ∙ J .others family.B refl)) (I .one))
+          (subst (λ x. AtMostOne (family.Extra extra.K) x (js .front)) (sym (M .others (family.Extra extra.K) refl)) (J .one))
+          (M .one);
+      date = M .date ∙ J .date ∙ I .date;
+      fresh = λ x. M .fresh (J .fresh (I .fresh x));
+      low = M .low;
+      high = omega (arith, M .high);
+      later = ms .later;
+    }
+
 in-order : (c : ℕ) (ts : List ℕ) → OrderFrom c ts → InOrder ts
 in-order c [] h = tt
 in-order c (t ∷ ts) h = h .1
@@ -100,45 +143,38 @@ kept : (needs : Seal) {ls : List (List ℕ)} {s : State} → Passes start ls s �
 kept needs {ls} {s} p zero h =
     let f = front-there p (omega (arith, front-over needs)) in
     let hs = split part.header (omega arith) (passes-above (f .passes) sound-start) in
-    let is = split (part.telling family.B) (omega arith) (hs .later) in
-    let js = split (part.telling family.K) (omega arith) (is .later) in
-    let bs = split part.body (omega arith) (js .later) in
+    let H = headers-there (hs .section) (omega arith) refl in
+    let T = all-told (hs .later) (H .stage) (H .same .1) in
+    let bs = split part.body (omega arith) (T .later) in
     let gs = split part.seals (omega arith) (bs .later) in
     let rs = split part.remarks (omega arith) (gs .later) in
     let z = above-end (rs .later) in
-    let H = headers-there (hs .section) (omega arith) refl in
-    let I = layout-there family.B (is .section) (ap (λ x. x .b) (H .same .1)) (omega (arith, H .stage)) (omega (arith, H .stage)) in
-    let J = layout-there family.K (js .section) (I .others family.K refl ∙ ap (λ x. x .k) (H .same .1)) (I .low) (I .high) in
     let B = body-same (bs .section) in
     let G = seals-there (gs .section) in
     let R = remarks-there (rs .section) in
-    let fresh = J .fresh (I .fresh (H .fresh (refl, refl, refl, refl))) in
-    let stage = body-stage (bs .section) (J .low) (omega (arith, J .high)) in
+    let fresh = T .fresh (H .fresh (refl, refl, refl, refl)) in
+    let stage = body-stage (bs .section) (T .low) (T .high) in
     let done : bs .state .points ≡ 0 = sym (ap (λ x. x .points) (z .1) ∙ R .2 ∙ G .2) ∙ zero in
-    let date : s .flight .date ≡ f .date = ap (λ x. x .flight .date) (z .1) ∙ R .1 .0 ∙ G .1 .0 ∙ B .0 ∙ J .date ∙ I .date ∙ H .same .0 in
-    let laid : s .flight .layouts ≡ js .state .flight .layouts = ap (λ x. x .flight .layouts) (z .1) ∙ R .1 .1 ∙ G .1 .1 ∙ B .1 in
+    let date : s .flight .date ≡ f .date = ap (λ x. x .flight .date) (z .1) ∙ R .1 .0 ∙ G .1 .0 ∙ B .0 ∙ T .date ∙ H .same .0 in
+    let laid : s .flight .layouts ≡ T .state .flight .layouts = ap (λ x. x .flight .layouts) (z .1) ∙ R .1 .1 ∙ G .1 .1 ∙ B .1 in
     let body = body-there (s .flight .layouts) (bs .section) (sym laid) (fresh .0) (fresh .1) (fresh .2) done in
-    let told : Family → List (List ℕ) = every (λ g. List (List ℕ)) (is .front) (js .front) in
+    let parts : Parts = record { recorder = f .recorder; day = f .day; headers = hs .front; told = T .told; body = bs .front; seals = gs .front; remarks = rs .front } in
     let lines = f .lines
     ∙ ap (λ x. f .recorder ∷ f .day ∷ x) (hs .lines
-    ∙ ap (λ x. hs .front ++ x) (is .lines
-    ∙ ap (λ x. is .front ++ x) (js .lines
-    ∙ ap (λ x. js .front ++ x) (bs .lines
+    ∙ ap (λ x. hs .front ++ x) (T .lines
+    ∙ ap (λ x. toldIn parts ++ x) (bs .lines
     ∙ ap (λ x. bs .front ++ x) (gs .lines
-    ∙ ap (λ x. gs .front ++ x) (rs .lines ∙ ap (λ x. rs .front ++ x) (z .0) ∙ append-nil (rs .front))))))) in (
-      record { recorder = f .recorder; day = f .day; headers = hs .front; told = told; body = bs .front; seals = gs .front; remarks = rs .front },
+    ∙ ap (λ x. gs .front ++ x) (rs .lines ∙ ap (λ x. rs .front ++ x) (z .0) ∙ append-nil (rs .front)))))) in (
+      parts,
       lines,
       body .times,
       record {
         recorder = f .is-a;
         day = subst (λ x. IsDateLine x (f .day)) (sym date) (f .is-date);
         headers = H .each;
-        told = (
-          subst (λ x. AtMostOne family.B x (is .front)) (sym (ap (λ x. x .b) laid ∙ J .others family.B refl)) (I .one),
-          subst (λ x. AtMostOne family.K x (js .front)) (sym (ap (λ x. x .k) laid)) (J .one),
-        );
+        told = λ g. subst (λ x. AtMostOne g (layoutOf g x) (T .told g)) (sym laid) (T .each g);
         body = body .lines;
-        order = in-order (js .state .clock) (body .times) (body .order);
+        order = in-order (T .state .clock) (body .times) (body .order);
         seals = G .0;
         sealed = seal-needed needs (stage .1) (gs .section) (rs .section) (rw (z .1) at h);
         remarks = R .0;
@@ -205,18 +241,20 @@ module _ {needs : Seal} {p : Parts} {date : Date} {layouts : Layouts} {times : L
       → afterH ≤ m .stage → m .stage ≤ afterLayout f → On m ks)
       → On st (p .told f ++ ks)
   told-on f st g d e h a b k =
-      let r = layout-here f st (told-of layouts p (w .told) f) e a b (h .0) in
+      let r = layout-here f st (w .told f) e a b (h .0) in
       let s = layout-there f (r .1) e a b in
       behind g (r .1) λ x. k (r .0) x (s .date ∙ d) (r .2) (s .others) (s .fresh h) (s .low) (s .high)
 
-  headers-on : On (opened date) (p .headers ++ (p .told family.B ++ (p .told family.K ++ (p .body ++ (p .seals ++ p .remarks)))))
+  headers-on : On (opened date) (p .headers ++ (toldIn p ++ (p .body ++ (p .seals ++ p .remarks))))
   headers-on =
       let r = headers-here (p .headers) (opened date) (w .headers) (omega arith) refl refl in
       let s = headers-there (r .1) (omega arith) refl in
       behind sound-start (r .1) λ g.
+      subst (On (r .0)) (in-turn (p .told family.B) (p .told (family.Extra extra.K)) (p .told (family.Extra extra.N)) _) (
       told-on family.B (r .0) g (s .same .0) (ap (λ x. x .b) (s .same .1)) (s .fresh (refl, refl, refl, refl)) (omega (arith, s .stage)) (omega (arith, s .stage)) λ m x d own others fresh low high.
-      told-on family.K m x d (others family.K refl ∙ ap (λ x. x .k) (s .same .1)) fresh low high λ n y e mine rest clean from to.
-      body-on n y e (all-layouts _ _ (every (λ f. layoutOf f (n .flight .layouts) ≡ layoutOf f layouts) (rest family.B refl ∙ own) mine)) clean from (omega arith)
+      told-on (family.Extra extra.K) m x d (others (family.Extra extra.K) refl ∙ ap (λ x. x .k) (s .same .1)) fresh low high λ n y e mine rest clean from to.
+      told-on (family.Extra extra.N) n y e (rest (family.Extra extra.N) refl ∙ others (family.Extra extra.N) refl ∙ ap (λ x. x .n) (s .same .1)) clean from to λ o z c last kept new least most.
+      body-on o z c (all-layouts _ _ (every (λ f. layoutOf f (o .flight .layouts) ≡ layoutOf f layouts) (kept family.B refl ∙ rest family.B refl ∙ own) (kept (family.Extra extra.K) refl ∙ mine) last)) new least (omega arith))
 
   passed : On start (linesIn p)
   passed =
@@ -235,12 +273,13 @@ module _ {needs : Seal} {p : Parts} {date : Date} {layouts : Layouts} {times : L
 
 -- the grammar's reading of a file whose lines pass
 flight-is : (ls : List (List ℕ)) (s : State) (date : Date) (layouts : Layouts) → Passes start ls s → s .flight .date ≡ date → s .flight .layouts ≡ layouts
-    → record { date = date; layouts = layouts; lines = length ls; counts = record { b = beginning (code "B") ls; k = beginning (code "K") ls } } ≡ s .flight
+    → record { date = date; layouts = layouts; lines = length ls; counts = countsIn ls } ≡ s .flight
 flight-is ls s date layouts p d f =
     let l : length ls ≡ s .flight .lines = sym (all-passed p) in
     let b : beginning (code "B") ls ≡ s .flight .counts .b = omega (arith, counts-passed p family.B) in
-    let k : beginning (code "K") ls ≡ s .flight .counts .k = omega (arith, counts-passed p family.K) in
-    λ i. record { date = sym d i; layouts = sym f i; lines = l i; counts = record { b = b i; k = k i } }
+    let k : beginning (code "K") ls ≡ s .flight .counts .k = omega (arith, counts-passed p (family.Extra extra.K)) in
+    let n : beginning (code "N") ls ≡ s .flight .counts .n = omega (arith, counts-passed p (family.Extra extra.N)) in
+    λ i. record { date = sym d i; layouts = sym f i; lines = l i; counts = record { b = b i; k = k i; n = n i } }
 
 -- the file is cut into the grammar's lines
 pub lines-cut : {needs : Seal} (file : List ℕ) (m : Meets needs file) → linesOf file ≡ before (linesIn (m .parts)) end

@@ -14,7 +14,7 @@ use mathlib.Core.Option.{Option, none, some}
 use mathlib.Core.Path.{_≡_, refl, sym, _∙_, ap}
 use lib.ListN.{length, getD}
 use Rattle.rules.specs.Choice.{Each}
-use Rattle.rules.specs.Families.{firstStart}
+use Rattle.rules.specs.Families.{firstStart, layoutOf, countOf, withLayout}
 use Rattle.rules.specs.Refusals.{says, refuses}
 use Rattle.rules.specs.Files.{verdict}
 use Rattle.rules.specs.Chars.{isValid, isCode}
@@ -26,7 +26,12 @@ use Rattle.rules.specs.Reads.{fixSaid, extraSaid, dateSaid, eventSaid, satellit
 use Rattle.rules.specs.Writes.{fixText, extraText, headText, pointText, layoutText, isFix, isExtra, isHead, isPoint}
 use Rattle.rules.specs.declared.Date.{Date}
 use Rattle.rules.specs.declared.Layout.{Layout}
+use Rattle.rules.specs.declared.Layouts.{Layouts}
+use Rattle.rules.specs.declared.Counts.{Counts}
+use Rattle.rules.specs.declared.Extra.{Extra}
+use Rattle.rules.specs.declared.Extra.the-variants as extra
 use Rattle.rules.specs.declared.Family.{Family}
+use Rattle.rules.specs.declared.Family.the-variants as family
 use Rattle.rules.specs.declared.Fix.{Fix}
 use Rattle.rules.specs.declared.Head.{Head}
 use Rattle.rules.specs.declared.Point.{Point}
@@ -47,7 +52,7 @@ use Rattle.words.specs.Characters.{IsValid, IsCode}
 use Rattle.words.specs.Codes.{RowSays, Holds}
 use Rattle.words.proofs.Characters.{valid-exactly, code-exactly}
 use Rattle.words.proofs.Codes.{width-exactly, rule-exactly}
-use Rattle.demands.specs.Grammar.{IsDay, IsDateLine, IsELine, IsFLine, IsLayoutLine, IsBLine, IsKLine, IsColumned, IsHeadLine, IsPointLine, linesIn, Fits, Meets, flightOf}
+use Rattle.demands.specs.Grammar.{IsDay, IsDateLine, IsELine, IsFLine, IsLayoutLine, IsBLine, IsExtraLine, IsColumned, IsHeadLine, IsPointLine, linesIn, Fits, Meets, flightOf}
 use Rattle.demands.specs.Faults.{PassAfter, Refused}
 use Rattle.demands.specs.FieldTexts.{FieldsTold}
 use Rattle.demands.specs.Coming.{Meant}
@@ -99,7 +104,7 @@ table-adds = counted.table-adds
 pub fields-told : FieldsTold
 fields-told = fields-there.fields-told
 
--- of lines that pass: a declaration that is still open, the entries of the I and the J line, the time before
+-- of lines that pass: a declaration that is still open, the entries of the I, the J and the M line, the time before
 pub lines-meant : (ls : List (List ℕ)) → PassAfter [] ls → Meant ls
 lines-meant = meant
 
@@ -129,6 +134,20 @@ said-once = acceptance.one-reading
 pub cut-once : (seal : Seal) (file : List ℕ) (m n : Meets seal file) → linesIn (m .parts) ≡ linesIn (n .parts)
 cut-once seal file m n = sym (reading.lines-are file m) ∙ reading.lines-are file n
 
+-- in the answer the I layout and the count of B lines stand under b, the J layout and the count of K lines under k, the M layout and the count of N lines under n
+pub answers-exactly : (layouts : Layouts) (counts : Counts)
+    → ((layoutOf family.B layouts ≡ layouts .b) × (countOf family.B counts ≡ counts .b))
+    × ((layoutOf (family.Extra extra.K) layouts ≡ layouts .k) × (countOf (family.Extra extra.K) counts ≡ counts .k))
+    × ((layoutOf (family.Extra extra.N) layouts ≡ layouts .n) × (countOf (family.Extra extra.N) counts ≡ counts .n))
+answers-exactly layouts counts = ((refl, refl), (refl, refl), (refl, refl))
+
+-- a layout put in its family's place is that family's, and the others' stay
+pub put-exactly : (l : Layout) (ls : Layouts)
+    → (withLayout family.B l ls ≡ record { b = l; k = ls .k; n = ls .n })
+    × (withLayout (family.Extra extra.K) l ls ≡ record { b = ls .b; k = l; n = ls .n })
+    × (withLayout (family.Extra extra.N) l ls ≡ record { b = ls .b; k = ls .k; n = l })
+put-exactly l ls = (refl, refl, refl)
+
 -- document 01's file of five lines meets it, put together by hand
 pub five-meet : Meets seal.Strict fiveLines
 five-meet = worked.five-meet
@@ -138,27 +157,27 @@ pub no-b-after-g : {seal : Seal} {file : List ℕ} (m : Meets seal file) (before
     → getD g 0 0 ≡ code "G" → Each (λ l. getD l 0 0 ≡ code "B" → ⊥) after
 no-b-after-g = worked.no-b-after-g
 
--- ---- what can be read from an accepted file, with the table that it was checked with: its lines by number and step by step; the date from line 2, the layouts from the I and the J
--- line, and of them the lengths, columns and listed codes; each B and K line column by column, each E and F line; and the declaration with its texts
+-- ---- what can be read from an accepted file, with the table that it was checked with: its lines by number and step by step; the date from line 2, the layouts from the I, the J and
+-- the M line, and of them the lengths, columns and listed codes; each B, K and N line column by column, each E and F line; and the declaration with its texts
 
 pub readable : (seal : Seal) (file table : List ℕ) (f : Flight) → verdict seal file (some (length table)) ≡ says f → Readable seal file table f
 readable = reading.readable
 
 -- ---- a reader says a value of a line exactly when the line is, by the grammar, a line of that value
 
--- B lines and K lines, by a layout that is allowed
+-- B lines, K lines and N lines, by a layout that is allowed
 module _ (i : Slotted) (l : List ℕ) where
   pub fixes-exactly : allowed 36 (i .layout) ≡ true → (f : Fix) → (fixSaid l (i .layout) ≡ says f) ↔ IsBLine (i .layout) f l
   fixes-exactly g f = (fix-read (i .layout) (record { right = g; full = i .slots }) f l, fix-reads (i .layout) (record { right = g; full = i .slots }) f l)
 
-  pub extras-exactly : allowed 8 (i .layout) ≡ true → (t : ℕ) → (extraSaid l (i .layout) ≡ says t) ↔ IsKLine (i .layout) t l
-  extras-exactly g t = (extra-read (i .layout) (record { right = g; full = i .slots }) t l, extra-reads (i .layout) (record { right = g; full = i .slots }) t l)
+  pub extras-exactly : (x : Extra) → allowed 8 (i .layout) ≡ true → (t : ℕ) → (extraSaid x l (i .layout) ≡ says t) ↔ IsExtraLine x (i .layout) t l
+  extras-exactly x g t = (extra-read x (i .layout) (record { right = g; full = i .slots }) t l, extra-reads x (i .layout) (record { right = g; full = i .slots }) t l)
 
 -- and the columns of such a line: the text and the number of each code that the layout carries, 19 for every other code
 pub columns-exactly : (family : Family) (i : Slotted) → allowed (firstStart family) (i .layout) ≡ true → (t : ℕ) (l : List ℕ) → IsColumned family (i .layout) t l → ReadsColumns family (i .layout) l
 columns-exactly family i g t l w = reading.line-columns family (i .layout) t l (record { right = g; full = i .slots }) w
 
--- I lines and J lines
+-- I lines, J lines and M lines
 pub layouts-exactly : (family : Family) (layout : Layout) (l : List ℕ) → (layoutSaid family l ≡ says layout) ↔ IsLayoutLine family layout l
 layouts-exactly = layout-line-exactly
 
@@ -201,9 +220,9 @@ pub fixes-both-ways : (layout : Layout)
     → BothWays (ReadsAs (λ l. fixSaid l layout) 35) (λ v. fixText (v .0) (v .1)) (λ v. isFix (v .0) (v .1) layout) (λ v. goodFix (v .0) (v .1) layout)
 fixes-both-ways layout = trip-ways (λ f tail. isFix f tail layout) (fix-trip layout) (λ f tail. fix-good f tail layout)
 
-pub extras-both-ways : (layout : Layout)
-    → BothWays (ReadsAs (λ l. extraSaid l layout) 7) (λ v. extraText (v .0) (v .1)) (λ v. isExtra (v .0) (v .1) layout) (λ v. goodExtra (v .0) (v .1) layout)
-extras-both-ways layout = trip-ways (λ t tail. isExtra t tail layout) (extra-trip layout) (λ t tail. extra-good t tail layout)
+pub extras-both-ways : (x : Extra) (layout : Layout)
+    → BothWays (ReadsAs (λ l. extraSaid x l layout) 7) (λ v. extraText x (v .0) (v .1)) (λ v. isExtra x (v .0) (v .1) layout) (λ v. goodExtra (v .0) (v .1) layout)
+extras-both-ways x layout = trip-ways (λ t tail. isExtra x t tail layout) (extra-trip x layout) (λ t tail. extra-good x t tail layout)
 
 pub heads-both-ways : BothWays (ReadsAs headSaid 25) (λ v. headText (v .0) (v .1)) (λ v. isHead (v .0) (v .1)) (λ v. goodHead (v .0) (v .1))
 heads-both-ways = trip-ways isHead head-trip head-good
@@ -211,7 +230,7 @@ heads-both-ways = trip-ways isHead head-trip head-good
 pub points-both-ways : BothWays (ReadsAs pointSaid 18) (λ v. pointText (v .0) (v .1)) (λ v. isPoint (v .0) (v .1)) (λ v. goodPoint (v .0) (v .1))
 points-both-ways = trip-ways isPoint point-trip point-good
 
--- I lines and J lines: of a layout nothing stands behind
+-- I lines, J lines and M lines: of a layout nothing stands behind
 pub layouts-both-ways : (family : Family)
     → BothWays (λ l (v : Slotted). layoutSaid family l ≡ says (v .layout)) (λ v. layoutText family (v .layout)) (λ v. allowed (firstStart family) (v .layout)) (λ v. allowed (firstStart family) (v .layout))
 layouts-both-ways family = both-ways _ _ _ _ (λ l v. layout-exactly family (v .layout) l (v .slots)) (λ v. refl)

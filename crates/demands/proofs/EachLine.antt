@@ -1,4 +1,4 @@
--- A line of each kind both ways: it passes its checks exactly when it is what the grammar calls a line of that kind, with the values that it says; B, K and C lines from the
+-- A line of each kind both ways: it passes its checks exactly when it is what the grammar calls a line of that kind, with the values that it says; B, K, N and C lines from the
 -- laws of each line both ways. Assumes nothing.
 use Prim.Native.Nat.{ℕ, _+_, _-_, _%_, _≤_, _<_}
 use Prim.Native.Char.{code}
@@ -26,6 +26,7 @@ use Rattle.rules.specs.Reads.{fieldsSaid, fixSaid, extraSaid, headSaid, pointSa
 use Rattle.rules.specs.Fixes.{fixOf, fieldsOf}
 use Rattle.rules.specs.Writes.{fieldsText, fixText, extraText}
 use Rattle.rules.specs.declared.Layout.{Layout}
+use Rattle.rules.specs.declared.Extra.{Extra}
 use Rattle.rules.specs.declared.Family.{Family}
 use Rattle.rules.specs.declared.Family.the-variants as family
 use Rattle.rules.specs.declared.FixFields.{FixFields}
@@ -49,7 +50,7 @@ use Rattle.trips.proofs.Points as points
 use Rattle.words.specs.Characters.{IsValid, IsCode}
 use Rattle.words.proofs.Characters.{valid-exactly, code-exactly, codes-exactly}
 use Rattle.words.proofs.Values.{either-exactly, time-exactly, latitude-exactly, longitude-exactly, fix-exactly}
-use Rattle.demands.specs.Grammar.{Shaped, IsALine, IsDateLine, IsHLine, IsDLine, IsELine, IsFLine, IsLLine, IsGLine, IsOtherLine, Columns, IsBLine, IsKLine, IsColumned, IsHeadLine, IsPointLine}
+use Rattle.demands.specs.Grammar.{Shaped, IsALine, IsDateLine, IsHLine, IsDLine, IsELine, IsFLine, IsLLine, IsGLine, IsOtherLine, Columns, IsBLine, IsExtraLine, IsColumned, IsHeadLine, IsPointLine}
 use Rattle.sound.proofs.Each.{each-map, each-cut}
 use Rattle.demands.proofs.Laws.{day-exactly, planned-exactly, are-valid, shape-there, shape-said, valid-are}
 use Rattle.demands.proofs.LayoutLines.{IsTold}
@@ -247,17 +248,17 @@ g-there l u k e = record { letter = k; shape = shape-there 2 255 false l u e }
 pub g-said : (l : List ℕ) → IsGLine l → gLine l ≡ says tt
 g-said l w = shape-said 2 255 false l (w .shape)
 
-pub other-there : (l : List ℕ) (u : Unit {0}) → code "M" ≤ getD l 0 0 → getD l 0 0 ≤ code "Z" → otherLine l ≡ says u → IsOtherLine l
+pub other-there : (l : List ℕ) (u : Unit {0}) → code "O" ≤ getD l 0 0 → getD l 0 0 ≤ code "Z" → otherLine l ≡ says u → IsOtherLine l
 other-there l u p q e = record { from = p; to = q; shape = shape-there 1 255 false l u e }
 
 pub other-said : (l : List ℕ) → IsOtherLine l → otherLine l ≡ says tt
 other-said l w = shape-said 1 255 false l (w .shape)
 
--- ---- B, K and C lines: the limits, by a layout that a line can tell
+-- ---- B, K, N and C lines: the limits, by a layout that a line can tell
 
 pub start-low : (f : Family) → 1 ≤ firstStart f
 start-low family.B = omega arith
-start-low family.K = omega arith
+start-low (family.Extra x) = omega arith
 
 -- fields that are good, and columns
 limits : (f : Family) (layout : Layout) → IsTold f layout → (fields : Bool) (tail : List ℕ)
@@ -275,10 +276,11 @@ unfolding goodFix
 fix-reads layout t f l w =
     ap (λ x. fixSaid x layout) (w .text) ∙ fix-trip layout .here f (w .tail) (limits family.B layout t (goodFixFields (fieldsOf f)) (w .tail) .1 (fix-exactly (fieldsOf f) .1 (w .fields), w .columns))
 
-pub extra-reads : (layout : Layout) → IsTold family.K layout → (t : ℕ) (l : List ℕ) → IsKLine layout t l → extraSaid l layout ≡ says t
+pub extra-reads : (x : Extra) (layout : Layout) → IsTold (family.Extra x) layout → (t : ℕ) (l : List ℕ) → IsExtraLine x layout t l → extraSaid x l layout ≡ says t
 unfolding goodExtra
-extra-reads layout i t l w =
-    ap (λ x. extraSaid x layout) (w .text) ∙ extra-trip layout .here t (w .tail) (limits family.K layout i (isTime t) (w .tail) .1 (time-exactly t .1 (w .time), w .columns))
+extra-reads x layout i t l w =
+    ap (λ y. extraSaid x y layout) (w .text)
+    ∙ extra-trip x layout .here t (w .tail) (limits (family.Extra x) layout i (isTime t) (w .tail) .1 (time-exactly t .1 (w .time), w .columns))
 
 pub fix-read : (layout : Layout) → IsTold family.B layout → (f : Fix) (l : List ℕ) → fixSaid l layout ≡ says f → IsBLine layout f l
 unfolding goodFix
@@ -286,11 +288,11 @@ fix-read layout t f l e =
     let g = limits family.B layout t (goodFixFields (fieldsOf f)) (drop 35 l) .0 (line-limits (fix-trip layout) l f e) in
     record { tail = drop 35 l; text = fix-trip layout .there l f e; fields = fix-exactly (fieldsOf f) .0 (g .0); columns = g .1 }
 
-pub extra-read : (layout : Layout) → IsTold family.K layout → (t : ℕ) (l : List ℕ) → extraSaid l layout ≡ says t → IsKLine layout t l
+pub extra-read : (x : Extra) (layout : Layout) → IsTold (family.Extra x) layout → (t : ℕ) (l : List ℕ) → extraSaid x l layout ≡ says t → IsExtraLine x layout t l
 unfolding goodExtra
-extra-read layout i t l e =
-    let g = limits family.K layout i (isTime t) (drop 7 l) .0 (line-limits (extra-trip layout) l t e) in
-    record { tail = drop 7 l; text = extra-trip layout .there l t e; time = time-exactly t .0 (g .0); columns = g .1 }
+extra-read x layout i t l e =
+    let g = limits (family.Extra x) layout i (isTime t) (drop 7 l) .0 (line-limits (extra-trip x layout) l t e) in
+    record { tail = drop 7 l; text = extra-trip x layout .there l t e; time = time-exactly t .0 (g .0); columns = g .1 }
 
 -- what stands behind the fields of a line that is shaped is not too long, and clean
 behind-shape : (l : List ℕ) (fields most : ℕ) (rest : List ℕ) → drop fields l ≡ rest → Shaped fields most false l → (fields + length rest ≤ most) × (isClean rest ≡ true)
@@ -357,7 +359,7 @@ point-read p l e =
 pub columned-letter : (f : Family) (layout : Layout) (t : ℕ) (l : List ℕ) → IsColumned f layout t l → getD l 0 0 ≡ lineLetter f
 unfolding fieldsText fixText extraText
 columned-letter family.B layout t l w = ap (λ x. getD x 0 0) (w .2 .text)
-columned-letter family.K layout t l w = ap (λ x. getD x 0 0) (w .text)
+columned-letter (family.Extra x) layout t l w = ap (λ x. getD x 0 0) (w .text)
 
 pub columned-there : (f : Family) (layout : Layout) (t : ℕ) (l : List ℕ) → IsTold f layout → getD l 0 0 ≡ lineLetter f → columnedLine f layout l ≡ says t → IsColumned f layout t l
 unfolding fixSaid extraSaid columnedLine
@@ -365,13 +367,13 @@ columned-there family.B layout t l i k e =
     let r = timed-line family.B layout l t e in
     let said = said-by family.B l layout (r .0) k (i .right) (r .1) in
     (fixOf (r .0), ap (λ (x : FixFields). x .time) (fields-of-fix (r .0)) ∙ r .2, fix-read layout i (fixOf (r .0)) l (value-said family.B l layout (r .0) said))
-columned-there family.K layout t l i k e = extra-read layout i t l (said-by family.K l layout t k (i .right) e)
+columned-there (family.Extra x) layout t l i k e = extra-read x layout i t l (said-by (family.Extra x) l layout t k (i .right) e)
 
 -- what it spells before its columns
 pub columned-fields : (f : Family) (layout : Layout) (t : ℕ) (l : List ℕ) → IsTold f layout → IsColumned f layout t l → (v : FieldsIn f) × (fieldsSaid f l layout ≡ says v) × (timeIn f v ≡ t)
 unfolding extraSaid
 columned-fields family.B layout t l i w = (fieldsOf (w .0), fix-fields l layout (w .0) (fix-reads layout i (w .0) l (w .2)), w .1)
-columned-fields family.K layout t l i w = (t, extra-reads layout i t l w, refl)
+columned-fields (family.Extra x) layout t l i w = (t, extra-reads x layout i t l w, refl)
 
 pub columned-said : (f : Family) (layout : Layout) (t : ℕ) (l : List ℕ) → IsTold f layout → IsColumned f layout t l → columnedLine f layout l ≡ says t
 columned-said f layout t l i w =

@@ -14,6 +14,7 @@ use lib.ListN.{length, length-append}
 use Rattle.rules.specs.Roles.{isDeclaring, atStart, afterA, afterH, afterLayout, inBody, afterG, afterLastG, leading, bodyAfter, stageAfter, isRole}
 use Rattle.rules.specs.Choice.{need, bytes, given, on, firstOf}
 use Rattle.rules.specs.Order.{fitsDeclaration, orderOf, moved, laidOut, counted, onward, nextDay, back, isBack, passing, timed, declarationLine, headerLine, ruled, judge}
+use Rattle.rules.specs.declared.Extra.{Extra}
 use Rattle.rules.specs.declared.Family.{Family}
 use Rattle.rules.specs.declared.Family.the-variants as family
 use Rattle.rules.specs.declared.Role.{Role}
@@ -26,7 +27,7 @@ use Rattle.rules.specs.Numbers.{numberAt}
 use Rattle.rules.specs.Fields.{timeAt}
 use Rattle.rules.specs.Listed.{codeAt, widthFits, keepsRule}
 use Rattle.rules.specs.Layouts.{withEntry, lineLength, spanOf, look, carries, placed, entryAt, entriesFrom, layoutFields, columnText, badColumn, columns}
-use Rattle.rules.specs.Lines.{isSized, shaped, aLine, dateLine, hLine, layoutLine, headFields, headLine, pointLine, dLine, eLine, badPair, fLine, fixFields, shapedBy, bLine, kLine, columnedLine}
+use Rattle.rules.specs.Lines.{isSized, shaped, aLine, dateLine, hLine, layoutLine, headFields, headLine, pointLine, dLine, eLine, badPair, fLine, fixFields, shapedBy, bLine, extraLine, columnedLine}
 use Rattle.rules.specs.declared.Entry.{Entry}
 use Rattle.rules.proofs.Inverse.{false-true, bool-eq}
 use Rattle.laws.proofs.Passing.{roleIn}
@@ -34,9 +35,10 @@ use Rattle.laws.proofs.Walking.{columned-time, event-time, satellites-time}
 use Rattle.demands.specs.Coming.{isAmong, only, without, isOpen, isBody, lettersBefore, mayCome, orZero, entryOf, entriesTold, endsAt, sizeOf, lastTime, isInTime}
 use Rattle.demands.specs.Checks.{isThere, Check, check, AllPass, FailsFirst, oneEach, shapeChecks, columnChecks, timeCheck, pairChecks, hasCode, entryChecks, layoutChecks, dateChecks, headerChecks, headChecks, pointChecks, thenTime, roleChecks, checksOf, lineChecks, eventChecks, satelliteChecks}
 use Rattle.demands.specs.Grammar.{laid}
-use Rattle.demands.proofs.Leading.{letter-tests, none-pass}
+use Rattle.demands.proofs.Leading.{letter-tests}
 use Rattle.demands.proofs.Standing.{only-without, none-open, declaration-told, laid-out, Stands}
 use Rattle.sound.proofs.Each.{each-join}
+use Rattle.sound.proofs.Families.{none-pass}
 use Rattle.sound.proofs.Placed.{with-laid, entries-laid}
 use Rattle.sound.proofs.Columns.{end-of, line-end}
 use Rattle.demands.proofs.Laws.{shape-there}
@@ -84,7 +86,7 @@ module _ (ls : List (List ℕ)) (st : State) (w : Stands ls st) where
       go true = refl
       go false = refl
 
-  -- among A, H, I and J lines there is no declaration
+  -- among A, H, I, J and M lines there is no declaration
   closed : (xs : List ℕ) → isAmong xs (code "C") ≡ false → only xs ls ≡ true → isOpen ls ≡ false
   closed xs n e = none-open ls (only-without xs (code "C") ls n e)
 
@@ -283,7 +285,7 @@ ends-same (e ∷ es) start = let n : e .last + 1 - 1 ≡ e .last = omega arith i
 -- the length that a layout gives is where its last column ends
 pub length-laid : (f : Family) (es : List Entry) → lineLength (firstStart f) (laid es) ≡ sizeOf f es
 length-laid family.B es = line-end 36 es ∙ ends-same es 36
-length-laid family.K es = line-end 8 es ∙ ends-same es 8
+length-laid (family.Extra x) es = line-end 8 es ∙ ends-same es 8
 
 pairs-agree : {A : Type 0} (v : A) (l : List ℕ) (at : ℕ) → Agrees (given (badPair at l) (says v) λ i. refuses 9 0 (i + 1)) (pairChecks at l)
 unfolding badPair pairChecks
@@ -303,14 +305,14 @@ pub fix-agrees : (es : List Entry) (l : List ℕ) → Agrees (bLine (laid es) l)
 unfolding bLine fixFields shapedBy on number
 fix-agrees es l = rw (length-laid family.B es) (search agreeing depth 20)
 
-pub extra-agrees : (es : List Entry) (l : List ℕ) → Agrees (kLine (laid es) l) (lineChecks family.K es l)
-unfolding kLine shapedBy number
-extra-agrees es l = rw (length-laid family.K es) (search agreeing depth 20)
+pub extra-agrees : (x : Extra) (es : List Entry) (l : List ℕ) → Agrees (extraLine (laid es) l) (lineChecks (family.Extra x) es l)
+unfolding extraLine shapedBy number
+extra-agrees x es l = rw (length-laid (family.Extra x) es) (search agreeing depth 20)
 
 pub line-agrees : (f : Family) (es : List Entry) (l : List ℕ) → Agrees (columnedLine f (laid es) l) (lineChecks f es l)
 unfolding columnedLine
 line-agrees family.B es l = agree-last (bLine (laid es) l) (λ f. f .time) (lineChecks family.B es l) (fix-agrees es l)
-line-agrees family.K es l = extra-agrees es l
+line-agrees (family.Extra x) es l = extra-agrees x es l
 
 -- ---- line 2, C lines, E lines and F lines
 
@@ -335,7 +337,7 @@ module _ (l : List ℕ) where
   unfolding fLine number
   satellites-agree = search agreeing depth 20
 
--- ---- I and J lines
+-- ---- I, J and M lines
 
 -- a code is found among entries exactly where one of them has it
 pub found-has : (x : ℕ) (es : List Entry) (n : ℕ) → isThere (firstOf (λ (e : Entry). eqb (e .code) x) (λ (k : ℕ) (e : Entry). spanOf e) es n) ≡ hasCode es x

@@ -1,4 +1,4 @@
--- I and J lines both ways: the entries that a line is read as are those that it has, and they tile in the grammar's words; such a line reads as a layout exactly when it is
+-- I, J and M lines both ways: the entries that a line is read as are those that it has, and they tile in the grammar's words; such a line reads as a layout exactly when it is
 -- the text of entries that tile, and the layout is theirs; and so exactly when the layout is allowed and has 13 slots. Assumes nothing.
 use Prim.Native.Nat.{ℕ, zero, suc, _+_, _-_, _*_, _/_, _%_, _≤_}
 use mathlib.Core.Bool.{true, false, _&&_}
@@ -24,6 +24,7 @@ use Rattle.rules.specs.declared.Layout.{Layout}
 use Rattle.rules.specs.declared.Family.{Family}
 use Rattle.rules.specs.Lines.{shaped, layoutLine}
 use Rattle.rules.specs.Reads.{layoutSaid}
+use Rattle.rules.specs.declared.Extra.the-variants as extra
 use Rattle.rules.specs.declared.Family.the-variants as family
 use Rattle.rules.proofs.Inverse.{refuses-says, given-inv, need-inv, then-inv, and-inv}
 use Rattle.trips.proofs.Laws.{past, byte-there}
@@ -123,7 +124,8 @@ told-tiles start layout t =
 letter-is : (f : Family) → (1 ≤ layoutLetter f) × (isValid false (layoutLetter f) ≡ true)
 unfolding isValid
 letter-is family.B = (omega arith, refl)
-letter-is family.K = (omega arith, refl)
+letter-is (family.Extra extra.K) = (omega arith, refl)
+letter-is (family.Extra extra.N) = (omega arith, refl)
 
 -- ---- a line that reads as a layout
 
@@ -259,7 +261,7 @@ module _ (f : Family) (layout : Layout) where
       ∙ ap (λ x. layoutLetter f ∷ (digitsOf 2 (length (w .entries)) ++ entryTexts x)) (sym (entries-laid (w .entries)))
       ∙ ap (λ x. layoutLetter f ∷ (digitsOf 2 (x .count) ++ entryTexts (entriesOf x))) (sym (w .slots))
 
-  -- a line reads as the layout exactly when it is an I or a J line of it
+  -- a line reads as the layout exactly when it is an I, a J or an M line of it
   pub layout-line-exactly : (l : List ℕ) → (layoutSaid f l ≡ says layout) ↔ IsLayoutLine f layout l
   layout-line-exactly l = (reads-line l, line-reads l)
 

@@ -5,14 +5,14 @@ use Prim.Native.Char.{code}
 use mathlib.Core.Bool.{Bool, true, false, _&&_, cond, not}
 use mathlib.Core.List.{List, [], _∷_}
 use mathlib.Core.Logic.{inl, inr}
-use mathlib.Core.Path.{_≡_, refl, sym, _∙_}
+use mathlib.Core.Path.{_≡_, refl, sym}
 use mathlib.Core.Option.{Option, none, some}
 use native.Mathlib.Omega.{arith}
 use borrow.Author.Tests.{le-leb, lt-leb, leb-true, leb-false, eqb-true, eqb-false, ne-eqb, ltb-true, ltb-false, le-ltb, lt-ltb}
 use lib.Dec.{leb, eqb, ltb}
 use lib.ListN.{length, getD}
 use Rattle.rules.specs.Choice.{bytes}
-use Rattle.rules.specs.Families.{lineLetter, layoutLetter, layoutOf, withLayout, countOf, oneMore}
+use Rattle.rules.specs.Families.{lineLetter, layoutLetter, layoutOf, countOf, oneMore}
 use Rattle.rules.specs.Files.{hasRoom}
 use Rattle.rules.specs.Refusals.{says}
 use Rattle.rules.specs.Lines.{kindOf}
@@ -21,6 +21,7 @@ use Rattle.rules.specs.Order.{judge, start, fitsDeclaration, orderOf, withFligh
 use Rattle.rules.specs.declared.Layout.{Layout}
 use Rattle.rules.specs.declared.Layouts.{Layouts}
 use Rattle.rules.specs.declared.Family.{Family}
+use Rattle.rules.specs.declared.Extra.the-variants as extra
 use Rattle.rules.specs.declared.Family.the-variants as family
 use Rattle.rules.specs.declared.Kind.{Kind}
 use Rattle.rules.specs.declared.Kind.the-variants as kind
@@ -36,26 +37,15 @@ use Rattle.laws.proofs.Counted.{judged-more}
 use Rattle.laws.proofs.Passing as passes
 use Rattle.demands.specs.Coming.{isAmong, lettersBefore, timedLetters}
 use Rattle.demands.specs.FieldTexts.{Letter}
-use Rattle.demands.specs.Grammar.{Follows, IsALine, IsDateLine, IsHLine, IsLayoutLine, IsHeadLine, IsPointLine, IsLLine, IsGLine, Timed, columned, event, satellites, Untimed, differential, remark, other, AtMostOne, Parts, Fits}
+use Rattle.demands.specs.Grammar.{Follows, IsALine, IsDateLine, IsHLine, IsLayoutLine, IsHeadLine, IsPointLine, IsLLine, IsGLine, Timed, columned, event, satellites, Untimed, differential, remark, other, Fits}
+use Rattle.sound.proofs.Families.{every, line-role, tells-role, put-by}
 use Rattle.sound.proofs.Placed.{sound-empty}
 use Rattle.demands.proofs.Laws.{cond-false}
 use Rattle.demands.proofs.EachLine.{a-there, a-said, date-there, date-said, h-there, h-said, d-there, d-said, e-there, e-said, f-there, f-said, l-there, l-said, g-there, g-said, other-there, other-said, columned-letter, columned-there, columned-said, head-there, head-said, point-there, point-said}
 use Rattle.demands.proofs.LayoutLines.{IsTold, layout-there, layout-said, layout-told}
 
--- ---- the families, one by one
+-- ---- room in a table, as the rules test it and as the grammar says it
 
--- what holds of each family
-abbrev pub every : (P : Family → Type 0) → P family.B → P family.K → (f : Family) → P f
-every P b k family.B = b
-every P b k family.K = k
-
--- the layout lines of each family, from those of every one
-pub told-of : (layouts : Layouts) (p : Parts) → AtMostOne family.B (layouts .b) (p .told family.B) × AtMostOne family.K (layouts .k) (p .told family.K)
-    → (f : Family) → AtMostOne f (layoutOf f layouts) (p .told f)
-told-of layouts p h family.B = h .0
-told-of layouts p h family.K = h .1
-
--- room in a table, as the rules test it and as the grammar says it
 pub fits-there : (room : Option ℕ) (n : ℕ) → hasRoom room n ≡ true → Fits room n
 fits-there none n h = tt
 fits-there (some most) n h = leb-true n most h
@@ -63,35 +53,6 @@ fits-there (some most) n h = leb-true n most h
 pub fits-so : (room : Option ℕ) (n : ℕ) → Fits room n → hasRoom room n ≡ true
 fits-so none n h = refl
 fits-so (some most) n h = le-leb n most h
-
--- a test that each of them passes, and one that each fails
-all-pass : (test : Family → Bool) → (test family.B && test family.K) ≡ true → (f : Family) → test f ≡ true
-all-pass test e = let a = and-inv (test family.B) (test family.K) e in every (λ f. test f ≡ true) (a .0) (a .1)
-
-pub none-pass : (test : Family → Bool) → (not (test family.B) && not (test family.K)) ≡ true → (f : Family) → test f ≡ false
-none-pass test e f = not-inv (test f) (all-pass (λ g. not (test g)) e f)
-
-pub all-layouts : (a b : Layouts) → ((f : Family) → layoutOf f a ≡ layoutOf f b) → a ≡ b
-all-layouts a b h = λ i. record { b = h family.B i; k = h family.K i }
-
--- what holds of the layout that is put in, and of each that stays
-pub put-by : (P : Family → Layout → Type 0) (f : Family) (i : Layout) (ls : Layouts) → P f i → ((g : Family) → sameFamily g f ≡ false → P g (layoutOf g ls))
-    → (g : Family) → P g (layoutOf g (withLayout f i ls))
-put-by P family.B i ls h k = every (λ g. P g (layoutOf g (withLayout family.B i ls))) h (k family.K refl)
-put-by P family.K i ls h k = every (λ g. P g (layoutOf g (withLayout family.K i ls))) (k family.B refl) h
-
-pub put-own : (f : Family) (i : Layout) (ls : Layouts) → layoutOf f (withLayout f i ls) ≡ i
-put-own f i ls = every (λ f. layoutOf f (withLayout f i ls) ≡ i) refl refl f
-
-pub same-family : (f : Family) → sameFamily f f ≡ true
-same-family = all-pass (λ f. sameFamily f f) refl
-
-pub is-same : (f g : Family) → sameFamily g f ≡ true → g ≡ f
-is-same family.B = every (λ g. sameFamily g family.B ≡ true → g ≡ family.B) (λ e. refl) (λ e. absurd (false-true e))
-is-same family.K = every (λ g. sameFamily g family.K ≡ true → g ≡ family.K) (λ e. absurd (false-true e)) (λ e. refl)
-
-pub put-others : (f : Family) (i : Layout) (ls : Layouts) (g : Family) → sameFamily g f ≡ false → layoutOf g (withLayout f i ls) ≡ layoutOf g ls
-put-others f i ls = put-by (λ g x. sameFamily g f ≡ false → x ≡ layoutOf g ls) f i ls (λ n. absurd (false-true (sym n ∙ same-family f))) (λ g n m. refl)
 
 -- ---- the role of a letter
 
@@ -119,27 +80,21 @@ letter b =
     tell P (eqb b 74) kind.J _ (eqb-true b 74) λ j.
     tell P (eqb b 75) kind.K _ (eqb-true b 75) λ k.
     tell P (eqb b 76) kind.L _ (eqb-true b 76) λ l.
+    tell P (eqb b 77) kind.M _ (eqb-true b 77) λ m.
+    tell P (eqb b 78) kind.N _ (eqb-true b 78) λ n.
     tell P (ltb b 65) kind.NoKind _ (λ q. inl (ltb-true b 65 q)) λ q.
     tell P (leb b 90) kind.Other kind.NoKind
     (λ r. (
-      past 76 b (past 75 b (past 74 b (past 73 b (past 72 b (past 71 b (past 70 b (past 69 b (past 68 b (past 67 b (past 66 b (past 65 b (ltb-false b 65 q) a) b₁) c) d) e) f) g) h) i) j) k) l,
+      past 78 b (past 77 b (past 76 b (past 75 b (past 74 b (past 73 b (past 72 b (past 71 b (past 70 b (past 69 b (past 68 b (past 67 b (past 66 b (past 65 b (ltb-false b 65 q) a) b₁) c) d) e) f) g) h) i) j) k) l) m) n,
       leb-true b 90 r,
     ))
     (λ r. inr (leb-false b 90 r))
 
 pub tells-letter : (f : Family) {b : ℕ} → Letter (role.Tells f) b → b ≡ layoutLetter f
-tells-letter f {b} = every (λ f. Letter (role.Tells f) b → b ≡ layoutLetter f) (λ e. e) (λ e. e) f
+tells-letter f {b} = every (λ f. Letter (role.Tells f) b → b ≡ layoutLetter f) (λ e. e) (λ e. e) (λ e. e) f
 
 pub line-letter : (f : Family) {b : ℕ} → Letter (role.Columned f) b → b ≡ lineLetter f
-line-letter f {b} = every (λ f. Letter (role.Columned f) b → b ≡ lineLetter f) (λ e. e) (λ e. e) f
-
-pub tells-role : (f : Family) → roleOf (kindOf (layoutLetter f)) ≡ role.Tells f
-unfolding kindOf
-tells-role = every (λ f. roleOf (kindOf (layoutLetter f)) ≡ role.Tells f) refl refl
-
-pub line-role : (f : Family) → roleOf (kindOf (lineLetter f)) ≡ role.Columned f
-unfolding kindOf
-line-role = every (λ f. roleOf (kindOf (lineLetter f)) ≡ role.Columned f) refl refl
+line-letter f {b} = every (λ f. Letter (role.Columned f) b → b ≡ lineLetter f) (λ e. e) (λ e. e) (λ e. e) f
 
 -- a line with a role has bytes
 pub not-empty : (l : List ℕ) → isRole (roleIn l) ≡ true → 1 ≤ length l
@@ -170,39 +125,44 @@ ByFamily r b f = (eqb b (lineLetter f) ≡ isOf f r) × (eqb b (layoutLetter f) 
 abbrev pub Tests : Role → ℕ → Type 0
 Tests r b = (isRole r ≡ (leb (code "A") b && leb b (code "Z"))) × Plainly r b × ((f : Family) → ByFamily r b f)
 
--- another byte than A to L
-outside : (b : ℕ) → ((x : ℕ) → code "A" ≤ x → x ≤ code "L" → eqb b x ≡ false) → Plainly role.Other b × ((f : Family) → ByFamily role.Other b f)
+-- another byte than A to N
+outside : (b : ℕ) → ((x : ℕ) → code "A" ≤ x → x ≤ code "N" → eqb b x ≡ false) → Plainly role.Other b × ((f : Family) → ByFamily role.Other b f)
 unfolding isAmong bytes
 outside b n =
-    let no : (x : ℕ) → leb 65 x ≡ true → leb x 76 ≡ true → eqb b x ≡ false = λ x p q. n x (leb-true 65 x p) (leb-true x 76 q) in (
-      (no 67 refl refl, no 71 refl refl, simp (no 66 refl refl, no 69 refl refl, no 70 refl refl, no 75 refl refl)),
-      every (ByFamily role.Other b) (no 66 refl refl, no 73 refl refl, simp (no 65 refl refl, no 72 refl refl)) (no 75 refl refl, no 74 refl refl, simp (no 65 refl refl, no 72 refl refl, no 73 refl refl)),
+    let no : (x : ℕ) → leb 65 x ≡ true → leb x 78 ≡ true → eqb b x ≡ false = λ x p q. n x (leb-true 65 x p) (leb-true x 78 q) in (
+      (no 67 refl refl, no 71 refl refl, simp (no 66 refl refl, no 69 refl refl, no 70 refl refl, no 75 refl refl, no 78 refl refl)),
+      every (ByFamily role.Other b) (no 66 refl refl, no 73 refl refl, simp (no 65 refl refl, no 72 refl refl))
+          (no 75 refl refl, no 74 refl refl, simp (no 65 refl refl, no 72 refl refl, no 73 refl refl))
+          (no 78 refl refl, no 77 refl refl, simp (no 65 refl refl, no 72 refl refl, no 73 refl refl, no 74 refl refl)),
     )
 
-other-role : (b : ℕ) → code "M" ≤ b → b ≤ code "Z" → roleOf (kindOf b) ≡ role.Other
+pub other-role : (b : ℕ) → code "O" ≤ b → b ≤ code "Z" → roleOf (kindOf b) ≡ role.Other
 unfolding kindOf
 other-role b p q =
-    let no : (x : ℕ) → leb x 76 ≡ true → eqb b x ≡ false = λ x h. let i = leb-true x 76 h in ne-eqb b x (λ z. omega arith) in
-    rw (no 65 refl, no 66 refl, no 67 refl, no 68 refl, no 69 refl, no 70 refl, no 71 refl, no 72 refl, no 73 refl, no 74 refl, no 75 refl, no 76 refl, le-ltb b 65 (omega arith), le-leb b 90 q)
+    let no : (x : ℕ) → leb x 78 ≡ true → eqb b x ≡ false = λ x h. let i = leb-true x 78 h in ne-eqb b x (λ z. omega arith) in
+    rw (no 65 refl, no 66 refl, no 67 refl, no 68 refl, no 69 refl, no 70 refl, no 71 refl, no 72 refl, no 73 refl, no 74 refl, no 75 refl, no 76 refl, no 77 refl, no 78 refl, le-ltb b 65 (omega arith), le-leb b 90 q)
 
 -- a letter of its own
-row : (r : Role) (x b : ℕ) → b ≡ x → isRole r ≡ (leb (code "A") x && leb x (code "Z")) → Plainly r x → ByFamily r x family.B → ByFamily r x family.K → Tests r b
-row r x b h known plain at-b at-k = rw h (known, plain, every (ByFamily r x) at-b at-k)
+row : (r : Role) (x b : ℕ) → b ≡ x → isRole r ≡ (leb (code "A") x && leb x (code "Z")) → Plainly r x → ByFamily r x family.B → ByFamily r x (family.Extra extra.K)
+    → ByFamily r x (family.Extra extra.N) → Tests r b
+row r x b h known plain at-b at-k at-n = rw h (known, plain, every (ByFamily r x) at-b at-k at-n)
 
 tests-by : (r : Role) (b : ℕ) → Letter r b → Tests r b
 unfolding isAmong bytes
-tests-by role.Opens b h = row role.Opens _ b h refl (refl, refl, refl) (refl, refl, refl) (refl, refl, refl)
-tests-by role.Heads b h = row role.Heads _ b h refl (refl, refl, refl) (refl, refl, refl) (refl, refl, refl)
-tests-by (role.Tells family.B) b h = row (role.Tells family.B) _ b h refl (refl, refl, refl) (refl, refl, refl) (refl, refl, refl)
-tests-by (role.Tells family.K) b h = row (role.Tells family.K) _ b h refl (refl, refl, refl) (refl, refl, refl) (refl, refl, refl)
-tests-by (role.Columned family.B) b h = row (role.Columned family.B) _ b h refl (refl, refl, refl) (refl, refl, refl) (refl, refl, refl)
-tests-by (role.Columned family.K) b h = row (role.Columned family.K) _ b h refl (refl, refl, refl) (refl, refl, refl) (refl, refl, refl)
-tests-by role.Declares b h = row role.Declares _ b h refl (refl, refl, refl) (refl, refl, refl) (refl, refl, refl)
-tests-by role.Event b h = row role.Event _ b h refl (refl, refl, refl) (refl, refl, refl) (refl, refl, refl)
-tests-by role.Satellites b h = row role.Satellites _ b h refl (refl, refl, refl) (refl, refl, refl) (refl, refl, refl)
-tests-by role.Differential b h = row role.Differential _ b h refl (refl, refl, refl) (refl, refl, refl) (refl, refl, refl)
-tests-by role.Seals b h = row role.Seals _ b h refl (refl, refl, refl) (refl, refl, refl) (refl, refl, refl)
-tests-by role.Remark b h = row role.Remark _ b h refl (refl, refl, refl) (refl, refl, refl) (refl, refl, refl)
+tests-by role.Opens b h = row role.Opens _ b h refl (refl, refl, refl) (refl, refl, refl) (refl, refl, refl) (refl, refl, refl)
+tests-by role.Heads b h = row role.Heads _ b h refl (refl, refl, refl) (refl, refl, refl) (refl, refl, refl) (refl, refl, refl)
+tests-by (role.Tells family.B) b h = row (role.Tells family.B) _ b h refl (refl, refl, refl) (refl, refl, refl) (refl, refl, refl) (refl, refl, refl)
+tests-by (role.Tells (family.Extra extra.K)) b h = row (role.Tells (family.Extra extra.K)) _ b h refl (refl, refl, refl) (refl, refl, refl) (refl, refl, refl) (refl, refl, refl)
+tests-by (role.Tells (family.Extra extra.N)) b h = row (role.Tells (family.Extra extra.N)) _ b h refl (refl, refl, refl) (refl, refl, refl) (refl, refl, refl) (refl, refl, refl)
+tests-by (role.Columned family.B) b h = row (role.Columned family.B) _ b h refl (refl, refl, refl) (refl, refl, refl) (refl, refl, refl) (refl, refl, refl)
+tests-by (role.Columned (family.Extra extra.K)) b h = row (role.Columned (family.Extra extra.K)) _ b h refl (refl, refl, refl) (refl, refl, refl) (refl, refl, refl) (refl, refl, refl)
+tests-by (role.Columned (family.Extra extra.N)) b h = row (role.Columned (family.Extra extra.N)) _ b h refl (refl, refl, refl) (refl, refl, refl) (refl, refl, refl) (refl, refl, refl)
+tests-by role.Declares b h = row role.Declares _ b h refl (refl, refl, refl) (refl, refl, refl) (refl, refl, refl) (refl, refl, refl)
+tests-by role.Event b h = row role.Event _ b h refl (refl, refl, refl) (refl, refl, refl) (refl, refl, refl) (refl, refl, refl)
+tests-by role.Satellites b h = row role.Satellites _ b h refl (refl, refl, refl) (refl, refl, refl) (refl, refl, refl) (refl, refl, refl)
+tests-by role.Differential b h = row role.Differential _ b h refl (refl, refl, refl) (refl, refl, refl) (refl, refl, refl) (refl, refl, refl)
+tests-by role.Seals b h = row role.Seals _ b h refl (refl, refl, refl) (refl, refl, refl) (refl, refl, refl) (refl, refl, refl)
+tests-by role.Remark b h = row role.Remark _ b h refl (refl, refl, refl) (refl, refl, refl) (refl, refl, refl) (refl, refl, refl)
 tests-by role.Other b h = let o = outside b λ x p q. ne-eqb b x (λ z. omega arith) in (rw (le-leb 65 b (omega arith), le-leb b 90 (h .1)), o .0, o .1)
 tests-by role.NoRole b (inl h) = let o = outside b λ x p q. ne-eqb b x (λ z. omega arith) in (rw (lt-leb 65 b h), o .0, o .1)
 tests-by role.NoRole b (inr h) = let o = outside b λ x p q. ne-eqb b x (λ z. omega arith) in (rw (le-leb 65 b (omega arith), lt-leb b 90 h), o .0, o .1)
@@ -256,7 +216,7 @@ abbrev pub Sound : State → Type 0
 Sound st = (f : Family) → IsTold f (layoutOf f (st .flight .layouts))
 
 pub sound-start : Sound start
-sound-start = every (λ f. IsTold f (layoutOf f (start .flight .layouts))) (sound-empty _) (sound-empty _)
+sound-start = every (λ f. IsTold f (layoutOf f (start .flight .layouts))) (sound-empty _) (sound-empty _) (sound-empty _)
 
 -- ---- the order of roles
 
@@ -320,7 +280,7 @@ module _ (l : List ℕ) (st : State) where
   l-led stage true p w o = let s = leading-inv afterH inBody inBody (st .stage) stage o in rw (← s .2) (body, body-line (s .0) (s .1) (quiet p (remark w)))
   l-led stage false p w o = let s = leading-inv afterG afterLastG afterLastG (st .stage) stage o in rw (← s .2) (remarks, l-line (s .0) (s .1) p w)
 
-  -- and C, D, E, F, B, K and other lines, which are of the body
+  -- and C, D, E, F, B, K, N and other lines, which are of the body
   to-body : (F : ℕ → State) (stage : ℕ) → leading afterH inBody inBody (st .stage) ≡ some stage → InBody st l (F inBody) → Led (F stage)
   to-body F stage o w = let s = leading-inv afterH inBody inBody (st .stage) stage o in rw (← s .2) (body, body-line (s .0) (s .1) w)
 
@@ -379,7 +339,7 @@ module _ (l : List ℕ) (st : State) where
       role-judged role.Declares inBody (rw (s .0)) refl (fits-point st h) (leading-so afterH inBody inBody (st .stage) p q) (passes.point (w .point) (λ z. omega arith) (s .1))
   body-judge g p q (timed t (columned f w) z o) =
       let k = columned-letter f (layoutOf f (st .flight .layouts)) t l w in
-      role-judged (role.Columned f) inBody (rw k (line-role f)) refl (fits-plain st z) (leading-so afterH inBody inBody (st .stage) p q)
+      role-judged (role.Columned f) inBody (line-role f _ k) refl (fits-plain st z) (leading-so afterH inBody inBody (st .stage) p q)
       (passes.columned f t (columned-said f (layoutOf f (st .flight .layouts)) t l (g f) w) (follows-time (st .clock) t o))
   body-judge g p q (timed t (event w) z o) =
       let s = e-said l t w in
@@ -404,7 +364,7 @@ module _ (l : List ℕ) (st : State) where
       role-judged role.Heads afterH (rw (w .letter)) refl (fits-plain st p) (leading-so afterA afterH afterH (st .stage) a b) (passes.header n (h-said l w))
   leads-judge g (layout-line f i a b p w) =
       let s = layout-said f i l w in
-      role-judged (role.Tells f) (afterLayout f) (rw (s .0) (tells-role f)) refl (fits-plain st p) (leading-so afterH (afterLayout f - 1) (afterLayout f) (st .stage) a b)
+      role-judged (role.Tells f) (afterLayout f) (tells-role f _ (s .0)) refl (fits-plain st p) (leading-so afterH (afterLayout f - 1) (afterLayout f) (st .stage) a b)
       (passes.layout f i (s .1))
   leads-judge g (body-line a b w) = body-judge g a b w
   leads-judge g (g-line a b p w) =

@@ -6,6 +6,7 @@ use Rattle.rules.specs.Refusals.{says}
 use Rattle.rules.specs.Reads.{fixSaid, extraSaid, headSaid, pointSaid, layoutSaid}
 use Rattle.rules.specs.Promises.{FixWritten, ExtraWritten, LayoutWritten, HeadWritten, PointWritten}
 use Rattle.rules.specs.declared.Layout.{Layout}
+use Rattle.rules.specs.declared.Extra.{Extra}
 use Rattle.rules.specs.declared.Family.{Family}
 use Rattle.rules.specs.declared.Fix.{Fix}
 use Rattle.rules.specs.declared.Head.{Head}
@@ -18,8 +19,9 @@ module _ (place : ℕ) (out : List ℕ) (r : Wrote) (after : List ℕ) where
   pub fix-writer : (f : Fix) (tail : List ℕ) (layout : Layout) → FixWritten f tail layout place out r after → Ways (ReadsAs (λ l. fixSaid l layout) 35) (f, tail) place out r after
   fix-writer f tail layout = fixes-both-ways layout .writes (f, tail) place out r after
 
-  pub extra-writer : (t : ℕ) (tail : List ℕ) (layout : Layout) → ExtraWritten t tail layout place out r after → Ways (ReadsAs (λ l. extraSaid l layout) 7) (t, tail) place out r after
-  extra-writer t tail layout = extras-both-ways layout .writes (t, tail) place out r after
+  pub extra-writer : (x : Extra) (t : ℕ) (tail : List ℕ) (layout : Layout) → ExtraWritten x t tail layout place out r after
+      → Ways (ReadsAs (λ l. extraSaid x l layout) 7) (t, tail) place out r after
+  extra-writer x t tail layout = extras-both-ways x layout .writes (t, tail) place out r after
 
   pub head-writer : (h : Head) (rest : List ℕ) → HeadWritten h rest place out r after → Ways (ReadsAs headSaid 25) (h, rest) place out r after
   head-writer h rest = heads-both-ways .writes (h, rest) place out r after

@@ -1,5 +1,5 @@
 -- Line 2, E and F lines: the reader says a value exactly when the line is, by the grammar, a line of that value; two positions come as the degrees that they have, within their
--- limits; and a layout is allowed exactly when there is an I or a J line of it. Assumes nothing.
+-- limits; and a layout is allowed exactly when there is an I, a J or an M line of it. Assumes nothing.
 use Prim.Native.Nat.{ℕ}
 use Prim.Native.Char.{code}
 use mathlib.Core.Bool.{true}

@@ -10,7 +10,7 @@ use mathlib.Core.Path.{_≡_, refl, sym, _∙_, ap, subst}
 use lib.Dec.{eqb, leb}
 use lib.ListN.{length, getD, drop}
 use Rattle.rules.specs.Choice.{given, need, on, firstOf}
-use Rattle.rules.specs.Families.{firstStart, familyOf}
+use Rattle.rules.specs.Families.{firstStart, lineLetter, layoutLetter, familyOf}
 use Rattle.rules.specs.Refusals.{number, Said, says, refuses, andThen}
 use Rattle.rules.specs.Numbers.{wholeOf}
 use Rattle.rules.specs.Listed.{packedOf, codeText}
@@ -18,12 +18,14 @@ use Rattle.rules.specs.Layouts.{Span, spanOf, entriesOf, allowed, lookIn, look,
 use Rattle.rules.specs.Degrees.{isPosition, isLatitude, isLongitude, degreesOf}
 use Rattle.rules.specs.Fields.{isEither}
 use Rattle.rules.specs.Split.{Bounds, Stepped, firstCRLF, isStart, boundsOf, stepAt}
-use Rattle.rules.specs.Lines.{bLine, kLine, columnedLine}
+use Rattle.rules.specs.Lines.{bLine, extraLine, columnedLine}
 use Rattle.rules.specs.Fixes.{fixOf}
 use Rattle.rules.specs.Reads.{fieldsSaid, fixSaid, extraSaid, eventSaid, satellitesSaid, dateSaid, layoutSaid, headSaid, pointSaid, entriesSaid, columnSaid, numberSaid}
 use Rattle.rules.specs.declared.Signed.{Signed}
 use Rattle.rules.specs.declared.Entry.{Entry}
 use Rattle.rules.specs.declared.Layout.{Layout}
+use Rattle.rules.specs.declared.Extra.{Extra}
+use Rattle.rules.specs.declared.Extra.the-variants as extra
 use Rattle.rules.specs.declared.Family.{Family}
 use Rattle.rules.specs.declared.Family.the-variants as family
 use Rattle.rules.specs.declared.Position.{Position}
@@ -35,7 +37,7 @@ use Rattle.demands.specs.Grammar.{laid}
 use Rattle.demands.specs.Checks.{Check, check, isThere, hasCode, lineChecks}
 use Rattle.demands.specs.BothWays.{Slotted}
 use Rattle.demands.specs.Readings.{Spells}
-use Rattle.demands.specs.ReadersRefuse.{RefusesFirst, layoutCheck, nameCheck, spanIn, numberCheck, columnedReader, columnReader, numberReader, layoutReader, entryReader, numberedReader, stepReader, degreesReader, ReadersRefuse, NamesMeant}
+use Rattle.demands.specs.ReadersRefuse.{RefusesFirst, layoutCheck, nameCheck, spanIn, numberCheck, columnedReader, familyBy, columnReader, numberReader, layoutReader, entryReader, numberedReader, stepReader, degreesReader, ReadersRefuse, NamesMeant}
 use Rattle.demands.specs.Endings.{isEnding, hasEnding}
 use Rattle.demands.proofs.Endings.{ending-behind, ending-first}
 use Rattle.demands.proofs.Columns.{whole-there, whole-here, name-back}
@@ -84,11 +86,11 @@ module _ (i : Slotted) (l : List ℕ) where
   unfolding fixSaid number
   fix-first = agree-last (fieldsSaid family.B l (i .layout)) fixOf _ (agree-need 17 0 (eqb (getD l 0 0) 66) _ _ λ k. by-layout family.B (λ x. bLine x l) (λ es. fix-agrees es l))
 
-  extra-first : Agrees (extraSaid l (i .layout)) (columnedReader family.K (i .layout) l)
+  extra-first : (x : Extra) → Agrees (extraSaid x l (i .layout)) (columnedReader (family.Extra x) (i .layout) l)
   unfolding extraSaid number
-  extra-first = agree-need 17 0 (eqb (getD l 0 0) 75) _ _ λ k. by-layout family.K (λ x. kLine x l) (λ es. extra-agrees es l)
+  extra-first x = agree-need 17 0 (eqb (getD l 0 0) (lineLetter (family.Extra x))) _ _ λ k. by-layout (family.Extra x) (λ y. extraLine y l) (λ es. extra-agrees x es l)
 
-  -- a line of either family, by its letter
+  -- a line of any family, by its letter
   abbrev told : Family → Said (List Entry)
   told f = need (allowed (firstStart f) (i .layout)) (refuses 17 0 0) λ u. andThen (columnedLine f (i .layout) l) λ t. says (entriesOf (i .layout))
 
@@ -100,15 +102,20 @@ module _ (i : Slotted) (l : List ℕ) where
       by-layout f (λ x. andThen (columnedLine f x l) λ t. says (entriesOf (i .layout))) λ es.
       agree-last (columnedLine f (laid es) l) (λ t. entriesOf (i .layout)) (lineChecks f es l) (line-agrees f es l)
 
-  by-letter : (b k : Bool) → Agrees (given (cond b (some family.B) (cond k (some family.K) none)) (refuses 17 0 0) told)
-      (cond b (check 17 0 b ∷ tests family.B) (check 17 0 k ∷ tests family.K))
-  by-letter true k = one-more (told family.B) (check 17 0 true) (tests family.B) refl (told-first family.B)
-  by-letter false true = one-more (told family.K) (check 17 0 true) (tests family.K) refl (told-first family.K)
-  by-letter false false = (refl, inl (refl, refl, refl))
+  found-first : (f : Family) → eqb (getD l 0 0) (lineLetter f) ≡ true → Agrees (told f) (columnedReader f (i .layout) l)
+  found-first f h = one-more (told f) (check 17 0 (eqb (getD l 0 0) (lineLetter f))) (tests f) h (told-first f)
 
-  entries-first : Agrees (entriesSaid l (i .layout)) (cond (eqb (getD l 0 0) (code "B")) (columnedReader family.B (i .layout) l) (columnedReader family.K (i .layout) l))
+  by-letter : (b k n : Bool) → eqb (getD l 0 0) (code "B") ≡ b → eqb (getD l 0 0) (code "K") ≡ k → eqb (getD l 0 0) (code "N") ≡ n
+      → Agrees (given (cond b (some family.B) (cond k (some (family.Extra extra.K)) (cond n (some (family.Extra extra.N)) none))) (refuses 17 0 0) told)
+      (columnedReader (cond b family.B (cond k (family.Extra extra.K) (family.Extra extra.N))) (i .layout) l)
+  by-letter true k n p q r = found-first family.B p
+  by-letter false true n p q r = found-first (family.Extra extra.K) q
+  by-letter false false true p q r = found-first (family.Extra extra.N) r
+  by-letter false false false p q r = (refl, inl (r, refl, refl))
+
+  entries-first : Agrees (entriesSaid l (i .layout)) (columnedReader (familyBy (getD l 0 0)) (i .layout) l)
   unfolding entriesSaid familyOf number
-  entries-first = by-letter (eqb (getD l 0 0) 66) (eqb (getD l 0 0) 75)
+  entries-first = by-letter _ _ _ refl refl refl
 
   entries-are : (xs : List Entry) → entriesSaid l (i .layout) ≡ says xs → xs ≡ entriesOf (i .layout)
   unfolding entriesSaid
@@ -147,14 +154,12 @@ module _ (i : Slotted) (l : List ℕ) where
 
 layout-first : (f : Family) (l : List ℕ) → Agrees (layoutSaid f l) (layoutReader f l)
 unfolding layoutSaid number
-layout-first family.B l = agree-need 17 0 (eqb (getD l 0 0) 73) _ _ λ k. layout-agrees family.B l
-layout-first family.K l = agree-need 17 0 (eqb (getD l 0 0) 74) _ _ λ k. layout-agrees family.K l
+layout-first f l = agree-need 17 0 (eqb (getD l 0 0) (layoutLetter f)) _ _ λ k. layout-agrees f l
 
 -- of a layout alone
 allowed-first : (f : Family) {A : Type 0} (i : Layout) (g : Unit {0} → Said A) (cs : List Check) → Agrees (g tt) cs
     → Agrees (need (allowed (firstStart f) i) (refuses 17 0 0) g) (layoutCheck f i ∷ cs)
-allowed-first family.B i g cs h = agree-need 17 0 (allowed 36 i) g cs λ a. h
-allowed-first family.K i g cs h = agree-need 17 0 (allowed 8 i) g cs λ a. h
+allowed-first f i g cs h = agree-need 17 0 (allowed (firstStart f) i) g cs λ a. h
 
 -- ---- a line by its number, a reading place, and a pair of degrees
 
@@ -191,7 +196,7 @@ pub readers-refuse : ReadersRefuse
 unfolding dateSaid headSaid pointSaid eventSaid satellitesSaid lengthSaid lookSaid presenceSaid look number
 readers-refuse = record {
   fix = λ i l. refuses-first _ _ (fix-first i l);
-  extra = λ j l. refuses-first _ _ (extra-first j l);
+  extra = λ x j l. refuses-first _ _ (extra-first j l x);
   column = λ i l name. refuses-first _ _ (column-first i l name);
   number = λ i l name. refuses-first _ _ (number-first i l name);
   layout = λ f l. refuses-first _ _ (layout-first f l);

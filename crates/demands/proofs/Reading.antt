@@ -1,4 +1,4 @@
--- What can be read from an accepted file: its lines by number and step by step; its date and its layouts, from the lines that tell them; each B line and each K line, by these
+-- What can be read from an accepted file: its lines by number and step by step; its date and its layouts, from the lines that tell them; each B line, K line and N line, by these
 -- layouts, as the value whose line it is, column by column; each E and F line; and its declaration, a head with its points. Assumes nothing.
 use Prim.Native.Nat.{ℕ, zero, suc, _+_, _-_, _≤_, _<_}
 use Prim.Native.Char.{code}
@@ -12,42 +12,49 @@ use borrow.Author.Tests.{ne-eqb, eqb-false, ltb-true, leb-true}
 use lib.Dec.{eqb, ltb}
 use lib.ListN.{length, getD, take, drop}
 use Rattle.rules.specs.Choice.{bytes, Each}
-use Rattle.rules.specs.Families.{firstStart, lineLetter, layoutLetter, layoutOf}
+use Rattle.rules.specs.Families.{firstStart, lineLetter, layoutLetter, layoutOf, countOf}
 use Rattle.rules.specs.Refusals.{says}
 use Rattle.rules.specs.Layouts.{emptyLayout, entriesOf}
 use Rattle.rules.specs.Split.{Lines, end, linesOf, offsets}
-use Rattle.rules.specs.Reads.{dateSaid, headRest, pointRest}
+use Rattle.rules.specs.Reads.{dateSaid, layoutSaid, headRest, pointRest}
 use Rattle.rules.specs.Fixes.{fieldsOf}
 use Rattle.rules.specs.Files.{verdict, goodLines, tableAfter}
+use Rattle.rules.specs.Lines.{kindOf}
 use Rattle.rules.specs.declared.Date.{Date}
 use Rattle.rules.specs.declared.Layout.{Layout}
+use Rattle.rules.specs.declared.Extra.{Extra}
+use Rattle.rules.specs.declared.Extra.the-variants as extra
 use Rattle.rules.specs.declared.Family.{Family}
 use Rattle.rules.specs.declared.Family.the-variants as family
 use Rattle.rules.specs.declared.Layouts.{Layouts}
 use Rattle.rules.specs.declared.Fix.{Fix}
 use Rattle.rules.specs.declared.Head.{Head}
 use Rattle.rules.specs.declared.Seal.{Seal}
+use Rattle.rules.specs.declared.Role.{Role}
+use Rattle.rules.specs.declared.Role.the-variants as role
 use Rattle.rules.specs.declared.Flight.{Flight}
 use Rattle.rules.proofs.Inverse.{false-true, and-inv}
 use Rattle.laws.proofs.Splitting.{textsOf, steps, lengths-total}
 use Rattle.laws.proofs.Splitting as splitting
+use Rattle.laws.proofs.Passing.{roleIn}
 use Rattle.laws.proofs.Counted.{accepted-whole, goodIn, textOf, offsetOf, Numbered, table-length, entry-put, entry-kept, line-by-number}
 use Rattle.trips.proofs.Columned.{entries-said}
 use Rattle.trips.proofs.Fixes.{fix-trip}
 use Rattle.trips.proofs.Extras.{extra-trip}
 use Rattle.trips.proofs.Heads.{head-trip}
 use Rattle.trips.proofs.Points.{point-trip}
-use Rattle.demands.specs.Grammar.{IsDateLine, IsLayoutLine, IsHeadLine, IsPointLine, IsELine, IsFLine, Columns, IsBLine, IsKLine, IsColumned, IsGLine, IsLLine, AtMostOne, absent, given, Timed, Untimed, differential, remark, other, Items, done, timed, untimed, Body, undeclared, Parts, linesIn, Keeps, Meets}
+use Rattle.demands.specs.Grammar.{IsDateLine, IsLayoutLine, IsHeadLine, IsPointLine, IsELine, IsFLine, Columns, IsBLine, IsExtraLine, IsColumned, IsGLine, IsLLine, AtMostOne, absent, given, Timed, Untimed, differential, remark, other, Items, done, timed, untimed, Body, undeclared, Parts, toldIn, linesIn, Keeps, Meets, beginning, flightOf}
 use Rattle.demands.specs.Grammar as grammar
 use Rattle.demands.specs.Coming.{isAmong}
-use Rattle.demands.specs.Readings.{Entered, ReadsFix, ReadsExtra, ReadsColumns, ReadsValue, ReadsLayout, ReadsPresence, ReadsLine, ReadsHead, ReadsPoint, NoC, ReadsDeclaration, nowhere, declared, total, Steps, Readable}
+use Rattle.demands.specs.Readings.{Entered, ReadsFix, ReadsExtra, ReadsColumned, ReadsColumns, ReadsValue, ReadsLayout, ReadsPresence, ReadsLine, ReadsHead, ReadsPoint, NoC, ReadsDeclaration, nowhere, declared, total, Steps, Readable}
 use Rattle.sound.proofs.Each.{each-map, each-join, each-cut}
+use Rattle.sound.proofs.Families.{every, none-pass, line-role, tells-role}
 use Rattle.demands.proofs.EachLine.{e-said, f-said, start-low, fix-reads, extra-reads, columned-letter, columned-fields, head-reads, point-reads, head-said, point-said}
 use Rattle.demands.proofs.Readers.{date-exactly, event-exactly, satellite-exactly, on-map}
 use Rattle.demands.proofs.ByLayout.{presence-reads}
 use Rattle.demands.proofs.ByLayout as by-layout
 use Rattle.demands.proofs.LayoutLines.{IsTold, layout-said, layout-line-exactly, told}
-use Rattle.demands.proofs.Leading.{told-of, none-pass}
+use Rattle.demands.proofs.Leading.{other-role}
 use Rattle.demands.proofs.Sections.{before}
 use Rattle.demands.proofs.Accepted.{lines-cut, accepted-as}
 use Rattle.demands.proofs.Columns.{columns-read}
@@ -93,9 +100,10 @@ tail-columns f layout t l tail i w d c =
 pub line-columns : (f : Family) (layout : Layout) (t : ℕ) (l : List ℕ) → IsTold f layout → IsColumned f layout t l → ReadsColumns f layout l
 line-columns family.B layout t l i w =
     tail-columns family.B layout t l (w .2 .tail) i w (ap (drop 35) (w .2 .text) ∙ fix-trip layout .behind (w .0) (w .2 .tail)) (w .2 .columns)
-line-columns family.K layout t l i w = tail-columns family.K layout t l (w .tail) i w (ap (drop 7) (w .text) ∙ extra-trip layout .behind t (w .tail)) (w .columns)
+line-columns (family.Extra x) layout t l i w =
+    tail-columns (family.Extra x) layout t l (w .tail) i w (ap (drop 7) (w .text) ∙ extra-trip x layout .behind t (w .tail)) (w .columns)
 
--- a B line, and a K line
+-- a B line, and a K or an N line
 reads-fix : (layout : Layout) (f : Fix) (l : List ℕ) → IsTold family.B layout → IsBLine layout f l → ReadsFix layout l
 unfolding fieldsOf
 reads-fix layout f l i w = record {
@@ -106,13 +114,17 @@ reads-fix layout f l i w = record {
   columns = line-columns family.B layout (f .time) l i (f, refl, w);
 }
 
-reads-extra : (layout : Layout) (t : ℕ) (l : List ℕ) → IsTold family.K layout → IsKLine layout t l → ReadsExtra layout l
-reads-extra layout t l i w = record {
+reads-extra : (x : Extra) (layout : Layout) (t : ℕ) (l : List ℕ) → IsTold (family.Extra x) layout → IsExtraLine x layout t l → ReadsExtra x layout l
+reads-extra x layout t l i w = record {
   time = t;
   is = w;
-  reads = extra-reads layout i t l w;
-  columns = line-columns family.K layout t l i w;
+  reads = extra-reads x layout i t l w;
+  columns = line-columns (family.Extra x) layout t l i w;
 }
+
+reads-columned : (f : Family) (layout : Layout) (t : ℕ) (l : List ℕ) → IsTold f layout → IsColumned f layout t l → ReadsColumned f layout l
+reads-columned family.B layout t l i w = reads-fix layout (w .0) l i (w .2)
+reads-columned (family.Extra x) layout t l i w = reads-extra x layout t l i w
 
 -- ---- a head and its points, with the texts behind their fields
 
@@ -132,7 +144,7 @@ reads-point l w =
 
 -- a line of no family, no C line and no G line
 abbrev pub Aside : List ℕ → Type 0
-Aside l = isAmong (bytes "BCGK") (getD l 0 0) ≡ false
+Aside l = isAmong (bytes "BCGKN") (getD l 0 0) ≡ false
 
 pub other-than : (xs : List ℕ) (l : List ℕ) (x : ℕ) → isAmong xs x ≡ true → isAmong xs (getD l 0 0) ≡ false → getD l 0 0 ≡ x → ⊥
 other-than xs l x y n e = false-true (sym n ∙ ap (isAmong xs) e ∙ y)
@@ -141,26 +153,34 @@ allBelow : ℕ → List ℕ → Bool
 allBelow n [] = true
 allBelow n (x ∷ xs) = ltb x n && allBelow n xs
 
--- "M to Z are 'other'": none of the letters before M
-above : (xs l : List ℕ) → code "M" ≤ getD l 0 0 → allBelow 77 xs ≡ true → isAmong xs (getD l 0 0) ≡ false
+-- O to Z are 'other': none of the letters before O
+above : (xs l : List ℕ) → code "O" ≤ getD l 0 0 → allBelow 79 xs ≡ true → isAmong xs (getD l 0 0) ≡ false
 unfolding isAmong allBelow
 above [] l h e = refl
 above (x ∷ xs) l h e =
-    let a = and-inv (ltb x 77) (allBelow 77 xs) e in
-    let b = ltb-true x 77 (a .0) in
+    let a = and-inv (ltb x 79) (allBelow 79 xs) e in
+    let b = ltb-true x 79 (a .0) in
     rw (ne-eqb (getD l 0 0) x (λ z. omega arith)) (above xs l h (a .1))
 
 pub untimed-aside : {l : List ℕ} → Untimed l → Aside l
 unfolding isAmong bytes allBelow
 untimed-aside (differential w) = rw (w .letter)
 untimed-aside (remark w) = rw (w .letter)
-untimed-aside {l} (other w) = above (bytes "BCGK") l (w .from) refl
+untimed-aside {l} (other w) = above (bytes "BCGKN") l (w .from) refl
 
-untimed-idle : {l : List ℕ} → Untimed l → isAmong (bytes "BEFIJK") (getD l 0 0) ≡ false
-unfolding isAmong bytes allBelow
+-- the reader of a line of a role: 1 of a layout, 2 of a line with columns, 3 of an E line, 4 of an F line
+abbrev reader : Role → ℕ
+reader = elim [ role.Opens ↦ 0 | role.Heads ↦ 0 | role.Tells f ↦ 1 | role.Columned f ↦ 2 | role.Declares ↦ 0 | role.Event ↦ 3 | role.Satellites ↦ 4 | role.Differential ↦ 0 | role.Seals ↦ 0 | role.Remark ↦ 0 | role.Other ↦ 0 | role.NoRole ↦ 0 ]
+
+-- a line of none of them
+abbrev Idle : List ℕ → Type 0
+Idle l = reader (roleIn l) ≡ 0
+
+untimed-idle : {l : List ℕ} → Untimed l → Idle l
+unfolding kindOf
 untimed-idle (differential w) = rw (w .letter)
 untimed-idle (remark w) = rw (w .letter)
-untimed-idle {l} (other w) = above (bytes "BEFIJK") l (w .from) refl
+untimed-idle (other w) = ap reader (other-role _ (w .from) (w .to))
 
 -- what is so of the line that tells a layout is so of each of its lines
 one-by : (f : Family) {P : List ℕ → Type 0} {layout : Layout} {ls : List (List ℕ)} → AtMostOne f layout ls → ((l : List ℕ) → IsLayoutLine f layout l → P l) → Each P ls
@@ -169,52 +189,77 @@ one-by f (given {l = l} w) h = (h l w, tt)
 
 one-aside : (f : Family) {layout : Layout} {ls : List (List ℕ)} → AtMostOne f layout ls → Each Aside ls
 unfolding isAmong bytes
-one-aside f {layout} o = one-by f o (λ l w. rw (layout-said f layout l w .0) (none-pass (λ f. isAmong (bytes "BCGK") (layoutLetter f)) refl f))
+one-aside f {layout} o = one-by f o (λ l w. rw (layout-said f layout l w .0) (none-pass (λ f. isAmong (bytes "BCGKN") (layoutLetter f)) refl f))
 
 aside-no-c : (l : List ℕ) → Aside l → NoC l
 unfolding isAmong bytes
-aside-no-c l n = other-than (bytes "BCGK") l (code "C") refl n
+aside-no-c l n = other-than (bytes "BCGKN") l (code "C") refl n
 
 -- ---- each line as it may be read, by its letter
 
 module _ (layouts : Layouts) (l : List ℕ) where
-  -- a line of none of the letters
-  unread : {A : Type 0} → isAmong (bytes "BEFIJK") (getD l 0 0) ≡ false → (x : ℕ) → isAmong (bytes "BEFIJK") x ≡ true → getD l 0 0 ≡ x → A
-  unread n x y z = absurd (other-than (bytes "BEFIJK") l x y n z)
+  -- a line has one reader
+  not : {A : Type 0} (n : ℕ) → reader (roleIn l) ≡ n → (r : Role) → roleIn l ≡ r → eqb n (reader r) ≡ false → A
+  not n k r z d = absurd (eqb-false n (reader r) d (sym k ∙ ap reader z))
 
-  idle : isAmong (bytes "BEFIJK") (getD l 0 0) ≡ false → ReadsLine layouts l
-  unfolding isAmong bytes
-  idle n = record { b = unread n 66 refl; k = unread n 75 refl; i = unread n 73 refl; j = unread n 74 refl; e = unread n 69 refl; f = unread n 70 refl }
+  event-is : getD l 0 0 ≡ code "E" → roleIn l ≡ role.Event
+  unfolding kindOf
+  event-is z = rw z
 
-  -- a line of one letter has no other
-  not : {A : Type 0} {x : ℕ} → getD l 0 0 ≡ x → (y : ℕ) → eqb x y ≡ false → getD l 0 0 ≡ y → A
-  not k y n z = absurd (eqb-false _ y n (sym k ∙ z))
+  satellites-is : getD l 0 0 ≡ code "F" → roleIn l ≡ role.Satellites
+  unfolding kindOf
+  satellites-is z = rw z
+
+  no-columns : (n : ℕ) → reader (roleIn l) ≡ n → eqb n (reader (role.Columned family.B)) ≡ false → (g : Family) → getD l 0 0 ≡ lineLetter g → ReadsColumned g (layoutOf g layouts) l
+  no-columns n k d g z = not n k (role.Columned g) (line-role g _ z) d
+
+  no-layout : (n : ℕ) → reader (roleIn l) ≡ n → eqb n (reader (role.Tells family.B)) ≡ false → (g : Family) → getD l 0 0 ≡ layoutLetter g → ReadsValue (layoutSaid g) (IsLayoutLine g) (layoutOf g layouts) l
+  no-layout n k d g z = not n k (role.Tells g) (tells-role g _ z) d
+
+  idle : Idle l → ReadsLine layouts l
+  idle k = record { columned = no-columns 0 k refl; tells = no-layout 0 k refl; event = λ z. not 0 k role.Event (event-is z) refl; satellites = λ z. not 0 k role.Satellites (satellites-is z) refl }
 
   columned-reads : (f : Family) (t : ℕ) → IsTold f (layoutOf f layouts) → IsColumned f (layoutOf f layouts) t l → ReadsLine layouts l
-  columned-reads family.B t i w =
-      let k = columned-letter family.B (layouts .b) t l w in
-      record { b = λ z. reads-fix (layouts .b) (w .0) l i (w .2); k = not k 75 refl; i = not k 73 refl; j = not k 74 refl; e = not k 69 refl; f = not k 70 refl }
-  columned-reads family.K t i w =
-      let k = columned-letter family.K (layouts .k) t l w in
-      record { b = not k 66 refl; k = λ z. reads-extra (layouts .k) t l i w; i = not k 73 refl; j = not k 74 refl; e = not k 69 refl; f = not k 70 refl }
+  columned-reads f t i w =
+      let r = line-role f _ (columned-letter f (layoutOf f layouts) t l w) in
+      let k = ap reader r in
+      record {
+        columned = λ g z. let q = line-role g _ z in let e : f ≡ g = cc (q, r) in rw (← e) (reads-columned f (layoutOf f layouts) t l i w);
+        tells = no-layout 2 k refl;
+        event = λ z. not 2 k role.Event (event-is z) refl;
+        satellites = λ z. not 2 k role.Satellites (satellites-is z) refl;
+      }
 
   layout-reads : (f : Family) → IsLayoutLine f (layoutOf f layouts) l → ReadsLine layouts l
-  layout-reads family.B w =
-      let k = layout-said family.B (layouts .b) l w .0 in
-      record { b = not k 66 refl; k = not k 75 refl; i = λ z. record { is = w; reads = layout-line-exactly family.B (layouts .b) l .1 w }; j = not k 74 refl; e = not k 69 refl; f = not k 70 refl }
-  layout-reads family.K w =
-      let k = layout-said family.K (layouts .k) l w .0 in
-      record { b = not k 66 refl; k = not k 75 refl; i = not k 73 refl; j = λ z. record { is = w; reads = layout-line-exactly family.K (layouts .k) l .1 w }; e = not k 69 refl; f = not k 70 refl }
+  layout-reads f w =
+      let r = tells-role f _ (layout-said f (layoutOf f layouts) l w .0) in
+      let k = ap reader r in
+      record {
+        columned = no-columns 1 k refl;
+        tells = λ g z. let q = tells-role g _ z in let e : f ≡ g = cc (q, r) in rw (← e) (record { is = w; reads = layout-line-exactly f (layoutOf f layouts) l .1 w });
+        event = λ z. not 1 k role.Event (event-is z) refl;
+        satellites = λ z. not 1 k role.Satellites (satellites-is z) refl;
+      }
 
   event-reads : (t : ℕ) → IsELine t l → ReadsLine layouts l
   event-reads t w =
-      let k = e-said l t w .0 in
-      record { b = not k 66 refl; k = not k 75 refl; i = not k 73 refl; j = not k 74 refl; e = λ z. (t, record { is = w; reads = event-exactly t l .1 w }); f = not k 70 refl }
+      let k = ap reader (event-is (e-said l t w .0)) in
+      record {
+        columned = no-columns 3 k refl;
+        tells = no-layout 3 k refl;
+        event = λ z. (t, record { is = w; reads = event-exactly t l .1 w });
+        satellites = λ z. not 3 k role.Satellites (satellites-is z) refl;
+      }
 
   satellite-reads : (t : ℕ) → IsFLine t l → ReadsLine layouts l
   satellite-reads t w =
-      let k = f-said l t w .0 in
-      record { b = not k 66 refl; k = not k 75 refl; i = not k 73 refl; j = not k 74 refl; e = not k 69 refl; f = λ z. (t, record { is = w; reads = satellite-exactly t l .1 w }) }
+      let k = ap reader (satellites-is (f-said l t w .0)) in
+      record {
+        columned = no-columns 4 k refl;
+        tells = no-layout 4 k refl;
+        event = λ z. not 4 k role.Event (event-is z) refl;
+        satellites = λ z. (t, record { is = w; reads = satellite-exactly t l .1 w });
+      }
 
 -- with no line that tells it a layout is empty
 none-told : (f : Family) {layout : Layout} {ls : List (List ℕ)} → AtMostOne f layout ls → Each (λ l. getD l 0 0 ≡ layoutLetter f → ⊥) ls → layout ≡ emptyLayout
@@ -245,7 +290,7 @@ module _ (layouts : Layouts) (can-tell : (f : Family) → IsTold f (layoutOf f l
   items-read (untimed w r) = (untimed-item w, items-read r)
 
   body-reads : {ls : List (List ℕ)} {ts : List ℕ} → Body layouts ls ts → Each (ReadsLine layouts) ls
-  unfolding isAmong bytes
+  unfolding kindOf
   body-reads (undeclared {ls = ls} i) = each-map ls (λ l x. x .0) (items-read i)
   body-reads (grammar.declared pre hd points after h i no-b w ps c j) =
       each-join (ReadsLine layouts) pre (hd ∷ (points ++ after)) (each-map pre (λ l x. x .0) (items-read i)) (
@@ -267,9 +312,21 @@ module _ (layouts : Layouts) (can-tell : (f : Family) → IsTold f (layoutOf f l
 
 -- ---- the lines before the body, and those behind it
 
+-- what is so of each family's layout lines is so of them all, and back
+told-each : (p : Parts) (P : List ℕ → Type 0) → ((f : Family) → Each P (p .told f)) → Each P (toldIn p)
+told-each p P h =
+    each-join P (p .told family.B) (p .told (family.Extra extra.K) ++ p .told (family.Extra extra.N)) (h family.B)
+    (each-join P (p .told (family.Extra extra.K)) (p .told (family.Extra extra.N)) (h (family.Extra extra.K)) (h (family.Extra extra.N)))
+
+each-told : (p : Parts) (P : List ℕ → Type 0) → Each P (toldIn p) → (f : Family) → Each P (p .told f)
+each-told p P h =
+    let b = each-cut P (p .told family.B) (p .told (family.Extra extra.K) ++ p .told (family.Extra extra.N)) h in
+    let x = each-cut P (p .told (family.Extra extra.K)) (p .told (family.Extra extra.N)) (b .1) in
+    every (λ f. Each P (p .told f)) (b .0) (x .0) (x .1)
+
 module _ {seal : Seal} {p : Parts} {date : Date} {layouts : Layouts} {times : List ℕ} (w : Keeps seal p date layouts times) where
   abbrev pub front : List (List ℕ)
-  front = p .recorder ∷ p .day ∷ (p .headers ++ (p .told family.B ++ p .told family.K))
+  front = p .recorder ∷ p .day ∷ (p .headers ++ toldIn p)
 
   abbrev pub back : List (List ℕ)
   back = p .seals ++ p .remarks
@@ -283,8 +340,7 @@ module _ {seal : Seal} {p : Parts} {date : Date} {layouts : Layouts} {times : Li
     rw (w .recorder .letter),
     (
       rw (w .day .text),
-      each-join Aside (p .headers) (p .told family.B ++ p .told family.K) (each-map (p .headers) (λ l h. rw (h .letter)) (w .headers))
-          (each-join Aside (p .told family.B) (p .told family.K) (one-aside family.B (w .told .0)) (one-aside family.K (w .told .1))),
+      each-join Aside (p .headers) (toldIn p) (each-map (p .headers) (λ l h. rw (h .letter)) (w .headers)) (told-each p Aside (λ f. one-aside f (w .told f))),
     ),
   )
 
@@ -293,21 +349,21 @@ module _ {seal : Seal} {p : Parts} {date : Date} {layouts : Layouts} {times : Li
   back-by P g r = each-join P (p .seals) (p .remarks) (each-map (p .seals) g (w .seals)) (each-map (p .remarks) r (w .remarks))
 
   can-tell-of : (f : Family) → IsTold f (layoutOf f layouts)
-  can-tell-of f = told f (told-of layouts p (w .told) f)
+  can-tell-of f = told f (w .told f)
 
   front-reads : Each (ReadsLine layouts) front
-  unfolding isAmong bytes
+  unfolding kindOf
   front-reads = (
     idle layouts (p .recorder) (rw (w .recorder .letter)),
     (
       idle layouts (p .day) (rw (w .day .text)),
-      each-join (ReadsLine layouts) (p .headers) (p .told family.B ++ p .told family.K) (each-map (p .headers) (λ l h. idle layouts l (rw (h .letter))) (w .headers))
-          (each-join (ReadsLine layouts) (p .told family.B) (p .told family.K) (one-by family.B (w .told .0) (λ l. layout-reads layouts l family.B)) (one-by family.K (w .told .1) (λ l. layout-reads layouts l family.K))),
+      each-join (ReadsLine layouts) (p .headers) (toldIn p) (each-map (p .headers) (λ l h. idle layouts l (rw (h .letter))) (w .headers))
+          (told-each p (ReadsLine layouts) (λ f. one-by f (w .told f) (λ l. layout-reads layouts l f))),
     ),
   )
 
   keeps-reads : Each (ReadsLine layouts) (linesIn p)
-  unfolding isAmong bytes
+  unfolding kindOf
   keeps-reads =
       subst (Each (ReadsLine layouts)) (sym in-three)
       (each-join (ReadsLine layouts) front (p .body ++ back) front-reads
@@ -316,8 +372,7 @@ module _ {seal : Seal} {p : Parts} {date : Date} {layouts : Layouts} {times : Li
 
   -- where no line tells a layout, it is empty
   untold : (f : Family) → Each (λ l. getD l 0 0 ≡ layoutLetter f → ⊥) (linesIn p) → layoutOf f layouts ≡ emptyLayout
-  untold family.B h = none-told family.B (w .told .0) (each-cut _ (p .told family.B) _ (each-cut _ (p .headers) _ (h .1 .1) .1) .0)
-  untold family.K h = none-told family.K (w .told .1) (each-cut _ (p .told family.K) _ (each-cut _ (p .told family.B) _ (each-cut _ (p .headers) _ (h .1 .1) .1) .1) .0)
+  untold f h = none-told f (w .told f) (each-told p _ (each-cut _ (toldIn p) _ (each-cut _ (p .headers) _ (h .1 .1) .1) .0) f)
 
   keeps-declares : ReadsDeclaration (linesIn p)
   keeps-declares =
@@ -358,16 +413,14 @@ readable seal file table f e =
       texts = m .texts;
       lengths = sym (total-is ls) ∙ ap splitting.total (sym c) ∙ lengths-total file (accepted-whole seal file (some (length table)) f e);
       counted = n;
-      bs = sym (ap (λ x. x .counts .b) (w .2));
-      ks = sym (ap (λ x. x .counts .k) (w .2));
+      counts = λ g. sym (ap (λ (x : Flight). countOf g (x .counts)) (w .2)) ∙ every (λ f. countOf f (flightOf m .counts) ≡ beginning (lineLetter f) ls) refl refl refl g;
       entered = entered seal file table ls end c (g ∙ n) (leb-true _ _ (w .1));
       bounds = λ i h. number i h .bounds ∙ ap₂ (λ o x. says (record { from = o; to = o + length x })) (offset i h) (text i);
       numbered = λ i h. number i h .bytes ∙ text i;
       stepping = steps-over file ls 0 (subst (splitting.Steps file 0) c (steps file));
       date = subst (λ (x : Flight). ReadsValue dateSaid IsDateLine (x .date) (m .parts .day)) (w .2) (record { is = m .keeps .day; reads = date-exactly (m .date) (m .parts .day) .1 (m .keeps .day) });
       reads = subst (λ (x : Flight). Each (ReadsLine (x .layouts)) ls) (w .2) (keeps-reads (m .keeps));
-      no-i = λ h. subst (λ (x : Flight). x .layouts .b ≡ emptyLayout) (w .2) (untold (m .keeps) family.B h);
-      no-j = λ h. subst (λ (x : Flight). x .layouts .k ≡ emptyLayout) (w .2) (untold (m .keeps) family.K h);
+      untold = λ g h. subst (λ (x : Flight). layoutOf g (x .layouts) ≡ emptyLayout) (w .2) (untold (m .keeps) g h);
       layouts = λ g. subst (λ (x : Flight). ReadsLayout g (layoutOf g (x .layouts))) (w .2) (by-layout.layout-reads g (layoutOf g (m .layouts)) (can-tell-of (m .keeps) g));
       presence = subst (λ (x : Flight). ReadsPresence (x .layouts .b)) (w .2) (presence-reads (m .layouts .b) (can-tell-of (m .keeps) family.B));
       declaration = keeps-declares (m .keeps);

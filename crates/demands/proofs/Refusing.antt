@@ -1,5 +1,5 @@
 -- A file is refused with a number, line and byte exactly when that refusal's meaning holds of it; and what lines that pass tell, in the grammar's words: a declaration that
--- is open is a head and its first points, and at most one I and one J line tell the columns. Assumes nothing.
+-- is open is a head and its first points, and at most one I, one J and one M line tell the columns. Assumes nothing.
 use Prim.Native.Nat.{ℕ, _+_, _-_, _≤_, suc, _<_}
 use Prim.Native.Char.{code}
 use mathlib.Core.Bool.{Bool, true, false, _||_, cond, or-true}

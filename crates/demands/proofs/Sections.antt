@@ -26,6 +26,7 @@ use Rattle.rules.specs.declared.Layout.{Layout}
 use Rattle.rules.specs.declared.Layouts.{Layouts}
 use Rattle.rules.specs.declared.Counts.{Counts}
 use Rattle.rules.specs.declared.Family.{Family}
+use Rattle.rules.specs.declared.Extra.the-variants as extra
 use Rattle.rules.specs.declared.Family.the-variants as family
 use Rattle.rules.specs.declared.Seal.the-variants as needs
 use Rattle.rules.proofs.Inverse.{refuses-says, false-true}
@@ -34,8 +35,9 @@ use Rattle.laws.proofs.Splitting.{Text, cut, lines-of-line}
 use Rattle.laws.proofs.Counted.{judged-more}
 use Rattle.demands.specs.Grammar.{IsText, joinLines, Follows, OrderFrom, IsHLine, IsPointLine, IsLLine, IsGLine, AtMostOne, absent, given, Timed, columned, event, satellites, Untimed, differential, remark, other, Items, Body, undeclared, declared, SealedBy}
 use Rattle.demands.specs.Grammar as grammar
+use Rattle.sound.proofs.Families.{put-own, put-others}
 use Rattle.demands.proofs.EachLine.{e-said, f-said, columned-letter}
-use Rattle.demands.proofs.Leading.{put-own, put-others, Part, recorder, header, telling, body, seals, remarks, countedBy, afterTimed, InBody, head, point, timed, quiet, Leads, a-line, date-line, h-line, layout-line, body-line, g-line, l-line, Sound, judge-leads, leads-judge, stays-sound}
+use Rattle.demands.proofs.Leading.{Part, recorder, header, telling, body, seals, remarks, countedBy, afterTimed, InBody, head, point, timed, quiet, Leads, a-line, date-line, h-line, layout-line, body-line, g-line, l-line, Sound, judge-leads, leads-judge, stays-sound}
 
 -- ---- a run of good lines
 
@@ -177,14 +179,15 @@ rank seals = afterG
 rank remarks = afterLastG
 
 part-of : ℕ → Part
-part-of n = getD (recorder ∷ recorder ∷ header ∷ telling family.B ∷ telling family.K ∷ body ∷ seals ∷ remarks ∷ []) n recorder
+part-of n = getD (recorder ∷ recorder ∷ header ∷ telling family.B ∷ telling (family.Extra extra.K) ∷ telling (family.Extra extra.N) ∷ body ∷ seals ∷ remarks ∷ []) n recorder
 
 part-back : (p : Part) → part-of (rank p) ≡ p
 unfolding part-of
 part-back recorder = refl
 part-back header = refl
 part-back (telling family.B) = refl
-part-back (telling family.K) = refl
+part-back (telling (family.Extra extra.K)) = refl
+part-back (telling (family.Extra extra.N)) = refl
 part-back body = refl
 part-back seals = refl
 part-back remarks = refl
@@ -195,7 +198,8 @@ same-part p q e = sym (part-back p) ∙ ap part-of e ∙ part-back q
 -- layouts are told behind the headers, and before the body
 pub layout-stage : (f : Family) → (afterH ≤ afterLayout f - 1) × (afterLayout f ≤ inBody - 1)
 layout-stage family.B = (omega arith, omega arith)
-layout-stage family.K = (omega arith, omega arith)
+layout-stage (family.Extra extra.K) = (omega arith, omega arith)
+layout-stage (family.Extra extra.N) = (omega arith, omega arith)
 
 body-ranks : {st : State} {l : List ℕ} {m : State} → InBody st l m → m .stage ≡ inBody
 body-ranks (head h z d b w) = refl
@@ -289,7 +293,7 @@ headers-here (l ∷ hs) st h n e p =
     let r = headers-here hs (moved afterH st) (h .1) (omega arith) refl p in
     (r .0, also {st = st} (h-line (omega arith) (omega arith) p (λ z. omega arith) (h .0)) (r .1))
 
--- ---- I and J lines
+-- ---- I, J and M lines
 
 pub record LayoutThere (f : Family) (st : State) (ls : List (List ℕ)) (m : State) : Type 0 where
   pub one : AtMostOne f (layoutOf f (m .flight .layouts)) ls
@@ -342,7 +346,8 @@ untimed-not-b (other w) e = omega (arith, w .from)
 counted-by : {layouts : Layouts} {t : ℕ} (l : List ℕ) (w : Timed layouts t l) (ns : Counts)
     → countOf family.B (countedBy w ns) ≡ countOf family.B ns + cond (eqb (getD l 0 0) (code "B")) 1 0
 counted-by {layouts} {t} l (columned family.B w) ns = rw (columned-letter family.B (layouts .b) t l w)
-counted-by {layouts} {t} l (columned family.K w) ns = rw (columned-letter family.K (layouts .k) t l w) (omega arith)
+counted-by {layouts} {t} l (columned (family.Extra extra.K) w) ns = rw (columned-letter (family.Extra extra.K) (layouts .k) t l w) (omega arith)
+counted-by {layouts} {t} l (columned (family.Extra extra.N) w) ns = rw (columned-letter (family.Extra extra.N) (layouts .n) t l w) (omega arith)
 counted-by {layouts} {t} l (event w) ns = rw (e-said l t w .0) (omega arith)
 counted-by {layouts} {t} l (satellites w) ns = rw (f-said l t w .0) (omega arith)
 

@@ -34,9 +34,10 @@ use Rattle.demands.specs.Grammar as grammar
 use Rattle.demands.specs.Coming.{orZero, isAmong, only, without, endsWith, pointsOf, isOpen, lettersBefore, those, firstEntries, timedLetters, lastTime}
 use Rattle.demands.specs.FieldTexts.{Letter}
 use Rattle.sound.proofs.Each.{each-join}
+use Rattle.sound.proofs.Families.{every, none-pass, put-by, same-family, is-same}
 use Rattle.demands.proofs.EachLine.{head-reads, head-said, head-there, point-there}
 use Rattle.demands.proofs.LayoutLines.{there, layout-laid, layout-there, layout-said}
-use Rattle.demands.proofs.Leading.{every, put-by, same-family, is-same, letter, tells-letter, isTelling, isSealing, leadsTo, letter-tests, counts-more, Sound, sound-start, some-points, plain-fits, head-fits, order-inv, judge-leads, stays-sound, none-pass}
+use Rattle.demands.proofs.Leading.{letter, tells-letter, isTelling, isSealing, leadsTo, letter-tests, counts-more, Sound, sound-start, some-points, plain-fits, head-fits, order-inv, judge-leads, stays-sound}
 use Rattle.demands.proofs.Sections.{layout-stage}
 
 -- ---- what a line tells of itself
@@ -298,10 +299,10 @@ stands-start = record {
   sound = sound-start;
   staged = staged-start;
   lines = refl;
-  counts = every (λ f. countOf f (start .flight .counts) ≡ beginning (lineLetter f) []) refl refl;
+  counts = every (λ f. countOf f (start .flight .counts) ≡ beginning (lineLetter f) []) refl refl refl;
   declaration = undeclared tt;
   clock = refl;
-  told = every (λ f. AtMostOne f (layoutOf f (start .flight .layouts)) (those (layoutLetter f) [])) absent absent;
+  told = every (λ f. AtMostOne f (layoutOf f (start .flight .layouts)) (those (layoutLetter f) [])) absent absent absent;
 }
 
 -- a family's layout is that of the entries that were told

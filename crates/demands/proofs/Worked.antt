@@ -14,6 +14,7 @@ use Rattle.rules.specs.Families.{lineLetter, layoutOf}
 use Rattle.rules.specs.Degrees.{isPosition}
 use Rattle.rules.specs.Layouts.{emptyLayout}
 use Rattle.rules.specs.declared.Entry.{Entry}
+use Rattle.rules.specs.declared.Family.{Family}
 use Rattle.rules.specs.declared.Family.the-variants as family
 use Rattle.rules.specs.declared.Layouts.{Layouts}
 use Rattle.rules.specs.declared.Fix.{Fix}
@@ -28,12 +29,12 @@ use Rattle.words.proofs.Characters.{codes-exactly, word-exactly}
 use Rattle.words.proofs.Codes.{width-exactly, rule-exactly}
 use Rattle.words.proofs.Values.{fix-exactly}
 use Rattle.demands.specs.Coming.{isAmong}
-use Rattle.demands.specs.Grammar.{IsText, july, absent, given, Timed, columned, event, satellites, Items, done, timed, untimed, Body, undeclared, declared, none, column, linesIn, Meets, joinLines}
+use Rattle.demands.specs.Grammar.{IsText, july, AtMostOne, absent, given, Timed, columned, event, satellites, Items, done, timed, untimed, Body, undeclared, declared, none, column, linesIn, Meets, joinLines}
 use Rattle.laws.proofs.Splitting.{lines-are-text}
 use Rattle.demands.proofs.Sections.{text-is}
 use Rattle.sound.proofs.Each.{each-map, each-join, each-cut}
+use Rattle.sound.proofs.Families.{every, none-pass}
 use Rattle.demands.proofs.Laws.{are-valid}
-use Rattle.demands.proofs.Leading.{every, none-pass}
 use Rattle.demands.proofs.EachLine.{columned-letter, head-said, point-said}
 use Rattle.demands.proofs.Reading.{Aside, other-than, untimed-aside, front, back, in-three, front-aside, back-by}
 
@@ -55,6 +56,13 @@ theFix = record {
   gnss = record { metres = pos 120 };
 }
 
+-- an I line, and neither a J nor an M line
+abbrev toldFive : Family → List (List ℕ)
+toldFive = every (λ f. List (List ℕ)) (bytes "I023638FXA3940SIU" ∷ []) [] []
+
+abbrev layoutsFive : Layouts
+layoutsFive = record { b = fiveLayout; k = emptyLayout; n = emptyLayout }
+
 pub five-meet : Meets seal.Strict fiveLines
 unfolding everything fileOf joinLines areValid fxa siu theFix goodFixFields isPosition isAltitude
 five-meet = record {
@@ -64,7 +72,7 @@ five-meet = record {
     recorder = bytes "AXYZ001";
     day = bytes "HFDTE150724";
     headers = [];
-    told = every (λ f. List (List ℕ)) (bytes "I023638FXA3940SIU" ∷ []) [];
+    told = toldFive;
     body = bytes "B1200005130000N00015000WA001000012001208" ∷ [];
     seals = bytes "GABC" ∷ [];
     remarks = [];
@@ -75,7 +83,7 @@ five-meet = record {
       let b : IsText (bytes "B1200005130000N00015000WA001000012001208") = text-is (bytes "B1200005130000N00015000WA001000012001208") (h .1 .1 .1 .0) in
       (text-is (bytes "AXYZ001") (h .0), (text-is (bytes "HFDTE150724") (h .1 .0), (text-is (bytes "I023638FXA3940SIU") (h .1 .1 .0), (b, (text-is (bytes "GABC") (h .1 .1 .1 .1 .0), tt)))));
   date = record { day = 15; month = 7; year = 2024 };
-  layouts = record { b = fiveLayout; k = emptyLayout };
+  layouts = layoutsFive;
   times = 43200 ∷ [];
   keeps = record {
     recorder = record {
@@ -86,20 +94,20 @@ five-meet = record {
     };
     day = record { text = refl; day = record { from = lit≤ tt; to = lit≤ tt; days = 31; month = july; low = lit≤ tt; high = lit≤ tt } };
     headers = tt;
-    told = (
-      given (record {
-        entries = fxa ∷ siu ∷ [];
-        tiles = (
-          record { starts = refl; ends = lit≤ tt; spelt = lit≤ tt; word = word-exactly 0x465841 .0 refl; wide = width-exactly 0x465841 3 .0 refl },
-          ((λ e. omega arith), tt),
-          (record { starts = refl; ends = lit≤ tt; spelt = lit≤ tt; word = word-exactly 0x534955 .0 refl; wide = width-exactly 0x534955 2 .0 refl }, tt, tt),
-        );
-        text = refl;
-        short = lit≤ tt;
-        slots = refl;
-      }),
-      absent,
-    );
+    told = every (λ f. AtMostOne f (layoutOf f layoutsFive) (toldFive f))
+        (given (record {
+          entries = fxa ∷ siu ∷ [];
+          tiles = (
+            record { starts = refl; ends = lit≤ tt; spelt = lit≤ tt; word = word-exactly 0x465841 .0 refl; wide = width-exactly 0x465841 3 .0 refl },
+            ((λ e. omega arith), tt),
+            (record { starts = refl; ends = lit≤ tt; spelt = lit≤ tt; word = word-exactly 0x534955 .0 refl; wide = width-exactly 0x534955 2 .0 refl }, tt, tt),
+          );
+          text = refl;
+          short = lit≤ tt;
+          slots = refl;
+        }))
+        absent
+        absent;
     body = undeclared (timed (columned family.B (
       theFix,
       refl,
@@ -126,7 +134,7 @@ NoG l = getD l 0 0 ≡ code "G" → ⊥
 
 aside-no-g : (l : List ℕ) → Aside l → NoG l
 unfolding isAmong bytes
-aside-no-g l n = other-than (bytes "BCGK") l (code "G") refl n
+aside-no-g l n = other-than (bytes "BCGKN") l (code "G") refl n
 
 module _ {layouts : Layouts} where
   timed-no-g : {t : ℕ} (l : List ℕ) → Timed layouts t l → NoG l

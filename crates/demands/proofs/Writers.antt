@@ -17,6 +17,7 @@ use Rattle.rules.specs.Refusals.{Said, says, no, number}
 use Rattle.rules.specs.Writes.{crlf, extraText, wroteTold, written, outAfter}
 use Rattle.rules.specs.Promises.{Written}
 use Rattle.rules.specs.declared.Reason.the-variants.{BadValue, NoRoom}
+use Rattle.rules.specs.declared.Extra.{Extra}
 use Rattle.rules.specs.declared.Wrote.{Wrote}
 use Rattle.rules.specs.Limits.{isClean, badTail, goodTail, goodExtra}
 use Rattle.rules.proofs.Inverse.{false-true, refuses-says}
@@ -136,17 +137,17 @@ trip-ways {said = said} {text = text} {fields = fields} {limits = limits} test t
 
 -- ---- what is not both ways
 
--- midnight, with no columns, is within the limits of a K line
+-- midnight, with no columns, is within the limits of a K or an N line
 nothing-good : goodExtra 0 [] emptyLayout ≡ true
 unfolding goodExtra goodTail badTail isClean firstInvalid firstOf allowed allPlaced leads isUnused lineLength
 nothing-good = refl
 
--- a reader of K lines that refuses everything is not both ways, whatever its writer tests
-pub not-refusing : (said : List ℕ → Said ℕ) (test : ℕ × List ℕ → Bool) → ((l : List ℕ) (t : ℕ) → said l ≡ says t → ⊥)
-    → BothWays (ReadsAs said 7) (λ v. extraText (v .0) (v .1)) test (λ v. goodExtra (v .0) (v .1) emptyLayout) → ⊥
-not-refusing said test never b = never (extraText 0 []) 0 (b .reads-exactly (extraText 0 []) (0, []) .1 (refl, nothing-good) .0)
+-- a reader of K or of N lines that refuses everything is not both ways, whatever its writer tests
+pub not-refusing : (x : Extra) (said : List ℕ → Said ℕ) (test : ℕ × List ℕ → Bool) → ((l : List ℕ) (t : ℕ) → said l ≡ says t → ⊥)
+    → BothWays (ReadsAs said 7) (λ v. extraText x (v .0) (v .1)) test (λ v. goodExtra (v .0) (v .1) emptyLayout) → ⊥
+not-refusing x said test never b = never (extraText x 0 []) 0 (b .reads-exactly (extraText x 0 []) (0, []) .1 (refl, nothing-good) .0)
 
 -- nor is one that always says the same time
-pub not-stock : (t : ℕ) (test limits : ℕ × List ℕ → Bool) → BothWays (ReadsAs (λ l. says t) 7) (λ v. extraText (v .0) (v .1)) test limits → ⊥
+pub not-stock : (x : Extra) (t : ℕ) (test limits : ℕ × List ℕ → Bool) → BothWays (ReadsAs (λ l. says t) 7) (λ v. extraText x (v .0) (v .1)) test limits → ⊥
 unfolding extraText
-not-stock t test limits b = let n = ap length (b .reads-exactly [] (t, []) .0 (refl, refl) .0) in omega arith
+not-stock x t test limits b = let n = ap length (b .reads-exactly [] (t, []) .0 (refl, refl) .0) in omega arith

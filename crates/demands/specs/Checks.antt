@@ -87,7 +87,7 @@ shapeChecks least most inH l =
 unfoldable pub columnChecks : List ℕ → List Entry → List Check
 columnChecks l es = oneEach 13 (λ i e. e .first) (λ e. keepsRule (e .code) (columnText l (spanOf e))) es 0
 
--- "B, E, F and K lines run in time order."; "14 BACK: time falls; line, 2"
+-- "B, E, F and K lines run in time order."; of N: "and it joins the time order"; "14 BACK: time falls; line, 2"
 abbrev pub timeCheck : List (List ℕ) → List ℕ → Check
 timeCheck ls l = check 14 2 (isInTime (lastTime ls) (orZero (timeAt l (byte 2))))
 
@@ -118,7 +118,7 @@ entryChecks (suc left) l at start before =
 -- ---- "in a line 3 to 15 in this order": 7 to 14, role by role; "9 FORM: first field against its rule; line, field's first byte"
 
 -- "I, J 3 to 99"; "In I and J, NN and the length against it come first (9, byte 2), then entries from the left"; "The length is 3 + 7 × NN. The first entry starts at
--- 36 (I) or 8 (J)"
+-- 36 (I) or 8 (J)"; "M is built as J is"
 abbrev pub layoutChecks : Family → List ℕ → List Check
 layoutChecks f l =
     shapeChecks 3 99 false l ++ (
@@ -152,7 +152,7 @@ abbrev pub pointChecks : List ℕ → List Check
 pointChecks l =
     shapeChecks 18 255 false l ++ (field class.Position 2 (isThere (latitudeAt l (byte 2))) ∷ field class.Position 10 (isThere (longitudeAt l (byte 10))) ∷ [])
 
--- "B and K exactly what their layout gives"
+-- "B and K exactly what their layout gives"; of N: "exact length"
 abbrev pub sizeChecks : Family → List Entry → List ℕ → List Check
 sizeChecks f es l = shapeChecks (sizeOf f es) (sizeOf f es) false l
 
@@ -167,12 +167,12 @@ fixChecks l =
     ∷ field class.Altitude 31 (isThere (altitudeAt l (byte 31)))
     ∷ []
 
--- the fields of a line of a family: of a B line those of a fix; "K: time 2 to 7"
+-- the fields of a line of a family: of a B line those of a fix; "K: time 2 to 7", of N "time at 2 to 7"
 abbrev pub fieldChecks : Family → List ℕ → List Check
 fieldChecks family.B l = fixChecks l
-fieldChecks family.K l = field class.Time 2 (isThere (timeAt l (byte 2))) ∷ []
+fieldChecks (family.Extra x) l = field class.Time 2 (isThere (timeAt l (byte 2))) ∷ []
 
--- "B and K exactly what their layout gives"; "columns from 36", "columns from 8"
+-- "B and K exactly what their layout gives"; "columns from 36", "columns from 8"; of N: "columns from 8, exact length, listed codes checked"
 abbrev pub lineChecks : Family → List Entry → List ℕ → List Check
 lineChecks f es l = sizeChecks f es l ++ (fieldChecks f l ++ columnChecks l es)
 
@@ -199,7 +199,7 @@ roleChecks role.Opens ls l = shapeChecks 7 255 false l ++ (field class.Other 2 (
 -- "line 2 is H, then further H lines"
 roleChecks role.Heads ls l = cond (eqb (length ls) 1) (dateChecks l) (headerChecks l)
 roleChecks (role.Tells f) ls l = layoutChecks f l
--- by the I line before, or by the J line before
+-- by the I line before, by the J line before, or by the M line before
 roleChecks (role.Columned f) ls l = thenTime (lineChecks f (entriesTold f ls) l) ls l
 -- "a C head, then at once its point lines"
 roleChecks role.Declares ls l = cond (isOpen ls) (pointChecks l) (headChecks l)
@@ -212,7 +212,7 @@ roleChecks role.Differential ls l =
 roleChecks role.Seals ls l = shapeChecks 2 255 false l
 -- "L 1 to 99"
 roleChecks role.Remark ls l = shapeChecks 1 99 false l
--- "other 1 to 255"; "M to Z are 'other' and carried (h)."
+-- "other 1 to 255"; "M to Z are 'other' and carried (h)."; "M and N are 'other' no more"
 roleChecks role.Other ls l = shapeChecks 1 255 false l
 roleChecks role.NoRole ls l = []
 

@@ -15,6 +15,7 @@ use Rattle.rules.specs.Numbers.{numberAt}
 use Rattle.rules.specs.Fields.{timeAt}
 use Rattle.rules.specs.Listed.{codeAt}
 use Rattle.rules.specs.declared.Entry.{Entry}
+use Rattle.rules.specs.declared.Extra.the-variants as extra
 use Rattle.rules.specs.declared.Family.{Family}
 use Rattle.rules.specs.declared.Family.the-variants as family
 use Rattle.rules.specs.declared.Head.{Head}
@@ -73,19 +74,21 @@ pub record Open (ls : List (List ℕ)) : Type 0 where
 
 -- ---- which kind may come
 
--- "After these come C, D, E, F, B, K, L and other": behind the first two lines, and before the first G
+-- "After these come C, D, E, F, B, K, L and other", and N: behind the first two lines, and before the first G
 unfoldable pub isBody : List (List ℕ) → Bool
 isBody ls = leb 2 (length ls) && without (code "G") ls
 
--- "Line 1 is A, line 2 is H, then further H lines, then at most one I, then at most one J.": the letters of the lines before an I line, and before a J line
+-- "Line 1 is A, line 2 is H, then further H lines, then at most one I, then at most one J."; of M: "straight after J, or after I or the H lines if those are missing": the letters
+-- of the lines before an I line, before a J line, and before an M line
 abbrev pub lettersBefore : Family → List ℕ
 unfolding bytes
 lettersBefore family.B = bytes "AH"
-lettersBefore family.K = bytes "AHI"
+lettersBefore (family.Extra extra.K) = bytes "AHI"
+lettersBefore (family.Extra extra.N) = bytes "AHIJ"
 
 -- "Line 1 is A, line 2 is H, then further H lines, then at most one I, then at most one J. After these come C, D, E, F, B, K, L and other, with no further A, H,
 -- I, J. At most one declaration (h), begun before the first B: a C head, then at once its point lines .. Then one or more G lines. After the first G only G or L;
--- after an L that follows a G, only L. So a B after G is refused, as 000 A2.3.1 demands."
+-- after an L that follows a G, only L. So a B after G is refused, as 000 A2.3.1 demands." With B and K come N lines; and "M is built as J is, at most one".
 unfoldable pub mayCome : Role → List (List ℕ) → Bool
 unfolding bytes
 -- line 1, and "no further A"
@@ -108,7 +111,7 @@ mayCome role.Remark ls = not (isOpen ls) && leb 2 (length ls)
 mayCome role.Seals ls = not (isOpen ls) && (leb 2 (length ls) && (without (code "G") ls || endsWith (code "G") ls))
 mayCome role.NoRole ls = false
 
--- ---- the columns that an I or a J line tells
+-- ---- the columns that an I, a J or an M line tells
 
 -- "start SS, finish FF and a code CCC", behind `at` bytes
 abbrev pub entryOf : List ℕ → ℕ → Entry
@@ -129,7 +132,7 @@ abbrev pub firstEntries : List (List ℕ) → List Entry
 firstEntries [] = []
 firstEntries (l ∷ ls) = entriesIn (orZero (numberAt l (byte 2) 2)) l (byte 4)
 
--- the entries of the I line, for B lines, or of the J line, for K lines; none where there is "no such line"
+-- the entries of the I line, for B lines, of the J line, for K lines, or of the M line, for N lines; none where there is "no such line"
 abbrev pub entriesTold : Family → List (List ℕ) → List Entry
 entriesTold f ls = firstEntries (those (layoutLetter f) ls)
 
@@ -138,23 +141,23 @@ unfoldable pub endsAt : ℕ → List Entry → ℕ
 endsAt n [] = n
 endsAt n (e ∷ es) = endsAt (e .last) es
 
--- "A line of that kind ends at the last FF; with NN 00, or no such line, B has 35 and K has 7."
+-- "A line of that kind ends at the last FF; with NN 00, or no such line, B has 35 and K has 7."; "N is built as K is"
 abbrev pub sizeOf : Family → List Entry → ℕ
 sizeOf family.B es = endsAt 35 es
-sizeOf family.K es = endsAt 7 es
+sizeOf (family.Extra x) es = endsAt 7 es
 
 -- ---- the time order
 
--- "B, E, F and K lines run in time order."
+-- "B, E, F and K lines run in time order."; of N: "and it joins the time order"
 abbrev pub timedLetters : List ℕ
-timedLetters = code "B" ∷ code "E" ∷ code "F" ∷ code "K" ∷ []
+timedLetters = code "B" ∷ code "E" ∷ code "F" ∷ code "K" ∷ code "N" ∷ []
 
--- the time, at 2 to 7, of the last B, E, F or K line, where there is one
+-- the time, at 2 to 7, of the last B, E, F, K or N line, where there is one
 unfoldable pub lastTime : List (List ℕ) → Option ℕ
 lastTime [] = none
 lastTime (l ∷ ls) = given (lastTime ls) (cond (isAmong timedLetters (getD l 0 0)) (timeAt l (byte 2)) none) λ t. some t
 
--- a B, E, F or K line
+-- a B, E, F, K or N line
 abbrev pub IsTimed : List ℕ → Type 0
 IsTimed l = isAmong timedLetters (getD l 0 0) ≡ true
 
@@ -165,7 +168,7 @@ NoTime l = IsTimed l → timeAt l (byte 2) ≡ none
 unfoldable pub isInTime : Option ℕ → ℕ → Bool
 isInTime before now = given before true λ t. leb t now || ltb 43200 (t - now)
 
--- the last B, E, F or K line with a time, and that time; each that has passed has one
+-- the last B, E, F, K or N line with a time, and that time; each that has passed has one
 pub record Latest (ls : List (List ℕ)) (t : ℕ) : Type 0 where
   pub before : List (List ℕ)
   pub line : List ℕ
@@ -179,7 +182,7 @@ pub record Latest (ls : List (List ℕ)) (t : ℕ) : Type 0 where
 
 pub record Meant (ls : List (List ℕ)) : Type 0 where
   pub declaration : (isOpen ls ≡ true) ↔ Open ls
-  -- "at most one I", "at most one J", and their entries
+  -- "at most one I", "at most one J", of M "at most one", and their entries
   pub told : (f : Family) → AtMostOne f (laid (entriesTold f ls)) (those (layoutLetter f) ls)
   -- the time before is that of the last timed line, and from it on a time is in order where it follows it
   pub latest : (t : ℕ) → lastTime ls ≡ some t → Latest ls t

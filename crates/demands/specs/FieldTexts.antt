@@ -18,6 +18,7 @@ use Rattle.rules.specs.Writes.{plannedText}
 use Rattle.rules.specs.Roles.{roleOf}
 use Rattle.rules.specs.Refusals.{number, reasonOf}
 use Rattle.rules.specs.declared.Class.{Class}
+use Rattle.rules.specs.declared.Extra.the-variants as extra
 use Rattle.rules.specs.declared.Family.the-variants as family
 use Rattle.rules.specs.declared.Role.{Role}
 use Rattle.rules.specs.declared.Role.the-variants as role
@@ -26,21 +27,23 @@ use Rattle.words.specs.Values.{IsTime, IsLatitude, IsLongitude, IsAltitude}
 use Rattle.demands.specs.Grammar.{IsDay, IsPlanned}
 use Rattle.demands.specs.Checks.{isThere, formNumber}
 
--- "The first byte, A to Z, is the kind. M to Z are 'other' and carried (h)."
+-- "The first byte, A to Z, is the kind. M to Z are 'other' and carried (h)."; "M and N are 'other' no more": O to Z are
 abbrev pub Letter : Role → ℕ → Type 0
 Letter role.Opens b = b ≡ code "A"
 Letter role.Heads b = b ≡ code "H"
 Letter (role.Tells family.B) b = b ≡ code "I"
-Letter (role.Tells family.K) b = b ≡ code "J"
+Letter (role.Tells (family.Extra extra.K)) b = b ≡ code "J"
+Letter (role.Tells (family.Extra extra.N)) b = b ≡ code "M"
 Letter (role.Columned family.B) b = b ≡ code "B"
-Letter (role.Columned family.K) b = b ≡ code "K"
+Letter (role.Columned (family.Extra extra.K)) b = b ≡ code "K"
+Letter (role.Columned (family.Extra extra.N)) b = b ≡ code "N"
 Letter role.Declares b = b ≡ code "C"
 Letter role.Event b = b ≡ code "E"
 Letter role.Satellites b = b ≡ code "F"
 Letter role.Differential b = b ≡ code "D"
 Letter role.Seals b = b ≡ code "G"
 Letter role.Remark b = b ≡ code "L"
-Letter role.Other b = (code "M" ≤ b) × (b ≤ code "Z")
+Letter role.Other b = (code "O" ≤ b) × (b ≤ code "Z")
 Letter role.NoRole b = (b < code "A") ⊎ (code "Z" < b)
 
 -- behind `at` bytes of the line this text stands

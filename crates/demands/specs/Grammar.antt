@@ -1,7 +1,9 @@
--- Document 01's rules of a whole file as a grammar, apart from any check: what a line of each kind is, which kind may follow which, and the order of times.
+-- Document 01's rules of a whole file as a grammar, with document 02's M and N lines, apart from any check: what a line of each kind is, which kind may follow which, and the
+-- order of times.
 -- A line with a date, a time, a layout or a position is the text of such values within their limits; the listed codes, the characters and the limits are document 01's own
--- words (crate words). Of the rules it has types; the texts of values; `firstStart` and `layoutLetter`, which `starts-exactly` and `letters-exactly` hold; `layoutOf`,
--- `entriesOf`, `emptyLayout` and `unused`, the parts of the answer's layouts; and `fieldsOf`, which `fix-fields-exactly` holds.
+-- words (crate words). Of the rules it has types and the texts of values. It has `firstStart`, `layoutLetter` and, in the text of a K or an N line, `lineLetter`:
+-- `starts-exactly` and `letters-exactly` hold these. It has `layoutOf`, which `answers-exactly` holds, with `entriesOf`, `emptyLayout` and `unused`, the parts of the answer's
+-- layouts; and `fieldsOf`, which `fix-fields-exactly` holds.
 use Prim.Native.Nat.{ℕ, _+_, _-_, _%_, _≤_, _<_}
 use Prim.Native.Char.{code}
 use mathlib.Core.Bool.{Bool, true, false, cond}
@@ -22,9 +24,12 @@ use Rattle.rules.specs.Writes.{fixText, extraText, entryTexts, headText, pointT
 use Rattle.rules.specs.declared.Date.{Date}
 use Rattle.rules.specs.declared.Entry.{Entry}
 use Rattle.rules.specs.declared.Layout.{Layout}
+use Rattle.rules.specs.declared.Extra.{Extra}
+use Rattle.rules.specs.declared.Extra.the-variants as extra
 use Rattle.rules.specs.declared.Family.{Family}
 use Rattle.rules.specs.declared.Family.the-variants as family
 use Rattle.rules.specs.declared.Layouts.{Layouts}
+use Rattle.rules.specs.declared.Counts.{Counts}
 use Rattle.rules.specs.declared.Fix.{Fix}
 use Rattle.rules.specs.declared.Planned.{Planned}
 use Rattle.rules.specs.declared.Planned.the-variants as planned
@@ -111,7 +116,7 @@ Tiles start (e ∷ es) = IsEntry start e × Each (λ x. x .code ≡ e .code → 
 abbrev pub laid : List Entry → Layout
 laid es = record { count = length es; entries = es ++ replicate (13 - length es) unused }
 
--- "I, J 3 to 99"; "NN, then NN entries of start SS, finish FF and a code CCC .. The length is 3 + 7 × NN. The first entry starts at 36 (I) or 8 (J)"
+-- "I, J 3 to 99"; "NN, then NN entries of start SS, finish FF and a code CCC .. The length is 3 + 7 × NN. The first entry starts at 36 (I) or 8 (J)"; "M is built as J is"
 pub record IsLayoutLine (f : Family) (layout : Layout) (l : List ℕ) : Type 0 where
   pub entries : List Entry
   pub tiles : Tiles (firstStart f) entries
@@ -188,17 +193,17 @@ pub record IsBLine (layout : Layout) (f : Fix) (l : List ℕ) : Type 0 where
   pub fields : IsFixFields (fieldsOf f)
   pub columns : Columns (entriesOf layout) tail
 
--- "K: time 2 to 7, columns from 8."; "B and K exactly what their layout gives"
-pub record IsKLine (layout : Layout) (t : ℕ) (l : List ℕ) : Type 0 where
+-- "K: time 2 to 7, columns from 8."; "B and K exactly what their layout gives"; "N is built as K is: time at 2 to 7, columns from 8, exact length, listed codes checked"
+pub record IsExtraLine (x : Extra) (layout : Layout) (t : ℕ) (l : List ℕ) : Type 0 where
   pub tail : List ℕ
-  pub text : l ≡ extraText t tail
+  pub text : l ≡ extraText x t tail
   pub time : IsTime t
   pub columns : Columns (entriesOf layout) tail
 
--- a B line or a K line, by its layout, and its time
+-- a B line, a K line or an N line, by its layout, and its time
 abbrev pub IsColumned : Family → Layout → ℕ → List ℕ → Type 0
 IsColumned family.B layout t l = (f : Fix) × (fieldsOf f .time ≡ t) × IsBLine layout f l
-IsColumned family.K layout t l = IsKLine layout t l
+IsColumned (family.Extra x) layout t l = IsExtraLine x layout t l
 
 -- "L 1 to 99"
 pub record IsLLine (l : List ℕ) : Type 0 where
@@ -210,13 +215,13 @@ pub record IsGLine (l : List ℕ) : Type 0 where
   pub letter : getD l 0 0 ≡ code "G"
   pub shape : Shaped 2 255 false l
 
--- "other 1 to 255"; "M to Z are 'other' and carried (h)."
+-- "other 1 to 255"; "M to Z are 'other' and carried (h)."; "M and N are 'other' no more": O to Z
 pub record IsOtherLine (l : List ℕ) : Type 0 where
-  pub from : code "M" ≤ getD l 0 0
+  pub from : code "O" ≤ getD l 0 0
   pub to : getD l 0 0 ≤ code "Z"
   pub shape : Shaped 1 255 false l
 
--- ---- "B, E, F and K lines run in time order."
+-- ---- "B, E, F and K lines run in time order."; of N: "and it joins the time order"
 
 -- "A fall of more than 43,200 seconds from the one before counts as the next day; a smaller fall, or one of exactly 43,200, is refused (h). Equal times are fine."
 abbrev pub Follows : ℕ → ℕ → Type 0
@@ -234,7 +239,7 @@ InOrder (t ∷ ts) = OrderFrom t ts
 
 -- ---- 'Which kind may follow which'
 
--- "at most one I", "at most one J": the layout of its lines; "with NN 00, or no such line", the empty one
+-- "at most one I", "at most one J", of M "at most one": the layout of its lines; "with NN 00, or no such line", the empty one
 pub data AtMostOne (f : Family) : Layout → List (List ℕ) → Type 0 where
   absent : AtMostOne f emptyLayout []
   given : {layout : Layout} {l : List ℕ} → IsLayoutLine f layout l → AtMostOne f layout (l ∷ [])
@@ -251,7 +256,7 @@ pub data Untimed (l : List ℕ) : Type 0 where
   remark : IsLLine l → Untimed l
   other : IsOtherLine l → Untimed l
 
--- "C, D, E, F, B, K, L and other", all but C, in any order; and their times in the order of the lines
+-- "C, D, E, F, B, K, L and other", and N, all but C, in any order; and their times in the order of the lines
 pub data Items (layouts : Layouts) : List (List ℕ) → List ℕ → Type 0 where
   done : Items layouts [] []
   timed : {l : List ℕ} {ls : List (List ℕ)} {t : ℕ} {ts : List ℕ} → Timed layouts t l → Items layouts ls ts → Items layouts (l ∷ ls) (t ∷ ts)
@@ -280,21 +285,26 @@ pub record Parts : Type 0 where
   pub seals : List (List ℕ)
   pub remarks : List (List ℕ)
 
+-- "then at most one I, then at most one J"; of M: "straight after J, or after I or the H lines if those are missing"
+abbrev pub toldIn : Parts → List (List ℕ)
+toldIn p = p .told family.B ++ (p .told (family.Extra extra.K) ++ p .told (family.Extra extra.N))
+
 -- in their order
 abbrev pub linesIn : Parts → List (List ℕ)
-linesIn p = p .recorder ∷ p .day ∷ (p .headers ++ (p .told family.B ++ (p .told family.K ++ (p .body ++ (p .seals ++ p .remarks)))))
+linesIn p = p .recorder ∷ p .day ∷ (p .headers ++ (toldIn p ++ (p .body ++ (p .seals ++ p .remarks))))
 
 -- "At least one G is needed (h)."
 abbrev pub SealedBy : Seal → List (List ℕ) → Type 0
 SealedBy seal.Strict gs = 1 ≤ length gs
 
 -- "Line 1 is A, line 2 is H, then further H lines, then at most one I, then at most one J. After these come C, D, E, F, B, K, L and other, with no further A, H,
--- I, J." "Then one or more G lines. After the first G only G or L; after an L that follows a G, only L." How many G lines are needed, the seal says.
+-- I, J." So do N lines, and there is no further M. "Then one or more G lines. After the first G only G or L; after an L that follows a G, only L." How many G lines are
+-- needed, the seal says.
 pub record Keeps (seal : Seal) (p : Parts) (date : Date) (layouts : Layouts) (times : List ℕ) : Type 0 where
   pub recorder : IsALine (p .recorder)
   pub day : IsDateLine date (p .day)
   pub headers : Each IsHLine (p .headers)
-  pub told : AtMostOne family.B (layouts .b) (p .told family.B) × AtMostOne family.K (layouts .k) (p .told family.K)
+  pub told : (f : Family) → AtMostOne f (layoutOf f layouts) (p .told f)
   pub body : Body layouts (p .body) times
   pub order : InOrder times
   pub seals : Each IsGLine (p .seals)
@@ -341,11 +351,15 @@ unfoldable pub beginning : ℕ → List (List ℕ) → ℕ
 beginning x [] = 0
 beginning x (l ∷ ls) = cond (eqb (getD l 0 0) x) 1 0 + beginning x ls
 
--- "the date, the I and J layouts, the count of lines, of B lines and of K lines"
+-- how many of them are B lines, K lines and N lines
+abbrev pub countsIn : List (List ℕ) → Counts
+countsIn ls = record { b = beginning (code "B") ls; k = beginning (code "K") ls; n = beginning (code "N") ls }
+
+-- "the date, the I and J layouts, the count of lines, of B lines and of K lines"; the M layout and the count of N lines
 abbrev pub flightOf : {seal : Seal} {file : List ℕ} → Meets seal file → Flight
 flightOf m = record {
   date = m .date;
   layouts = m .layouts;
   lines = length (linesIn (m .parts));
-  counts = record { b = beginning (code "B") (linesIn (m .parts)); k = beginning (code "K") (linesIn (m .parts)) };
+  counts = countsIn (linesIn (m .parts));
 }

@@ -22,7 +22,7 @@ use Rattle.demands.specs.Grammar.{linesIn, Fits, Meets, flightOf}
 use Rattle.demands.specs.Faults.{Refused, empty, too-long, line-end, in-line, table-full, ends-early}
 use Rattle.demands.specs.Readings.{Entered}
 
--- ---- "The answer is the first refusal, or: the date, the I and J layouts, the count of lines, of B lines and of K lines"
+-- ---- "The answer is the first refusal, or: the date, the I and J layouts, the count of lines, of B lines and of K lines"; and the M layout and the count of N lines
 
 -- every file has an answer: it meets the grammar and its lines fit the table, or a refusal's meaning holds of it; never both, and never two refusals
 pub record OneAnswer (seal : Seal) (file : List ℕ) (room : Option ℕ) : Type 0 where
@@ -69,5 +69,5 @@ pub record NoValue : Type 0 where
   pub column : (l : List ℕ) (layout : Layout) (name r : List ℕ) → ColumnTextGiven l layout name r → Refuses (columnSaid l layout name) → r ≡ []
   pub head-text : (l r : List ℕ) → HeadRest l r → Refuses (headSaid l) → r ≡ []
   pub point-text : (l r : List ℕ) → PointRest l r → Refuses (pointSaid l) → r ≡ []
-  -- the layout of an I or a J line
+  -- the layout of an I, a J or an M line
   pub layout : (f : Family) (l : List ℕ) (r : LayoutRead) → LayoutGiven f l r → Refuses (outcomeTold (r .outcome)) → r .layout ≡ emptyLayout

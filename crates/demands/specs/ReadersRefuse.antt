@@ -10,6 +10,7 @@ use mathlib.Core.Path.{_≡_}
 use lib.Dec.{eqb, leb}
 use lib.ListN.{length, getD, drop}
 use Rattle.rules.specs.Choice.{Each}
+use Rattle.rules.specs.Families.{firstStart, lineLetter, layoutLetter}
 use Rattle.rules.specs.Refusals.{Said, says, refuses}
 use Rattle.rules.specs.Numbers.{wholeOf}
 use Rattle.rules.specs.Degrees.{degreesOf}
@@ -20,6 +21,8 @@ use Rattle.rules.specs.Reads.{fixSaid, extraSaid, eventSaid, satellitesSaid, da
 use Rattle.rules.specs.declared.Signed.{Signed}
 use Rattle.rules.specs.declared.Entry.{Entry}
 use Rattle.rules.specs.declared.Layout.{Layout}
+use Rattle.rules.specs.declared.Extra.{Extra}
+use Rattle.rules.specs.declared.Extra.the-variants as extra
 use Rattle.rules.specs.declared.Family.{Family}
 use Rattle.rules.specs.declared.Family.the-variants as family
 use Rattle.rules.specs.declared.Position.{Position}
@@ -40,10 +43,9 @@ pub record RefusesFirst {A : Type 0} (cs : List Check) (answer : Said A) : Type 
 abbrev pub kindCheck : ℕ → List ℕ → Check
 kindCheck letter l = check 17 0 (eqb (getD l 0 0) letter)
 
--- "17 BAD_VALUE: value, layout .. given is not allowed"; "The first entry starts at 36 (I) or 8 (J)"
+-- "17 BAD_VALUE: value, layout .. given is not allowed"; "The first entry starts at 36 (I) or 8 (J)", in an M line as in a J line
 abbrev pub layoutCheck : Family → Layout → Check
-layoutCheck family.B layout = check 17 0 (allowed 36 layout)
-layoutCheck family.K layout = check 17 0 (allowed 8 layout)
+layoutCheck f layout = check 17 0 (allowed (firstStart f) layout)
 
 -- "19 ABSENT: code (any 3 bytes) not in the layout"
 abbrev pub nameCheck : Layout → List ℕ → Check
@@ -60,23 +62,25 @@ numberCheck layout l name = check 20 0 (isThere (wholeOf (columnText l (spanIn (
 
 -- ---- the checks of each reader
 
--- the fix of a B line with its I layout; the time of a K line with its J layout
+-- the fix of a B line with its I layout; the time of a K line with its J layout, or of an N line with its M layout
 abbrev pub columnedReader : Family → Layout → List ℕ → List Check
-columnedReader family.B i l = kindCheck (code "B") l ∷ layoutCheck family.B i ∷ lineChecks family.B (entriesOf i) l
-columnedReader family.K j l = kindCheck (code "K") l ∷ layoutCheck family.K j ∷ lineChecks family.K (entriesOf j) l
+columnedReader f layout l = kindCheck (lineLetter f) l ∷ layoutCheck f layout ∷ lineChecks f (entriesOf layout) l
 
--- a column of a B line with its I layout, or of a K line with its J layout: any other line is of another kind
+-- by a line's first byte, B lines, K lines and else N lines
+abbrev pub familyBy : ℕ → Family
+familyBy b = cond (eqb b (code "B")) family.B (cond (eqb b (code "K")) (family.Extra extra.K) (family.Extra extra.N))
+
+-- a column of a B line with its I layout, of a K line with its J layout, or of an N line with its M layout: any other line is of another kind
 abbrev pub columnReader : Layout → List ℕ → List ℕ → List Check
-columnReader layout l name = cond (eqb (getD l 0 0) (code "B")) (columnedReader family.B layout l) (columnedReader family.K layout l) ++ (nameCheck layout name ∷ [])
+columnReader layout l name = columnedReader (familyBy (getD l 0 0)) layout l ++ (nameCheck layout name ∷ [])
 
 -- "then 19, then 20"
 abbrev pub numberReader : Layout → List ℕ → List ℕ → List Check
 numberReader layout l name = columnReader layout l name ++ (numberCheck layout l name ∷ [])
 
--- the layout of an I line, for B lines, and of a J line, for K lines
+-- the layout of an I line, for B lines, of a J line, for K lines, and of an M line, for N lines
 abbrev pub layoutReader : Family → List ℕ → List Check
-layoutReader family.B l = kindCheck (code "I") l ∷ layoutChecks family.B l
-layoutReader family.K l = kindCheck (code "J") l ∷ layoutChecks family.K l
+layoutReader f l = kindCheck (layoutLetter f) l ∷ layoutChecks f l
 
 -- ---- a line by its number, a reading place, and a pair of degrees
 
@@ -102,12 +106,12 @@ degreesReader lat lon =
 -- ---- what is claimed, reader by reader
 
 pub record ReadersRefuse : Type 0 where
-  -- B lines and K lines, and their columns
+  -- B lines, K lines and N lines, and their columns
   pub fix : (i : Slotted) (l : List ℕ) → RefusesFirst (columnedReader family.B (i .layout) l) (fixSaid l (i .layout))
-  pub extra : (j : Slotted) (l : List ℕ) → RefusesFirst (columnedReader family.K (j .layout) l) (extraSaid l (j .layout))
+  pub extra : (x : Extra) (j : Slotted) (l : List ℕ) → RefusesFirst (columnedReader (family.Extra x) (j .layout) l) (extraSaid x l (j .layout))
   pub column : (i : Slotted) (l name : List ℕ) → RefusesFirst (columnReader (i .layout) l name) (columnSaid l (i .layout) name)
   pub number : (i : Slotted) (l name : List ℕ) → RefusesFirst (numberReader (i .layout) l name) (numberSaid l (i .layout) name)
-  -- I lines and J lines
+  -- I lines, J lines and M lines
   pub layout : (f : Family) (l : List ℕ) → RefusesFirst (layoutReader f l) (layoutSaid f l)
   -- line 2, C heads and C points, E lines and F lines
   pub date : (l : List ℕ) → RefusesFirst (kindCheck (code "H") l ∷ dateChecks l) (dateSaid l)

@@ -7,7 +7,7 @@ use mathlib.Core.Option.{none, some}
 use mathlib.Core.Path.{_≡_}
 use lib.IntN.{pos, negℤ}
 use lib.ListN.{length, getD, take, drop}
-use Rattle.rules.specs.Families.{firstStart, layoutOf}
+use Rattle.rules.specs.Families.{firstStart, lineLetter, layoutLetter, layoutOf, countOf}
 use Rattle.rules.specs.Choice.{part, Each}
 use Rattle.rules.specs.Refusals.{Said, says, refuses, no}
 use Rattle.rules.specs.Numbers.{digitsOf}
@@ -21,6 +21,7 @@ use Rattle.rules.specs.declared.Reason.the-variants.{Absent, NotNumber}
 use Rattle.rules.specs.declared.Signed.{Signed}
 use Rattle.rules.specs.declared.Entry.{Entry}
 use Rattle.rules.specs.declared.Layout.{Layout}
+use Rattle.rules.specs.declared.Extra.{Extra}
 use Rattle.rules.specs.declared.Family.{Family}
 use Rattle.rules.specs.declared.Family.the-variants as family
 use Rattle.rules.specs.declared.Position.{Position}
@@ -32,7 +33,7 @@ use Rattle.rules.specs.declared.Flight.{Flight}
 use Rattle.rules.specs.declared.Seal.{Seal}
 use Rattle.words.specs.Codes.{Row, rows}
 use Rattle.words.specs.Values.{IsLatitude, IsLongitude, IsAngle}
-use Rattle.demands.specs.Grammar.{IsText, IsDateLine, widthOf, IsLayoutLine, IsELine, IsFLine, IsBLine, IsKLine, IsHeadLine, IsPointLine, joinLines, beginning}
+use Rattle.demands.specs.Grammar.{IsText, IsDateLine, widthOf, IsLayoutLine, IsELine, IsFLine, IsBLine, IsExtraLine, IsHeadLine, IsPointLine, joinLines, beginning}
 use Rattle.demands.specs.Coming.{sizeOf}
 
 -- ---- a column
@@ -64,7 +65,7 @@ pub record IsName (name : List ℕ) : Type 0 where
   pub three : length name ≡ 3
   pub bytes : Each (λ b. b < 256) name
 
--- the columns of a B line with its I layout, or of a K line with its J layout
+-- the columns of a B line with its I layout, of a K line with its J layout, or of an N line with its M layout
 pub record ReadsColumns (f : Family) (layout : Layout) (l : List ℕ) : Type 0 where
   pub carried : Each (ReadsColumn layout l) (entriesOf layout)
   -- "19 ABSENT: code (any 3 bytes) not in the layout": every other code
@@ -98,13 +99,13 @@ pub record ReadsPresence (layout : Layout) : Type 0 where
 
 -- the length of a family's lines, and where the column of each code stands
 pub record ReadsLayout (f : Family) (layout : Layout) : Type 0 where
-  -- "A line of that kind ends at the last FF; with NN 00, or no such line, B has 35 and K has 7."
+  -- "A line of that kind ends at the last FF; with NN 00, or no such line, B has 35 and K has 7."; "N is built as K is"
   pub long : lengthSaid f layout ≡ says (sizeOf f (entriesOf layout))
   pub carried : Each (λ e. lookSaid f layout (codeText (e .code)) ≡ says (spanOf e)) (entriesOf layout)
   -- "19 ABSENT: code (any 3 bytes) not in the layout"
   pub absent : (name : List ℕ) → IsName name → Each (λ e. codeText (e .code) ≡ name → ⊥) (entriesOf layout) → lookSaid f layout name ≡ no Absent 0
 
--- ---- "any fix, column, K line or declaration read"
+-- ---- "any fix, column, K line or declaration read"; any N line
 
 -- "For the map, a position also comes as a pair of f64 degrees": a latitude and a longitude within their limits, and of each its degrees
 pub record OnMap (lat lon : Position) (d : Degrees) : Type 0 where
@@ -127,12 +128,17 @@ pub record ReadsFix (layout : Layout) (l : List ℕ) : Type 0 where
   pub map : ReadsMap (fix .lat) (fix .lon)
   pub columns : ReadsColumns family.B layout l
 
--- a K line, by the J layout, as the time whose line it is
-pub record ReadsExtra (layout : Layout) (l : List ℕ) : Type 0 where
+-- a K line, by the J layout, or an N line, by the M layout, as the time whose line it is
+pub record ReadsExtra (x : Extra) (layout : Layout) (l : List ℕ) : Type 0 where
   pub time : ℕ
-  pub is : IsKLine layout time l
-  pub reads : extraSaid l layout ≡ says time
-  pub columns : ReadsColumns family.K layout l
+  pub is : IsExtraLine x layout time l
+  pub reads : extraSaid x l layout ≡ says time
+  pub columns : ReadsColumns (family.Extra x) layout l
+
+-- a line of a family, by its layout
+abbrev pub ReadsColumned : Family → Layout → List ℕ → Type 0
+ReadsColumned family.B layout l = ReadsFix layout l
+ReadsColumned (family.Extra x) layout l = ReadsExtra x layout l
 
 -- a line reads as the value whose line it is
 pub record ReadsValue {A : Type 0} (said : List ℕ → Said A) (Is : A → List ℕ → Type 0) (v : A) (l : List ℕ) : Type 0 where
@@ -143,14 +149,12 @@ pub record ReadsValue {A : Type 0} (said : List ℕ → Said A) (Is : A → List
 abbrev pub ReadsTime : (List ℕ → Said ℕ) → (ℕ → List ℕ → Type 0) → List ℕ → Type 0
 ReadsTime said Is l = (t : ℕ) × ReadsValue said Is t l
 
--- a B line by the I layout, a K line by the J layout; the I line as the one layout, the J line as the other; an E line and an F line
+-- a B line by the I layout, a K line by the J layout, an N line by the M layout; the I, the J and the M line as that layout; an E line and an F line
 pub record ReadsLine (layouts : Layouts) (l : List ℕ) : Type 0 where
-  pub b : getD l 0 0 ≡ code "B" → ReadsFix (layouts .b) l
-  pub k : getD l 0 0 ≡ code "K" → ReadsExtra (layouts .k) l
-  pub i : getD l 0 0 ≡ code "I" → ReadsValue (layoutSaid family.B) (IsLayoutLine family.B) (layouts .b) l
-  pub j : getD l 0 0 ≡ code "J" → ReadsValue (layoutSaid family.K) (IsLayoutLine family.K) (layouts .k) l
-  pub e : getD l 0 0 ≡ code "E" → ReadsTime eventSaid IsELine l
-  pub f : getD l 0 0 ≡ code "F" → ReadsTime satellitesSaid IsFLine l
+  pub columned : (g : Family) → getD l 0 0 ≡ lineLetter g → ReadsColumned g (layoutOf g layouts) l
+  pub tells : (g : Family) → getD l 0 0 ≡ layoutLetter g → ReadsValue (layoutSaid g) (IsLayoutLine g) (layoutOf g layouts) l
+  pub event : getD l 0 0 ≡ code "E" → ReadsTime eventSaid IsELine l
+  pub satellites : getD l 0 0 ≡ code "F" → ReadsTime satellitesSaid IsFLine l
 
 -- a C head reads as the head whose line it is, and as the text behind its fields
 pub record ReadsHead (h : Head) (l : List ℕ) : Type 0 where
@@ -213,10 +217,9 @@ pub record Readable (seal : Seal) (file table : List ℕ) (f : Flight) : Type 0 
   pub texts : Each IsText lines
   -- "Each byte of the file belongs to one line or its ending: line lengths plus 2 each total the file's length."
   pub lengths : total lines ≡ length file
-  -- "the count of lines, of B lines and of K lines"
+  -- "the count of lines, of B lines and of K lines"; and of N lines
   pub counted : f .lines ≡ length lines
-  pub bs : f .counts .b ≡ beginning (code "B") lines
-  pub ks : f .counts .k ≡ beginning (code "K") lines
+  pub counts : (g : Family) → countOf g (f .counts) ≡ beginning (lineLetter g) lines
   -- "a lent table of u32 numbers whose entry for each line is the offset of its first byte"; the rest unchanged
   pub entered : Entered lines table (tableAfter seal file table)
   -- "any line, without its CR LF, can be asked for as a part of the lent file": line n + 1, with the table; from where its bytes stand and up to where, and the bytes
@@ -225,11 +228,10 @@ pub record Readable (seal : Seal) (file table : List ℕ) (f : Flight) : Type 0 
   pub numbered : (n : ℕ) → n < length lines → lineText file (boundsOf file (tableAfter seal file table) (n + 1)) ≡ getD lines n []
   -- stepping from place 0 gives exactly the lines in their order, and then none
   pub stepping : Steps file 0 lines
-  -- "the date, the I and J layouts": the date is read from line 2; the layouts from the I and the J line, and where there is "no such line" they are empty
+  -- "the date, the I and J layouts", and the M layout: the date is read from line 2; the layouts from the lines that tell them, and where there is "no such line" they are empty
   pub date : ReadsValue dateSaid IsDateLine (f .date) (getD lines 1 [])
   pub reads : Each (ReadsLine (f .layouts)) lines
-  pub no-i : Each (λ l. getD l 0 0 ≡ code "I" → ⊥) lines → f .layouts .b ≡ emptyLayout
-  pub no-j : Each (λ l. getD l 0 0 ≡ code "J" → ⊥) lines → f .layouts .k ≡ emptyLayout
+  pub untold : (g : Family) → Each (λ l. getD l 0 0 ≡ layoutLetter g → ⊥) lines → layoutOf g (f .layouts) ≡ emptyLayout
   -- what is read of the layouts themselves
   pub layouts : (g : Family) → ReadsLayout g (layoutOf g (f .layouts))
   pub presence : ReadsPresence (f .layouts .b)

@@ -14,6 +14,8 @@ use Rattle.rules.specs.Files.{hasRoom, run}
 use Rattle.rules.specs.Order.{start}
 use Rattle.rules.specs.Split.{linesOf, offsets}
 use Rattle.rules.specs.declared.Family.{Family}
+use Rattle.rules.specs.declared.Extra.{Extra}
+use Rattle.rules.specs.declared.Extra.the-variants as extra
 use Rattle.rules.specs.declared.Family.the-variants as family
 use Rattle.rules.specs.declared.Seal.{Seal}
 use Rattle.rules.specs.declared.State.{State}
@@ -49,10 +51,14 @@ here-first seal lent file table st e =
       size = refl;
       within = omega arith;
       lines = omega arith;
-      count = elim [ family.B ↦ omega arith | family.K ↦ omega arith ];
+      count = elim [ family.B ↦ omega arith | family.Extra e ↦ none-counted e ];
       run = refl;
     })
   where
+    none-counted : (e : Extra) → countOf (family.Extra e) (start .flight .counts) ≤ 0
+    none-counted extra.K = omega arith
+    none-counted extra.N = omega arith
+
     none-yet : (b : Bool) → table ≡ entered b [] table
     none-yet true = refl
     none-yet false = refl

@@ -6,10 +6,9 @@ use mathlib.Core.Path.{refl, ap}
 use Rattle.rules.specs.Layouts.{Span}
 use Rattle.rules.specs.declared.Entry.{Entry}
 use Rattle.rules.specs.declared.Layout.{Layout}
-use Rattle.rules.specs.declared.Family.{Family}
 use Rattle.only.proofs.Only.{Only, same, alike}
 use Rattle.only.proofs.Told.{OneToOne, by-back, answerOf, refusal-back, column-one}
-use Rattle.entry.specs.Parts.{spotTold, SpotFound, CarriesTest, ColumnFound, entryTold, EntryPlaced, EntryGiven, StartGiven}
+use Rattle.entry.specs.Parts.{spotTold, SpotFound, CarriesTest, ColumnFound, entryTold, EntryPlaced, EntryGiven}
 use Rattle.entry.specs.declared.Spot.{Spot}
 use Rattle.entry.specs.declared.Spot.the-variants as spot
 use Rattle.entry.specs.declared.EntryRead.the-variants as entryRead
@@ -40,6 +39,3 @@ only-entry-placed start before e first = alike entry-one
 
 pub only-entry-given : (l : List ℕ) (i start : ℕ) (before : Layout) → Only (EntryGiven l i start before)
 only-entry-given l i start before = alike entry-one
-
-pub only-start-given : (f : Family) → Only (StartGiven f)
-only-start-given f = same

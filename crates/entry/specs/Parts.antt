@@ -4,7 +4,6 @@ use mathlib.Core.Bool.{Bool}
 use mathlib.Core.List.{List}
 use mathlib.Core.Option.{Option, none, some}
 use mathlib.Core.Path.{_≡_}
-use Rattle.rules.specs.Families.{firstStart}
 use Rattle.rules.specs.Choice.{given}
 use Rattle.rules.specs.Listed.{packedOf, codeAt}
 use Rattle.rules.specs.Refusals.{Said, says, no, refusal}
@@ -12,7 +11,6 @@ use Rattle.rules.specs.Layouts.{Span, look, carries, placed, entryAt, columnTol
 use Rattle.rules.specs.declared.Reason.the-variants.{Absent}
 use Rattle.rules.specs.declared.Entry.{Entry}
 use Rattle.rules.specs.declared.Layout.{Layout}
-use Rattle.rules.specs.declared.Family.{Family}
 use Rattle.rules.specs.declared.ColumnRead.{ColumnRead}
 use Rattle.entry.specs.declared.Spot.{Spot}
 use Rattle.entry.specs.declared.Spot.the-variants as spot
@@ -20,10 +18,6 @@ use Rattle.entry.specs.declared.EntryRead.{EntryRead}
 use Rattle.entry.specs.declared.EntryRead.the-variants as entryRead
 use Rattle.entry.specs.declared.Letters.{Letters}
 use Rattle.entry.specs.declared.Letters.the-variants as letters
-
--- where the first column of a family starts
-abbrev pub StartGiven : Family → ℕ → Type 0
-StartGiven f r = r ≡ firstStart f
 
 -- where a code's column stands
 unfoldable pub spotTold : Spot → Option Span

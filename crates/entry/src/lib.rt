@@ -1,12 +1,11 @@
-// The entries of a layout: looked up by code, one held against those before it, and one read at its place of an I or a J line.
+// The entries of a layout: looked up by code, one held against those before it, and one read at its place of an I, a J or an M line.
 ghost use Prim.Native.Nat.{_≤_};
 ghost use mathlib.Core.Path.{_≡_};
 ghost use Rattle.rules.specs.Refusals.{no};
-ghost use Rattle.entry.specs.Parts.{StartGiven, SpotFound, CarriesTest, ColumnFound, EntryPlaced, CodeGiven, EntryGiven, entryTold};
+ghost use Rattle.entry.specs.Parts.{SpotFound, CarriesTest, ColumnFound, EntryPlaced, CodeGiven, EntryGiven, entryTold};
 pub use basics::empty_layout;
 use rules::ColumnRead;
 use rules::Entry;
-use rules::Family;
 use rules::Layout;
 use rules::Number;
 use rules::Reason;
@@ -123,16 +122,6 @@ pub fn entry_at(line: &[u8], i: u8, start: usize, before: Layout) -> EntryRead
     let first = ss as u8;
     let last = ff as u8;
     placed(start, before, Entry { first, last, code }, at as u32 + 1)
-}
-
-// Where the first column of a family starts: byte 36 of a B line, byte 8 of a K line.
-pub fn first_start(family: Family) -> usize
-    ensures { λ r. ⌜ StartGiven family r ⌝ }
-{
-    match family {
-        Family::B => 36,
-        Family::K => 8,
-    }
 }
 
 // Where the column of a code stands by a layout, allowed or not: its first and last byte, counted from 1. 19 where it has no such code.

@@ -5,7 +5,7 @@ use mathlib.Core.List.{List}
 use mathlib.Core.Option.{Option, none, some}
 use mathlib.Core.Path.{_≡_, refl, sym, _∙_, ap}
 use borrow.Author.Tests.{eq-eqb, ne-eqb}
-use Rattle.rules.proofs.Links.{by-some, by-none, timed-secs, timed-refused, column-between, column-refused}
+use Rattle.rules.proofs.Links.{timed-secs, timed-refused, column-between, column-refused}
 use lib.Dec.{eqb}
 use Rattle.rules.specs.Families.{firstStart, familyOf}
 use Rattle.rules.specs.Choice.{need, given}
@@ -25,11 +25,10 @@ use Rattle.entry.specs.declared.Spot.{Spot}
 use Rattle.entry.specs.declared.Spot.the-variants as spot
 use lib.ListN.{getD}
 use Rattle.rules.specs.Reads.{ofKind, byLayout, fixSaid, extraSaid, entriesSaid, columnSaid, numberSaid}
+use Rattle.rules.specs.declared.Extra.{Extra}
 use Rattle.rules.specs.declared.Family.{Family}
 use Rattle.rules.specs.declared.Family.the-variants as family
-use Rattle.known.specs.Known.{familyTold, allowedFor, fieldsKnown, fixKnown, extraKnown, lineKnown, columnKnown, numberKnown}
-use Rattle.known.specs.declared.FamilyRead.{FamilyRead}
-use Rattle.known.specs.declared.FamilyRead.the-variants as familyRead
+use Rattle.known.specs.Known.{allowedFor, fieldsKnown, fixKnown, extraKnown, lineKnown, columnKnown, numberKnown}
 
 -- the first byte r is the reader's letter, or another
 pub kind-is : {A : Type 0} (m n r : ℕ) (x a : A) (f : Unit {0} → A) → r ≡ m → r ≡ n → x ≡ f tt → x ≡ need (eqb m n) a f
@@ -38,18 +37,7 @@ kind-is m n r x a f e h k = rw (eq-eqb m n (sym e ∙ h)) k
 pub kind-is-not : {A : Type 0} (m n r : ℕ) (x a : A) (f : Unit {0} → A) → r ≡ m → (r ≡ n → ⊥) → x ≡ a → x ≡ need (eqb m n) a f
 kind-is-not m n r x a f e h k = rw (ne-eqb m n (λ q. h (e ∙ q))) k
 
--- the family f of a line, or none
-pub family-of : {B : Type 0} (n : Option Family) (r : FamilyRead) (f : Family) (x a : B) (g : Family → B) → familyTold r ≡ n → r ≡ familyRead.Of f → x ≡ g f → x ≡ given n a g
-unfolding familyTold
-family-of n r f x a g e h k = by-some familyTold n r x a g e (familyRead.Of f) f refl h k
-
-pub no-family : {B : Type 0} (n : Option Family) (r : FamilyRead) (x a : B) (g : Family → B) → familyTold r ≡ n → r ≡ familyRead.NoFamily → x ≡ a → x ≡ given n a g
-unfolding familyTold
-no-family n r x a g e h k = by-none familyTold n r x a g e familyRead.NoFamily refl h k
-
 pub ruleset kinds = (kind-is, kind-is-not)
-
-pub ruleset families = (family-of, no-family)
 
 -- ---- a column by its code: y is the number that the code's three bytes make
 
@@ -115,13 +103,13 @@ module _ (l : List ℕ) (layout : Layout) where
   unfolding fixSaid
   fix-not-allowed h = ap (λ s. andThen s λ f. says (fixOf f)) (with-not-allowed l _ layout family.B _ h)
 
-  pub extra-allowed : allowed (firstStart family.K) layout ≡ true → extraKnown l layout ≡ extraSaid l layout
+  pub extra-allowed : (e : Extra) → allowed (firstStart (family.Extra e)) layout ≡ true → extraKnown e l layout ≡ extraSaid e l layout
   unfolding extraKnown extraSaid
-  extra-allowed h = with-allowed l _ layout family.K _ h
+  extra-allowed e h = with-allowed l _ layout (family.Extra e) _ h
 
-  pub extra-not-allowed : allowed (firstStart family.K) layout ≡ false → no BadValue 0 ≡ extraSaid l layout
+  pub extra-not-allowed : (e : Extra) → allowed (firstStart (family.Extra e)) layout ≡ false → no BadValue 0 ≡ extraSaid e l layout
   unfolding extraSaid
-  extra-not-allowed h = with-not-allowed l _ layout family.K _ h
+  extra-not-allowed e h = with-not-allowed l _ layout (family.Extra e) _ h
 
   pub column-allowed : (name : List ℕ) → allowedFor l layout ≡ true → columnKnown l layout name ≡ columnSaid l layout name
   unfolding allowedFor columnKnown lineKnown columnSaid entriesSaid look

@@ -3,20 +3,20 @@ use Prim.Native.Nat.{ℕ}
 use Prim.Native.Char.{code}
 use mathlib.Core.Bool.{Bool, false}
 use mathlib.Core.List.{List}
-use mathlib.Core.Option.{Option, none, some}
+use mathlib.Core.Option.{none, some}
 use mathlib.Core.Path.{_≡_}
 use lib.ListN.{getD}
 use Rattle.rules.specs.Choice.{given}
-use Rattle.rules.specs.Families.{firstStart, familyOf, layoutFamilyOf}
+use Rattle.rules.specs.Families.{firstStart, lineLetter, familyOf}
 use Rattle.rules.specs.Layouts.{Span, allowed, look, columnText, columnTold}
 use Rattle.rules.specs.Fixes.{fixOf}
-use Rattle.rules.specs.Lines.{bLine, kLine, columnedLine}
+use Rattle.rules.specs.Lines.{bLine, extraLine, columnedLine}
 use Rattle.rules.specs.Listed.{packedOf}
 use Rattle.rules.specs.Numbers.{wholeOf}
 use Rattle.rules.specs.Reads.{ofKind, fixTold, timeReadTold, numberReadTold}
 use Rattle.rules.specs.Refusals.{Said, says, no, andThen}
 use Rattle.rules.specs.declared.ColumnRead.{ColumnRead}
-use Rattle.rules.specs.declared.Family.{Family}
+use Rattle.rules.specs.declared.Extra.{Extra}
 use Rattle.rules.specs.declared.Family.the-variants as family
 use Rattle.rules.specs.declared.FixFields.{FixFields}
 use Rattle.rules.specs.declared.Fix.{Fix}
@@ -26,12 +26,6 @@ use Rattle.rules.specs.declared.NumberRead.{NumberRead}
 use Rattle.rules.specs.declared.Reason.the-variants.{BadValue, Absent, NotNumber}
 use Rattle.rules.specs.declared.Signed.{Signed}
 use Rattle.rules.specs.declared.TimeRead.{TimeRead}
-use Rattle.known.specs.declared.FamilyRead.{FamilyRead}
-use Rattle.known.specs.declared.FamilyRead.the-variants as familyRead
-
-unfoldable pub familyTold : FamilyRead → Option Family
-familyTold (familyRead.Of f) = some f
-familyTold familyRead.NoFamily = none
 
 -- "17 BAD_VALUE: .. layout .. given is not allowed": for the family that a line is of; none is where it is of no family
 unfoldable pub allowedFor : List ℕ → Layout → Bool
@@ -45,8 +39,8 @@ fieldsKnown l layout = ofKind (code "B") l λ _. bLine layout l
 unfoldable pub fixKnown : List ℕ → Layout → Said Fix
 fixKnown l layout = andThen (fieldsKnown l layout) λ f. says (fixOf f)
 
-unfoldable pub extraKnown : List ℕ → Layout → Said ℕ
-extraKnown l layout = ofKind (code "K") l λ _. kLine layout l
+unfoldable pub extraKnown : Extra → List ℕ → Layout → Said ℕ
+extraKnown e l layout = ofKind (lineLetter (family.Extra e)) l λ _. extraLine layout l
 
 unfoldable pub lineKnown : List ℕ → Layout → Said ℕ
 lineKnown l layout = given (familyOf (getD l 0 0)) (no BadValue 0) λ f. columnedLine f layout l
@@ -65,17 +59,11 @@ numberKnown l layout name =
 
 -- ---- the promises
 
-abbrev pub FamilyGiven : List ℕ → FamilyRead → Type 0
-FamilyGiven l r = familyTold r ≡ familyOf (getD l 0 0)
-
-abbrev pub LayoutFamilyGiven : List ℕ → FamilyRead → Type 0
-LayoutFamilyGiven l r = familyTold r ≡ layoutFamilyOf (getD l 0 0)
-
 abbrev pub FixKnown : List ℕ → Layout → FixRead → Type 0
 FixKnown l layout r = fixTold r ≡ fixKnown l layout
 
-abbrev pub ExtraKnown : List ℕ → Layout → TimeRead → Type 0
-ExtraKnown l layout r = timeReadTold r ≡ extraKnown l layout
+abbrev pub ExtraKnown : Extra → List ℕ → Layout → TimeRead → Type 0
+ExtraKnown e l layout r = timeReadTold r ≡ extraKnown e l layout
 
 abbrev pub ColumnKnown : List ℕ → Layout → List ℕ → ColumnRead → Type 0
 ColumnKnown l layout name r = columnTold r ≡ columnKnown l layout name

@@ -2,9 +2,11 @@
 ghost use mathlib.Core.Path.{_≡_};
 ghost use Rattle.rules.specs.Fixes.{fixOf};
 ghost use Rattle.rules.specs.Reads.{fixFieldsTold, timeReadTold};
-ghost use Rattle.known.specs.Known.{fieldsKnown, lineKnown, FamilyGiven, LayoutFamilyGiven, FixKnown, ExtraKnown, ColumnKnown, NumberKnown};
+ghost use Rattle.known.specs.Known.{fieldsKnown, lineKnown, FixKnown, ExtraKnown, ColumnKnown, NumberKnown};
+use families::FamilyRead;
 use layout::Spot;
 use rules::ColumnRead;
+use rules::Extra;
 use rules::Family;
 use rules::Fix;
 use rules::FixFields;
@@ -16,34 +18,6 @@ use rules::Reason;
 use rules::Refusal;
 use rules::TimeRead;
 use rules::Whole;
-
-// The family of a line, where it is of one.
-pub enum FamilyRead {
-    Of(Family),
-    NoFamily,
-}
-
-// The family that a line is of, by its first byte.
-pub fn family(line: &[u8]) -> FamilyRead
-    ensures { λ r. ⌜ FamilyGiven (now (line .entry)) r ⌝ }
-{
-    match chars::byte(line, 0) {
-        b'B' => FamilyRead::Of(Family::B),
-        b'K' => FamilyRead::Of(Family::K),
-        _ => FamilyRead::NoFamily,
-    }
-}
-
-// The family whose layout a line tells, by its first byte.
-pub fn layout_family(line: &[u8]) -> FamilyRead
-    ensures { λ r. ⌜ LayoutFamilyGiven (now (line .entry)) r ⌝ }
-{
-    match chars::byte(line, 0) {
-        b'I' => FamilyRead::Of(Family::B),
-        b'J' => FamilyRead::Of(Family::K),
-        _ => FamilyRead::NoFamily,
-    }
-}
 
 // What the reading of a B line gives of its fields.
 fn fix_of(f: FixFields) -> Fix
@@ -87,11 +61,11 @@ pub fn fix(line: &[u8], layout: Layout) -> FixRead
     }
 }
 
-// The time of a K line. BAD_VALUE for another kind; then what `line::extra_line` refuses.
-pub fn extra(line: &[u8], layout: Layout) -> TimeRead
-    ensures { λ r. ⌜ ExtraKnown (now (line .entry)) layout r ⌝ }
+// The time of a K or an N line, as is said. BAD_VALUE for another kind; then what `line::extra_line` refuses.
+pub fn extra(which: Extra, line: &[u8], layout: Layout) -> TimeRead
+    ensures { λ r. ⌜ ExtraKnown which (now (line .entry)) layout r ⌝ }
 {
-    if chars::byte(line, 0) != b'K' {
+    if chars::byte(line, 0) != families::line_letter(Family::Extra(which)) {
         return TimeRead::Refused(Refusal {
             reason: Reason::BadValue,
             line: 0,
@@ -105,7 +79,7 @@ pub fn extra(line: &[u8], layout: Layout) -> TimeRead
 fn timed(line: &[u8], layout: Layout) -> TimeRead
     ensures { λ r. ⌜ timeReadTold r ≡ lineKnown (now (line .entry)) layout ⌝ }
 {
-    let FamilyRead::Of(f) = family(line) else {
+    let FamilyRead::Of(f) = families::family(line) else {
         return TimeRead::Refused(Refusal {
             reason: Reason::BadValue,
             line: 0,

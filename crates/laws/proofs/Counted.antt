@@ -1,4 +1,4 @@
--- The check of a file counts its lines, its B lines and its K lines, and the table's entries lead to the lines by their numbers; the others stay; with a table only 15 is added. Assumes nothing.
+-- The check of a file counts its lines and its B, K and N lines, and the table's entries lead to the lines by their numbers; the others stay; with a table only 15 is added. Assumes nothing.
 use Prim.Native.Nat.{ℕ, _+_, _-_, _≤_, _<_}
 use mathlib.Core.Bool.{Bool, true, false, cond}
 use mathlib.Core.List.{List, []}
@@ -19,6 +19,7 @@ use Rattle.rules.specs.Order.{moved, judge, start, noFlight}
 use Rattle.rules.specs.Files.{endsAfter, finish, hasRoom, run, verdict, goodLines, tableAfter, over}
 use Rattle.rules.specs.declared.Reason.the-variants as reason
 use Rattle.rules.specs.declared.Family.{Family}
+use Rattle.rules.specs.declared.Extra.the-variants as extra
 use Rattle.rules.specs.declared.Family.the-variants as family
 use Rattle.rules.specs.declared.Flight.{Flight}
 use Rattle.rules.specs.declared.Role.{Role}
@@ -42,9 +43,14 @@ one b = cond b 1 0
 
 family-more : (f g : Family) (st : State) → countOf f (oneMore g (st .flight .counts)) ≡ countOf f (st .flight .counts) + one (isOf f (role.Columned g))
 family-more family.B family.B st = refl
-family-more family.B family.K st = omega arith
-family-more family.K family.B st = omega arith
-family-more family.K family.K st = refl
+family-more family.B (family.Extra extra.K) st = omega arith
+family-more family.B (family.Extra extra.N) st = omega arith
+family-more (family.Extra extra.K) family.B st = omega arith
+family-more (family.Extra extra.N) family.B st = omega arith
+family-more (family.Extra extra.K) (family.Extra extra.K) st = refl
+family-more (family.Extra extra.K) (family.Extra extra.N) st = omega arith
+family-more (family.Extra extra.N) (family.Extra extra.K) st = omega arith
+family-more (family.Extra extra.N) (family.Extra extra.N) st = refl
 
 -- a line that passes is one line more, and one of its family if it has one
 abbrev pub OneMore : List ℕ → State → State → Type 0
@@ -134,7 +140,8 @@ module _ (seal : Seal) (file : List ℕ) (room : Option ℕ) (f : Flight) (accep
 
   pub family-counted : (g : Family) → countOf g (f .counts) ≡ tally (isOf g) (linesOf file)
   family-counted family.B = omega (arith, all-counted .more .count family.B)
-  family-counted family.K = omega (arith, all-counted .more .count family.K)
+  family-counted (family.Extra extra.K) = omega (arith, all-counted .more .count (family.Extra extra.K))
+  family-counted (family.Extra extra.N) = omega (arith, all-counted .more .count (family.Extra extra.N))
 
 -- ---- the table
 

@@ -14,7 +14,7 @@ use Rattle.rules.specs.Choice.{given, on, bytes}
 use Rattle.rules.specs.Chars.{codesAt}
 use Rattle.rules.specs.Fields.{timeAt, latitudeAt, longitudeAt, altitudeAt, isEither}
 use Rattle.rules.specs.Layouts.{columns}
-use Rattle.rules.specs.Lines.{badPair, shaped, shapedBy, fixFields, bLine, kLine, eLine, fLine, columnedLine}
+use Rattle.rules.specs.Lines.{badPair, shaped, shapedBy, fixFields, bLine, extraLine, eLine, fLine, columnedLine}
 use Rattle.rules.specs.Order.{Passing, onward, nextDay, back, passing, moved, judge, start}
 use Rattle.rules.specs.Refusals.{says}
 use Rattle.rules.specs.Roles.{isTimed}
@@ -46,7 +46,7 @@ fix-time l f e =
     t .1 ∙ ap some i
 
 pub columned-time : (f : Family) (layout : Layout) (t : ℕ) (l : List ℕ) → columnedLine f layout l ≡ says t → timeAt l 1 ≡ some t
-unfolding columnedLine bLine kLine
+unfolding columnedLine bLine extraLine
 columned-time family.B layout t l e =
     let r = then-inv (bLine layout l) t _ e in
     let s = then-inv (shapedBy 36 layout l) (r .0) _ (r .1) in
@@ -54,7 +54,7 @@ columned-time family.B layout t l e =
     let c = then-inv (columns l layout) (r .0) _ (x .2) in
     let i : x .0 .time ≡ t = cc in
     fix-time l (x .0) (x .1) ∙ ap some i
-columned-time family.K layout t l e =
+columned-time (family.Extra x) layout t l e =
     let s = then-inv (shapedBy 8 layout l) t _ e in
     let x = given-inv (timeAt l 1) _ (says t) _ refuses-says (s .2) in
     let c = then-inv (columns l layout) t _ (x .2) in

@@ -12,6 +12,7 @@ use Rattle.rules.specs.Refusals.{Said, says, refuses, andThen}
 use Rattle.rules.specs.Layouts.{emptyLayout, lineLength, presenceSaid}
 use Rattle.rules.specs.Split.{boundsOf, stepAt}
 use Rattle.rules.specs.Reads.{fixSaid, eventSaid, satellitesSaid, layoutSaid, headSaid, pointSaid}
+use Rattle.rules.specs.declared.Extra.the-variants as extra
 use Rattle.rules.specs.declared.Family.the-variants as family
 use Rattle.rules.specs.declared.Planned.{Planned}
 use Rattle.rules.specs.declared.Planned.the-variants as planned
@@ -37,7 +38,7 @@ flight l = andThen (headSaid l) λ h. says (pos (isGiven (h .flight)))
 
 unfoldable pub kLength : List ℕ → Said ℤ
 unfolding lineLength
-kLength l = andThen (layoutSaid family.K l) λ j. says (pos (lineLength 8 j))
+kLength l = andThen (layoutSaid (family.Extra extra.K) l) λ j. says (pos (lineLength 8 j))
 
 unfoldable pub word : List ℕ → Said ℤ
 word l =

@@ -12,8 +12,8 @@ use entry::EntryRead;
 use entry::carries;
 use entry::empty_layout;
 use entry::find;
-use entry::first_start;
 use entry::placed;
+use families::first_start;
 use listed::listed_at;
 use rules::ColumnRead;
 use rules::Entry;
@@ -136,7 +136,7 @@ pub fn line_length(family: Family, l: Layout) -> u8
     if n == 0 {
         return match family {
             Family::B => 35,
-            Family::K => 7,
+            Family::Extra(_) => 7,
         };
     }
     if 13 < n {

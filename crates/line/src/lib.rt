@@ -15,6 +15,7 @@ use fix::form;
 use rules::Class;
 use rules::DateRead;
 use rules::Day;
+use rules::Extra;
 use rules::Family;
 use rules::FixFields;
 use rules::FixFieldsRead;
@@ -82,7 +83,7 @@ pub fn differential(line: &[u8]) -> Outcome
     Outcome::Accepted
 }
 
-// An E line: its time, 3 code characters, text. Refusals: LENGTH, CHARACTER, FORM at 2 or 8.
+// An E line: its time, 3 code characters, text. Refusals: LENGTH, CHARACTER, TIME at 2, FORM at 8.
 pub fn event(line: &[u8]) -> TimeRead
     ensures { λ r. ⌜ EventChecked (now (line .entry)) r ⌝ }
 {
@@ -114,7 +115,7 @@ fn is_date_mark(line: &[u8]) -> bool
     chars::byte(line, 4) == b'E'
 }
 
-// Line 2, FDTE and its date. Refusals: LENGTH, CHARACTER, FORM at 2 or 6.
+// Line 2, FDTE and its date. Refusals: LENGTH, CHARACTER, FORM at 2, DATE at 6.
 pub fn date_line(line: &[u8]) -> DateRead
     ensures { λ r. ⌜ DateLineChecked (now (line .entry)) r ⌝ }
 {
@@ -180,7 +181,7 @@ fn head_fields(line: &[u8]) -> HeadRead
     })
 }
 
-// A C head: declared date, time, flight date, task number, number of turn points, text. Refusals: LENGTH, CHARACTER, FORM at 2, 8, 14, 20 or 24.
+// A C head: declared date, time, flight date, task number, number of turn points, text. Refusals: LENGTH, CHARACTER, DATE at 2 or 14, TIME at 8, FORM at 20 or 24.
 pub fn head_line(line: &[u8]) -> HeadRead
     ensures { λ r. ⌜ HeadChecked (now (line .entry)) r ⌝ }
 {
@@ -190,7 +191,7 @@ pub fn head_line(line: &[u8]) -> HeadRead
     head_fields(line)
 }
 
-// A C point: latitude, longitude, text. Refusals: LENGTH, CHARACTER, FORM at 2 or 10.
+// A C point: latitude, longitude, text. Refusals: LENGTH, CHARACTER, POSITION at 2 or 10.
 pub fn point_line(line: &[u8]) -> PointRead
     ensures { λ r. ⌜ PointChecked (now (line .entry)) r ⌝ }
 {
@@ -237,7 +238,7 @@ fn bad_pair(line: &[u8]) -> Found
     Found::Nothing
 }
 
-// An F line: its time, then pairs of code characters, perhaps none. Refusals: LENGTH, CHARACTER, FORM at 2, at 8 for an odd half pair, or at a pair.
+// An F line: its time, then pairs of code characters, perhaps none. Refusals: LENGTH, CHARACTER, TIME at 2, FORM at 8 for an odd half pair or at a pair.
 pub fn satellites(line: &[u8]) -> TimeRead
     ensures { λ r. ⌜ SatellitesChecked (now (line .entry)) r ⌝ }
 {
@@ -274,7 +275,8 @@ fn with_columns(f: FixFields, line: &[u8], layout: Layout) -> FixFieldsRead
     FixFieldsRead::Is(f)
 }
 
-// A B line by an I layout: the fields of its fix. Refusals: LENGTH, CHARACTER, FORM at 2, 8, 16, 25, 26 or 31, COLUMN. Defined for every layout value.
+// A B line by an I layout: the fields of its fix. Refusals: LENGTH, CHARACTER, TIME at 2, POSITION at 8 or 16, FORM at 25, ALTITUDE at 26 or 31, COLUMN. Defined for
+// every layout value.
 pub fn fix_line(line: &[u8], layout: Layout) -> FixFieldsRead
     ensures { λ r. ⌜ FixChecked (now (line .entry)) layout r ⌝ }
 {
@@ -287,11 +289,11 @@ pub fn fix_line(line: &[u8], layout: Layout) -> FixFieldsRead
     }
 }
 
-// A K line by a J layout: its time. Refusals: LENGTH, CHARACTER, FORM at 2, COLUMN. Defined for every layout value.
+// A K line by a J layout, or an N line by an M layout: its time. Refusals: LENGTH, CHARACTER, TIME at 2, COLUMN. Defined for every layout value.
 pub fn extra_line(line: &[u8], layout: Layout) -> TimeRead
     ensures { λ r. ⌜ ExtraChecked (now (line .entry)) layout r ⌝ }
 {
-    if let Outcome::Refused(r) = shaped_by(Family::K, layout, line) {
+    if let Outcome::Refused(r) = shaped_by(Family::Extra(Extra::K), layout, line) {
         return TimeRead::Refused(r);
     }
     let Time::Secs(t) = field::time_at(line, 1) else {
@@ -312,7 +314,7 @@ pub fn columned_line(family: Family, line: &[u8], layout: Layout) -> TimeRead
             FixFieldsRead::Is(f) => TimeRead::Secs(f.time),
             FixFieldsRead::Refused(r) => TimeRead::Refused(r),
         },
-        Family::K => extra_line(line, layout),
+        Family::Extra(_) => extra_line(line, layout),
     }
 }
 
@@ -333,7 +335,9 @@ pub fn kind_of(b: u8) -> Kind
         b'J' => Kind::J,
         b'K' => Kind::K,
         b'L' => Kind::L,
-        b'M'..=b'Z' => Kind::Other,
+        b'M' => Kind::M,
+        b'N' => Kind::N,
+        b'O'..=b'Z' => Kind::Other,
         _ => Kind::NoKind,
     }
 }

@@ -6,6 +6,7 @@ use lib.Dec.{eqb}
 use lib.ListN.{length}
 use Rattle.rules.specs.Choice.{bytes}
 use Rattle.rules.specs.Listing.{shown, lf}
+use Rattle.rules.specs.declared.Counts.{Counts}
 use Rattle.rules.specs.declared.Flight.{Flight}
 use Rattle.rules.specs.declared.Refusal.{Refusal}
 use Rattle.pieces.specs.Buffer.{PiecePut}
@@ -17,15 +18,19 @@ unfoldable pub nameShown : List ℕ → List ℕ
 unfolding bytes
 nameShown name = cond (eqb (length name) 0) (bytes "(no name, or one over 4,096 bytes)") name
 
--- ---- a file that is accepted: its date, its counts of lines, fixes and K lines, and whether a G line is there
+-- ---- a file that is accepted: its date, its counts of lines, fixes, K lines and N lines, and whether a G line is there
 
 -- a count behind its word
 unfoldable pub counted : List ℕ → ℕ → List ℕ
 counted word n = word ++ shown n
 
-unfoldable pub countsShown : ℕ → ℕ → ℕ → List ℕ
+unfoldable pub extrasShown : Counts → List ℕ
 unfolding bytes
-countsShown lines fixes extras = counted (bytes ", lines") lines ++ (counted (bytes ", fixes") fixes ++ counted (bytes ", K lines") extras)
+extrasShown ns = counted (bytes ", K lines") (ns .k) ++ counted (bytes ", N lines") (ns .n)
+
+unfoldable pub countsShown : ℕ → Counts → List ℕ
+unfolding bytes
+countsShown lines ns = counted (bytes ", lines") lines ++ (counted (bytes ", fixes") (ns .b) ++ extrasShown ns)
 
 -- a file is signed where it has a G line
 unfoldable pub signedShown : Bool → List ℕ
@@ -34,7 +39,7 @@ signedShown signed = cond signed (bytes ", signed" ++ lf) (bytes ", not signed" 
 
 unfoldable pub acceptedShown : Flight → Bool → List ℕ
 unfolding bytes
-acceptedShown f signed = bytes ": accepted, " ++ (dateShown (f .date) ++ (countsShown (f .lines) (f .counts .b) (f .counts .k) ++ signedShown signed))
+acceptedShown f signed = bytes ": accepted, " ++ (dateShown (f .date) ++ (countsShown (f .lines) (f .counts) ++ signedShown signed))
 
 -- ---- the promises
 

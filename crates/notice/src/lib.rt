@@ -1,11 +1,12 @@
 // What igc says of a file by its name: the heading of its listing, the line of its check, its refusal explained, why it was not read. Each is put at the start of a lent
 // buffer, and the answer is how many bytes that is; a full buffer takes no more.
 ghost use Rattle.pieces.specs.Buffer.{PiecePut};
-ghost use Rattle.notice.specs.Notice.{nameShown, counted, countsShown, signedShown, acceptedShown, HeadingPut, AcceptedPut, RefusedPut, FailedPut};
+ghost use Rattle.notice.specs.Notice.{nameShown, counted, countsShown, extrasShown, signedShown, acceptedShown, HeadingPut, AcceptedPut, RefusedPut, FailedPut};
 use dates::put_date;
 use pieces::put_byte;
 use pieces::put_shown;
 use pieces::put_text;
+use rules::Counts;
 use rules::Flight;
 use rules::Refusal;
 
@@ -25,12 +26,19 @@ fn put_counted(out: &mut [u8], at: usize, word: &[u8], n: u32) -> usize
     put_shown(out, next, n as u64)
 }
 
-fn put_counts(out: &mut [u8], at: usize, lines: u32, fixes: u32, extras: u32) -> usize
-    ensures { λ r. ⌜ PiecePut (now (out .entry)) at (countsShown lines fixes extras) r (now (out .exit)) ⌝ }
+fn put_extras(out: &mut [u8], at: usize, counts: Counts) -> usize
+    ensures { λ r. ⌜ PiecePut (now (out .entry)) at (extrasShown counts) r (now (out .exit)) ⌝ }
+{
+    let a = put_counted(out, at, b", K lines", counts.k);
+    put_counted(out, a, b", N lines", counts.n)
+}
+
+fn put_counts(out: &mut [u8], at: usize, lines: u32, counts: Counts) -> usize
+    ensures { λ r. ⌜ PiecePut (now (out .entry)) at (countsShown lines counts) r (now (out .exit)) ⌝ }
 {
     let a = put_counted(out, at, b", lines", lines);
-    let b = put_counted(out, a, b", fixes", fixes);
-    put_counted(out, b, b", K lines", extras)
+    let b = put_counted(out, a, b", fixes", counts.b);
+    put_extras(out, b, counts)
 }
 
 fn put_signed(out: &mut [u8], at: usize, signed: bool) -> usize
@@ -49,7 +57,7 @@ fn put_accepted(out: &mut [u8], at: usize, f: Flight, signed: bool) -> usize
     let counts = f.counts;
     let a = put_text(out, at, b": accepted, ");
     let b = put_date(out, a, date);
-    let c = put_counts(out, b, f.lines, counts.b, counts.k);
+    let c = put_counts(out, b, f.lines, counts);
     put_signed(out, c, signed)
 }
 
@@ -62,7 +70,7 @@ pub fn heading(name: &[u8], out: &mut [u8]) -> usize
     put_byte(out, b, b'\n')
 }
 
-// The line of an accepted file: its date, how many lines, fixes and K lines it has, and whether it is signed.
+// The line of an accepted file: its date, how many lines, fixes, K and N lines it has, and whether it is signed.
 pub fn accepted(name: &[u8], f: Flight, signed: bool, out: &mut [u8]) -> usize
     ensures { λ r. ⌜ AcceptedPut (now (name .entry)) f signed (now (out .entry)) r (now (out .exit)) ⌝ }
 {

@@ -13,6 +13,7 @@ use Rattle.rules.specs.declared.Date.{Date}
 use Rattle.rules.specs.declared.Position.{Position}
 use Rattle.rules.specs.declared.Height.{Height}
 use Rattle.rules.specs.declared.Layout.{Layout}
+use Rattle.rules.specs.declared.Extra.{Extra}
 use Rattle.rules.specs.declared.Family.{Family}
 use Rattle.rules.specs.declared.Fix.{Fix}
 use Rattle.rules.specs.declared.Head.{Head}
@@ -195,8 +196,8 @@ only-columned-checked f l layout = alike timed-one
 pub only-fix-given : (l : List ℕ) (layout : Layout) → Only (FixGiven l layout)
 only-fix-given l layout = alike fix-one
 
-pub only-extra-given : (l : List ℕ) (layout : Layout) → Only (ExtraGiven l layout)
-only-extra-given l layout = alike timed-one
+pub only-extra-given : (x : Extra) (l : List ℕ) (layout : Layout) → Only (ExtraGiven x l layout)
+only-extra-given x l layout = alike timed-one
 
 pub only-event-given : (l : List ℕ) → Only (EventGiven l)
 only-event-given l = alike timed-one
@@ -253,8 +254,8 @@ only-written good text place out r r′ after after′ e e′ = (alike wrote-one
 pub only-fix-written : (f : Fix) (tail : List ℕ) (layout : Layout) (place : ℕ) (out : List ℕ) → OnlyBoth (FixWritten f tail layout place out)
 only-fix-written f tail layout place out = only-written (isFix f tail layout) (fixText f tail) place out
 
-pub only-extra-written : (t : ℕ) (tail : List ℕ) (layout : Layout) (place : ℕ) (out : List ℕ) → OnlyBoth (ExtraWritten t tail layout place out)
-only-extra-written t tail layout place out = only-written (isExtra t tail layout) (extraText t tail) place out
+pub only-extra-written : (x : Extra) (t : ℕ) (tail : List ℕ) (layout : Layout) (place : ℕ) (out : List ℕ) → OnlyBoth (ExtraWritten x t tail layout place out)
+only-extra-written x t tail layout place out = only-written (isExtra x t tail layout) (extraText x t tail) place out
 
 pub only-layout-written : (f : Family) (l : Layout) (place : ℕ) (out : List ℕ) → OnlyBoth (LayoutWritten f l place out)
 only-layout-written f l place out = only-written (allowed (firstStart f) l) (layoutText f l) place out

@@ -4,6 +4,7 @@ ghost use Rattle.rules.specs.Order.{fitsDeclaration};
 ghost use Rattle.rules.specs.Roles.{isDeclaring, afterLayout, leading, stageAfter};
 ghost use Rattle.rules.specs.declared.Role.the-variants as role;
 ghost use Rattle.order.specs.Following.{leadingTold, EndGiven, RoleGiven, RoleTest, OrderTold};
+use rules::Extra;
 use rules::Family;
 use rules::Kind;
 use rules::Role;
@@ -17,11 +18,11 @@ const AFTER_A: u8 = 1;
 
 pub const AFTER_H: u8 = 2;
 
-pub const IN_BODY: u8 = 5;
+pub const IN_BODY: u8 = 6;
 
-const AFTER_G: u8 = 6;
+const AFTER_G: u8 = 7;
 
-const AFTER_LAST_G: u8 = 7;
+const AFTER_LAST_G: u8 = 8;
 
 // The part of a file behind the line that tells a family's layout.
 fn after_layout(family: Family) -> u8
@@ -29,7 +30,10 @@ fn after_layout(family: Family) -> u8
 {
     match family {
         Family::B => 3,
-        Family::K => 4,
+        Family::Extra(e) => match e {
+            Extra::K => 4,
+            Extra::N => 5,
+        },
     }
 }
 
@@ -56,9 +60,11 @@ pub fn role_of(k: Kind) -> Role
         Kind::G => Role::Seals,
         Kind::H => Role::Heads,
         Kind::I => Role::Tells(Family::B),
-        Kind::J => Role::Tells(Family::K),
-        Kind::K => Role::Columned(Family::K),
+        Kind::J => Role::Tells(Family::Extra(Extra::K)),
+        Kind::K => Role::Columned(Family::Extra(Extra::K)),
         Kind::L => Role::Remark,
+        Kind::M => Role::Tells(Family::Extra(Extra::N)),
+        Kind::N => Role::Columned(Family::Extra(Extra::N)),
         Kind::Other => Role::Other,
         Kind::NoKind => Role::NoRole,
     }

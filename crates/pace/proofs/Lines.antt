@@ -20,6 +20,7 @@ use Rattle.rules.specs.Refusals.{says, outcomeTold}
 use Rattle.rules.specs.Split.{line, linesOf}
 use Rattle.rules.specs.declared.Counts.{Counts}
 use Rattle.rules.specs.declared.Family.{Family}
+use Rattle.rules.specs.declared.Extra.the-variants as extra
 use Rattle.rules.specs.declared.Family.the-variants as family
 use Rattle.rules.specs.declared.Outcome.{Outcome}
 use Rattle.rules.specs.declared.Outcome.the-variants as outcome
@@ -50,7 +51,8 @@ module _ (l : List ℕ) (s : State) (points : s .points ≡ 0) (low : afterH ≤
       → judge l s ≡ says (clocked t (counted f (moved inBody s)))
   unfolding judge on kindOf orderOf fitsDeclaration stageAfter ruled timed
   judged-columned family.B t k read forth = rw (le-leb 1 (length l) long, k, points, le-leb afterH (s .stage) low, le-leb (s .stage) inBody high, read, forth)
-  judged-columned family.K t k read forth = rw (le-leb 1 (length l) long, k, points, le-leb afterH (s .stage) low, le-leb (s .stage) inBody high, read, forth)
+  judged-columned (family.Extra extra.K) t k read forth = rw (le-leb 1 (length l) long, k, points, le-leb afterH (s .stage) low, le-leb (s .stage) inBody high, read, forth)
+  judged-columned (family.Extra extra.N) t k read forth = rw (le-leb 1 (length l) long, k, points, le-leb afterH (s .stage) low, le-leb (s .stage) inBody high, read, forth)
 
   judged-event : (t : ℕ) → getD l 0 0 ≡ 69 → eLine l ≡ says t → isBack (passing (s .clock) t) ≡ false → judge l s ≡ says (clocked t (moved inBody s))
   unfolding judge on kindOf orderOf fitsDeclaration stageAfter ruled timed

@@ -10,6 +10,7 @@ use Rattle.rules.specs.Layouts.{allowed, lineLength, entriesOf}
 use Rattle.rules.specs.Order.{judge}
 use Rattle.rules.specs.Refusals.{says}
 use Rattle.rules.specs.declared.Family.{Family}
+use Rattle.rules.specs.declared.Extra.the-variants as extra
 use Rattle.rules.specs.declared.Family.the-variants as family
 use Rattle.rules.specs.declared.State.{State}
 use Rattle.enter.specs.Turns.{Passed}
@@ -82,5 +83,6 @@ FamilyTaken f file p size pattern r = (st : State) → Going st p → Known f st
 abbrev pub OtherTaken : List ℕ → Pace → Taken → Type 0
 OtherTaken file p r = (st : State) → Going st p → TakenAs file st p r
 
-abbrev pub LineTaken : List ℕ → Pace → ℕ → List ℕ → ℕ → List ℕ → Taken → Type 0
-LineTaken file p b fixes k extras r = (st : State) → Going st p → Known family.B st b fixes → Known family.K st k extras → TakenAs file st p r
+abbrev pub LineTaken : List ℕ → Pace → ℕ → List ℕ → ℕ → List ℕ → ℕ → List ℕ → Taken → Type 0
+LineTaken file p b fixes k extras n unsigned r =
+    (st : State) → Going st p → Known family.B st b fixes → Known (family.Extra extra.K) st k extras → Known (family.Extra extra.N) st n unsigned → TakenAs file st p r

@@ -7,6 +7,7 @@ ghost use Rattle.pace.specs.Paces.{ColumnedTold, OtherTold, FamilyTaken,
 use clock::Pace;
 use clock::Taken;
 use cut::Ended;
+use rules::Extra;
 use rules::Family;
 use rules::Outcome;
 use rules::Time;
@@ -95,10 +96,19 @@ fn take_other(file: &[u8], p: Pace) -> Taken
     }
 }
 
-// The line behind the pace's bytes, by its first one: the numbers after it where it is surely good, by the lengths of B and K lines and the patterns of their columns.
-// Unsure for a line that is refused, and for any line that is not B, K, E, F or L.
-pub fn take_line(file: &[u8], p: Pace, b: usize, fixes: &[u8], k: usize, extras: &[u8]) -> Taken
-    ensures { λ r. ⌜ LineTaken (now (file .entry)) p b (now (fixes .entry)) k (now (extras .entry)) r ⌝ }
+// The line behind the pace's bytes, by its first one: the numbers after it where it is surely good, by the lengths of B, K and N lines and the patterns of their columns.
+// Unsure for a line that is refused, and for any line that is not B, K, N, E, F or L.
+pub fn take_line(
+    file: &[u8],
+    p: Pace,
+    b: usize,
+    fixes: &[u8],
+    k: usize,
+    extras: &[u8],
+    n: usize,
+    unsigned: &[u8],
+) -> Taken
+    ensures { λ r. ⌜ LineTaken (now (file .entry)) p b (now (fixes .entry)) k (now (extras .entry)) n (now (unsigned .entry)) r ⌝ }
 {
     let at = p.at;
     if file.len() <= at {
@@ -109,7 +119,10 @@ pub fn take_line(file: &[u8], p: Pace, b: usize, fixes: &[u8], k: usize, extras:
         return take_columned(file, p, Family::B, b, fixes);
     }
     if letter == b'K' {
-        return take_columned(file, p, Family::K, k, extras);
+        return take_columned(file, p, Family::Extra(Extra::K), k, extras);
+    }
+    if letter == b'N' {
+        return take_columned(file, p, Family::Extra(Extra::N), n, unsigned);
     }
     take_other(file, p)
 }

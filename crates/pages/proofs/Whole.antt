@@ -214,7 +214,7 @@ pages-left seal file table f room enough e = by (allowed 36 (f .layouts .b)) ref
         let r = readable seal file table f e in
         let low : i < length (r .lines) = omega (arith, many, r .counted) in
         let same : getD (r .lines) i [] ≡ getD (textsOf (linesOf file)) i [] = sym (r .numbered i low) ∙ line-by-number seal file table (i + 1) (omega arith) (rw e (omega (arith, many))) .bytes ∙ ap (λ n. getD (textsOf (linesOf file)) n []) (back-one i) in
-        subst (λ (l : List ℕ). getD l 0 0 ≡ code "B" → ReadsFix (f .layouts .b) l) same (each-at (ReadsLine (f .layouts)) (r .lines) i low (r .reads) .b)
+        subst (λ (l : List ℕ). getD l 0 0 ≡ code "B" → ReadsFix (f .layouts .b) l) same (each-at (ReadsLine (f .layouts)) (r .lines) i low (r .reads) .columned family.B)
 
     by : (b : Bool) → allowed 36 (f .layouts .b) ≡ b
         → joined file (tableAfter seal file table) (f .lines) (f .layouts .b) room (f .lines) 0 ≡ fixesShown 1 (f .layouts .b) (linesOf file)

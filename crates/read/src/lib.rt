@@ -1,11 +1,11 @@
 // The readers of a line, total on every line and every layout: 17 first, then the checks of its kind, then 19 and 20; with 0 for the line number.
 ghost use mathlib.Core.Path.{_≡_};
-ghost use Rattle.rules.specs.Families.{layoutLetter};
 ghost use Rattle.rules.specs.Promises.{EventGiven, SatellitesGiven, DateGiven, HeadGiven, HeadRest, PointGiven, PointRest, FixGiven, ExtraGiven, ColumnGiven, ColumnTextGiven, NumberGiven, LayoutGiven};
 ghost use Rattle.known.specs.Known.{allowedFor};
-use known::FamilyRead;
+use families::FamilyRead;
 use rules::ColumnRead;
 use rules::DateRead;
+use rules::Extra;
 use rules::Family;
 use rules::FixRead;
 use rules::HeadRead;
@@ -127,25 +127,26 @@ pub fn fix(line: &[u8], layout: Layout) -> FixRead
     known::fix(line, layout)
 }
 
-// The time of a K line by its J layout. BAD_VALUE for another kind or a layout that is not allowed; then what `line::extra_line` refuses.
-pub fn extra(line: &[u8], layout: Layout) -> TimeRead
-    ensures { λ r. ⌜ ExtraGiven (now (line .entry)) layout r ⌝ }
+// The time of a K line by its J layout, or of an N line by its M layout, as is said. BAD_VALUE for another kind or a layout that is not allowed; then what
+// `line::extra_line` refuses.
+pub fn extra(which: Extra, line: &[u8], layout: Layout) -> TimeRead
+    ensures { λ r. ⌜ ExtraGiven which (now (line .entry)) layout r ⌝ }
 {
-    if !layout::allowed(Family::K, layout) {
+    if !layout::allowed(Family::Extra(which), layout) {
         return TimeRead::Refused(Refusal {
             reason: Reason::BadValue,
             line: 0,
             byte: 0,
         });
     }
-    known::extra(line, layout)
+    known::extra(which, line, layout)
 }
 
 // Whether a layout is allowed for the family that a line is of.
 fn allowed_for(line: &[u8], layout: Layout) -> bool
     ensures { λ r. ⌜ r ≡ allowedFor (now (line .entry)) layout ⌝ }
 {
-    let FamilyRead::Of(f) = known::family(line) else {
+    let FamilyRead::Of(f) = families::family(line) else {
         return false;
     };
     layout::allowed(f, layout)
@@ -189,21 +190,11 @@ pub fn column_number(line: &[u8], layout: Layout, code: [u8; 3]) -> NumberRead
     known::number(line, layout, code)
 }
 
-// The kind of line that tells the layout of a family.
-fn layout_letter(family: Family) -> u8
-    ensures { λ r. ⌜ r ≡ layoutLetter family ⌝ }
-{
-    match family {
-        Family::B => b'I',
-        Family::K => b'J',
-    }
-}
-
-// The layout of an I line, for B lines, or of a J line, for K lines. BAD_VALUE for another kind; then what `layout::layout_line` refuses.
+// The layout of an I line, for B lines, of a J line, for K lines, or of an M line, for N lines. BAD_VALUE for another kind; then what `layout::layout_line` refuses.
 pub fn layout_of(family: Family, line: &[u8]) -> LayoutRead
     ensures { λ r. ⌜ LayoutGiven family (now (line .entry)) r ⌝ }
 {
-    if chars::byte(line, 0) != layout_letter(family) {
+    if chars::byte(line, 0) != families::layout_letter(family) {
         return layout::refused(Refusal {
             reason: Reason::BadValue,
             line: 0,

@@ -1,5 +1,5 @@
 -- Document 01's file of five lines: its verdict, table, fix, columns and listing; and a damaged variant of it for each refusal number 3 to 16, with the line and
--- byte worked out by hand. Computed. Assumes nothing.
+-- byte worked out by hand; files with M and N lines, good and damaged. Computed. Assumes nothing.
 use Prim.Native.Nat.{ℕ}
 use Prim.Native.String.{String}
 use mathlib.Core.Bool.{Bool, true}
@@ -33,9 +33,9 @@ fiveLayout = record {
 
 pub verdict-of-five : verdict seal.Strict fiveLines (some 16) ≡ says (record {
   date = record { day = 15; month = 7; year = 2024 };
-  layouts = record { b = fiveLayout; k = emptyLayout };
+  layouts = record { b = fiveLayout; k = emptyLayout; n = emptyLayout };
   lines = 5;
-  counts = record { b = 1; k = 0 };
+  counts = record { b = 1; k = 0; n = 0 };
 })
 unfolding everything fileOf
 verdict-of-five = refl
@@ -46,7 +46,7 @@ unfolding everything fileOf
 table-of-five = refl
 
 -- "Output, whole"
-pub listing-of-five : listing fiveLines ≡ bytes "OK 5 1 0 40 7" ++ 10 ∷ bytes "FIX 4 43200 3090000 N 15000 W A 100 120" ++ 10 ∷ bytes "COL FXA 012" ++ 10 ∷ bytes "COL SIU 08" ++ 10 ∷ []
+pub listing-of-five : listing fiveLines ≡ bytes "OK 5 1 0 40 7 0 7" ++ 10 ∷ bytes "FIX 4 43200 3090000 N 15000 W A 100 120" ++ 10 ∷ bytes "COL FXA 012" ++ 10 ∷ bytes "COL SIU 08" ++ 10 ∷ []
 unfolding everything fileOf
 listing-of-five = refl
 

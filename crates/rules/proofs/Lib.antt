@@ -4,3 +4,4 @@ pub mod Links
 pub mod Computed
 pub mod Marked
 pub mod Damaged
+pub mod NLines

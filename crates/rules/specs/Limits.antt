@@ -90,7 +90,7 @@ unfoldable pub badTail : ℕ → List ℕ → Layout → Option ℕ
 badTail start tail layout =
     firstOf (λ (e : Entry). not (keepsRule (e .code) (part (e .first - start) (e .last + 1 - start) tail))) (λ (k : ℕ) (e : Entry). e .first) (entriesOf layout) 0
 
--- the columns of a B line (36) or a K line (8), by a layout that is allowed: "A line of that kind ends at the last FF", valid characters, and no column against its rule
+-- the columns of a B line (36) or a K or N line (8), by a layout that is allowed: "A line of that kind ends at the last FF", valid characters, and no column against its rule
 unfoldable pub goodTail : ℕ → List ℕ → Layout → Bool
 goodTail start tail layout =
     need (allowed start layout) false λ _.
@@ -98,7 +98,7 @@ goodTail start tail layout =
     need (isClean tail) false λ _.
     given (badTail start tail layout) true λ first. false
 
--- "K: time 2 to 7, columns from 8."
+-- "K: time 2 to 7, columns from 8."; N as K
 unfoldable pub goodExtra : ℕ → List ℕ → Layout → Bool
 goodExtra t tail layout =
     need (isTime t) false λ _.

@@ -27,7 +27,7 @@ use Rattle.rules.specs.declared.Kind.{Kind}
 use Rattle.rules.specs.declared.Kind.the-variants as kind
 use Rattle.rules.specs.declared.Class.the-variants as class
 
--- "The first byte, A to Z, is the kind. M to Z are 'other' and carried (h)."
+-- "The first byte, A to Z, is the kind."; "M and N are 'other' no more": O to Z are, and carried (h)
 unfoldable pub kindOf : ℕ → Kind
 kindOf b =
     cond (eqb b (code "A")) kind.A
@@ -42,8 +42,10 @@ kindOf b =
     (cond (eqb b (code "J")) kind.J
     (cond (eqb b (code "K")) kind.K
     (cond (eqb b (code "L")) kind.L
+    (cond (eqb b (code "M")) kind.M
+    (cond (eqb b (code "N")) kind.N
     (cond (ltb b (code "A")) kind.NoKind
-    (cond (leb b (code "Z")) kind.Other kind.NoKind)))))))))))))
+    (cond (leb b (code "Z")) kind.Other kind.NoKind)))))))))))))))
 
 -- "Lengths below leave CR LF out": from least to most bytes
 unfoldable pub isSized : ℕ → ℕ → List ℕ → Bool
@@ -83,7 +85,7 @@ hLine l =
     need (codesAt l (byte 3) 3) (breaks class.Other 3) λ _.
     says tt
 
--- "I, J 3 to 99"
+-- "I, J 3 to 99"; M as J
 unfoldable pub layoutLine : ℕ → List ℕ → Said Layout
 layoutLine start l = andThen (shaped 3 99 false l) λ _. layoutFields start l
 
@@ -159,7 +161,7 @@ fixFields l =
     given (altitudeAt l (byte 31)) (breaks class.Altitude 31) λ g.
     says (record { time = t; lat = lat; lon = lon; validity = v; pressure = p; gnss = g })
 
--- "B and K exactly what their layout gives"
+-- "B and K exactly what their layout gives"; of N: "exact length"
 unfoldable pub shapedBy : ℕ → Layout → List ℕ → Said (Unit {0})
 shapedBy start layout l = shaped (lineLength start layout) (lineLength start layout) false l
 
@@ -171,33 +173,33 @@ bLine layout l =
     andThen (columns l layout) λ _.
     says f
 
--- "K: time 2 to 7, columns from 8."
-unfoldable pub kLine : Layout → List ℕ → Said ℕ
-kLine layout l =
-    andThen (shapedBy (firstStart family.K) layout l) λ _.
+-- "K: time 2 to 7, columns from 8."; "N is built as K is: time at 2 to 7, columns from 8, exact length, listed codes checked"
+unfoldable pub extraLine : Layout → List ℕ → Said ℕ
+extraLine layout l =
+    andThen (shapedBy 8 layout l) λ _.
     given (timeAt l (byte 2)) (breaks class.Time 2) λ t.
     andThen (columns l layout) λ _.
     says t
 
--- what the bytes of a line of a family before its columns spell: of a B line the fields of its fix, of a K line its time
+-- what the bytes of a line of a family before its columns spell: of a B line the fields of its fix, of a K or an N line its time
 abbrev pub FieldsIn : Family → Type 0
 FieldsIn family.B = FixFields
-FieldsIn family.K = ℕ
+FieldsIn (family.Extra e) = ℕ
 
 -- their time
 abbrev pub timeIn : (f : Family) → FieldsIn f → ℕ
 timeIn family.B v = v .time
-timeIn family.K t = t
+timeIn (family.Extra e) t = t
 
 -- a line of a family by its layout
 abbrev pub familyLine : (f : Family) → Layout → List ℕ → Said (FieldsIn f)
 familyLine family.B = bLine
-familyLine family.K = kLine
+familyLine (family.Extra e) = extraLine
 
 -- the time of a line of a family, by its layout
 unfoldable pub columnedLine : Family → Layout → List ℕ → Said ℕ
 columnedLine family.B layout l = andThen (bLine layout l) λ f. says (f .time)
-columnedLine family.K layout l = kLine layout l
+columnedLine (family.Extra e) layout l = extraLine layout l
 
 -- "L 1 to 99; G 2 to 255; other 1 to 255"
 abbrev pub lLine : List ℕ → Said (Unit {0})

@@ -7,7 +7,7 @@ use lib.Dec.{ltb, leb}
 use lib.IntN.{ℤ, pos, negsuc}
 use lib.ListN.{length}
 use Prim.Native.Char.{code}
-use Rattle.rules.specs.Families.{firstStart}
+use Rattle.rules.specs.Families.{firstStart, layoutOf, countOf}
 use Rattle.rules.specs.Choice.{need, bytes}
 use Rattle.rules.specs.Refusals.{Said, says, refuses, no}
 use Rattle.rules.specs.Listed.{codeText}
@@ -18,6 +18,8 @@ use Rattle.rules.specs.Files.{verdict}
 use Rattle.rules.specs.declared.Reason.the-variants.{InputOver}
 use Rattle.rules.specs.declared.Entry.{Entry}
 use Rattle.rules.specs.declared.Layout.{Layout}
+use Rattle.rules.specs.declared.Extra.the-variants as extra
+use Rattle.rules.specs.declared.Family.{Family}
 use Rattle.rules.specs.declared.Family.the-variants as family
 use Rattle.rules.specs.declared.FixFields.{FixFields}
 use Rattle.rules.specs.declared.Flight.{Flight}
@@ -52,11 +54,25 @@ unfoldable pub refusedText : ℕ → ℕ → ℕ → List ℕ
 unfolding bytes
 refusedText n l b = bytes "REFUSED" ++ (shown n ++ (shown l ++ (shown b ++ lf)))
 
--- "OK: lines, B lines, K lines, B length, K length."
+-- the count of a family's lines, and their length
+abbrev pub countShown : Family → Flight → List ℕ
+countShown f v = shown (countOf f (v .counts))
+
+abbrev pub lengthShown : Family → Flight → List ℕ
+lengthShown f v = shown (lineLength (firstStart f) (layoutOf f (v .layouts)))
+
+-- "OK: lines, B lines, K lines, B length, K length."; "the listing's OK line gets the N count and N length as two more fields at its end"
 unfoldable pub okText : Flight → List ℕ
 unfolding bytes
 okText f =
-    bytes "OK" ++ (shown (f .lines) ++ (shown (f .counts .b) ++ (shown (f .counts .k) ++ (shown (lineLength (firstStart family.B) (f .layouts .b)) ++ (shown (lineLength (firstStart family.K) (f .layouts .k)) ++ lf)))))
+    bytes "OK" ++ (shown (f .lines)
+    ++ (countShown family.B f
+    ++ (countShown (family.Extra extra.K) f
+    ++ (lengthShown family.B f
+    ++ (lengthShown (family.Extra extra.K) f
+    ++ (countShown (family.Extra extra.N) f
+    ++ (lengthShown (family.Extra extra.N) f
+    ++ lf)))))))
 
 -- "FIX: line, seconds, latitude and letter, longitude and letter, validity, pressure and GNSS altitude."
 unfoldable pub fixShown : ℕ → FixFields → List ℕ

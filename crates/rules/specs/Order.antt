@@ -39,9 +39,9 @@ noDate = record { day = 0; month = 0; year = 0 }
 abbrev pub noFlight : Flight
 noFlight = record {
   date = noDate;
-  layouts = record { b = emptyLayout; k = emptyLayout };
+  layouts = record { b = emptyLayout; k = emptyLayout; n = emptyLayout };
   lines = 0;
-  counts = record { b = 0; k = 0 };
+  counts = record { b = 0; k = 0; n = 0 };
 }
 
 -- before the first line; the clock stands at 0, from which no time falls
@@ -99,7 +99,7 @@ isBack onward = false
 isBack nextDay = false
 isBack back = true
 
--- "B, E, F and K lines run in time order."; "14 BACK: time falls; line, 2"
+-- "B, E, F and K lines run in time order."; N lines with them; "14 BACK: time falls; line, 2"
 unfoldable pub timed : ℕ → State → Said State
 timed t st = need (not (isBack (passing (st .clock) t))) (no reason.Back 2) λ _. says (clocked t st)
 

@@ -15,7 +15,7 @@ use Rattle.rules.specs.Fields.{isEither, timeTold, timeAt, timeText, day
 use Rattle.rules.specs.Degrees.{degreesTold, degreesOf}
 use Rattle.rules.specs.Listed.{listed, unlisted, keepsRule}
 use Rattle.rules.specs.Layouts.{LayoutTold, allowed, lengthTold, lengthSaid, presenceTold, presenceSaid, columnTold, lookSaid, columns}
-use Rattle.rules.specs.Lines.{kindOf, aLine, dateLine, hLine, layoutLine, headLine, pointLine, dLine, eLine, fLine, bLine, kLine, columnedLine, shaped}
+use Rattle.rules.specs.Lines.{kindOf, aLine, dateLine, hLine, layoutLine, headLine, pointLine, dLine, eLine, fLine, bLine, extraLine, columnedLine, shaped}
 use Rattle.rules.specs.Split.{lineTold, boundsOf, lineText}
 use Rattle.rules.specs.Files.{CheckedTold, verdict, tableAfter}
 use Rattle.rules.specs.Reads.{fixFieldsTold, fixTold, fixSaid, timeReadTold, extraSaid, eventSaid, satellitesSaid, dateReadTold, dateSaid, layoutSaid, headTold, headSaid, headRest, pointTold, pointSaid, pointRest, columnSaid, columnTextSaid, numberReadTold, numberSaid}
@@ -35,6 +35,7 @@ use Rattle.rules.specs.declared.Altitude.{Altitude}
 use Rattle.rules.specs.declared.DegreesRead.{DegreesRead}
 use Rattle.rules.specs.declared.Listed.{Listed}
 use Rattle.rules.specs.declared.Layout.{Layout}
+use Rattle.rules.specs.declared.Extra.{Extra}
 use Rattle.rules.specs.declared.Family.{Family}
 use Rattle.rules.specs.declared.LayoutRead.{LayoutRead}
 use Rattle.rules.specs.declared.LengthRead.{LengthRead}
@@ -192,7 +193,7 @@ abbrev pub FixChecked : List ℕ → Layout → FixFieldsRead → Type 0
 FixChecked l layout r = fixFieldsTold r ≡ bLine layout l
 
 abbrev pub ExtraChecked : List ℕ → Layout → TimeRead → Type 0
-ExtraChecked l layout r = timeReadTold r ≡ kLine layout l
+ExtraChecked l layout r = timeReadTold r ≡ extraLine layout l
 
 abbrev pub ColumnedChecked : Family → List ℕ → Layout → TimeRead → Type 0
 ColumnedChecked f l layout r = timeReadTold r ≡ columnedLine f layout l
@@ -202,8 +203,8 @@ ColumnedChecked f l layout r = timeReadTold r ≡ columnedLine f layout l
 abbrev pub FixGiven : List ℕ → Layout → FixRead → Type 0
 FixGiven l layout r = fixTold r ≡ fixSaid l layout
 
-abbrev pub ExtraGiven : List ℕ → Layout → TimeRead → Type 0
-ExtraGiven l layout r = timeReadTold r ≡ extraSaid l layout
+abbrev pub ExtraGiven : Extra → List ℕ → Layout → TimeRead → Type 0
+ExtraGiven e l layout r = timeReadTold r ≡ extraSaid e l layout
 
 abbrev pub EventGiven : List ℕ → TimeRead → Type 0
 EventGiven l r = timeReadTold r ≡ eventSaid l
@@ -265,8 +266,8 @@ pub record Written (good : Bool) (text : List ℕ) (place : ℕ) (out : List ℕ
 abbrev pub FixWritten : Fix → List ℕ → Layout → ℕ → List ℕ → Wrote → List ℕ → Type 0
 FixWritten f tail layout place out r after = Written (isFix f tail layout) (fixText f tail) place out r after
 
-abbrev pub ExtraWritten : ℕ → List ℕ → Layout → ℕ → List ℕ → Wrote → List ℕ → Type 0
-ExtraWritten t tail layout place out r after = Written (isExtra t tail layout) (extraText t tail) place out r after
+abbrev pub ExtraWritten : Extra → ℕ → List ℕ → Layout → ℕ → List ℕ → Wrote → List ℕ → Type 0
+ExtraWritten e t tail layout place out r after = Written (isExtra e t tail layout) (extraText e t tail) place out r after
 
 abbrev pub LayoutWritten : Family → Layout → ℕ → List ℕ → Wrote → List ℕ → Type 0
 LayoutWritten f l place out r after = Written (allowed (firstStart f) l) (layoutText f l) place out r after

@@ -18,6 +18,7 @@ use Rattle.rules.specs.declared.Signed.{Signed}
 use Rattle.rules.specs.declared.Date.{Date}
 use Rattle.rules.specs.declared.Entry.{Entry}
 use Rattle.rules.specs.declared.Layout.{Layout}
+use Rattle.rules.specs.declared.Extra.{Extra}
 use Rattle.rules.specs.declared.Family.{Family}
 use Rattle.rules.specs.declared.Family.the-variants as family
 use Rattle.rules.specs.declared.FixFields.{FixFields}
@@ -52,28 +53,28 @@ module _ {A : Type 0} where
 abbrev pub fieldsSaid : (f : Family) → List ℕ → Layout → Said (FieldsIn f)
 fieldsSaid f l layout = ofKind (lineLetter f) l λ _. byLayout f layout λ _. familyLine f layout l
 
--- what its reading gives before the columns: of a B line its fix, of a K line its time
+-- what its reading gives before the columns: of a B line its fix, of a K or an N line its time
 abbrev pub ValueOf : Family → Type 0
 ValueOf family.B = Fix
-ValueOf family.K = ℕ
+ValueOf (family.Extra e) = ℕ
 
 -- the value, from what the bytes spell
 abbrev pub valueFrom : (f : Family) → FieldsIn f → ValueOf f
 valueFrom family.B v = fixOf v
-valueFrom family.K t = t
+valueFrom (family.Extra e) t = t
 
 -- the value of a line of a family with its layout
 abbrev pub saidOf : (f : Family) → List ℕ → Layout → Said (ValueOf f)
 saidOf family.B l layout = andThen (fieldsSaid family.B l layout) λ f. says (fixOf f)
-saidOf family.K l layout = fieldsSaid family.K l layout
+saidOf (family.Extra e) l layout = fieldsSaid (family.Extra e) l layout
 
 -- the fix of a B line with its I layout
 unfoldable pub fixSaid : List ℕ → Layout → Said Fix
 fixSaid l layout = saidOf family.B l layout
 
--- the time of a K line with its J layout
-unfoldable pub extraSaid : List ℕ → Layout → Said ℕ
-extraSaid l layout = saidOf family.K l layout
+-- the time of a K line with its J layout, or of an N line with its M layout
+unfoldable pub extraSaid : Extra → List ℕ → Layout → Said ℕ
+extraSaid e l layout = saidOf (family.Extra e) l layout
 
 -- the whole reading of a line of a family: that value, and the entries of its columns, in layout order
 pub record Reading (f : Family) : Type 0 where
@@ -94,7 +95,7 @@ satellitesSaid l = ofKind (code "F") l λ _. fLine l
 unfoldable pub dateSaid : List ℕ → Said Date
 dateSaid l = ofKind (code "H") l λ _. dateLine l
 
--- the layout of an I line, for B lines, and of a J line, for K lines
+-- the layout of an I line, for B lines, of a J line, for K lines, and of an M line, for N lines
 unfoldable pub layoutSaid : Family → List ℕ → Said Layout
 layoutSaid f l = ofKind (layoutLetter f) l λ _. layoutLine (firstStart f) l
 

@@ -4,6 +4,8 @@ use mathlib.Core.Bool.{Bool, true, false, _&&_, cond}
 use mathlib.Core.Option.{Option, none, some}
 use lib.Dec.{leb}
 use Rattle.rules.specs.Choice.{need}
+use Rattle.rules.specs.declared.Extra.{Extra}
+use Rattle.rules.specs.declared.Extra.the-variants as extra
 use Rattle.rules.specs.declared.Family.{Family}
 use Rattle.rules.specs.declared.Family.the-variants as family
 use Rattle.rules.specs.declared.Kind.{Kind}
@@ -22,9 +24,11 @@ roleOf kind.F = role.Satellites
 roleOf kind.G = role.Seals
 roleOf kind.H = role.Heads
 roleOf kind.I = role.Tells family.B
-roleOf kind.J = role.Tells family.K
-roleOf kind.K = role.Columned family.K
+roleOf kind.J = role.Tells (family.Extra extra.K)
+roleOf kind.K = role.Columned (family.Extra extra.K)
 roleOf kind.L = role.Remark
+roleOf kind.M = role.Tells (family.Extra extra.N)
+roleOf kind.N = role.Columned (family.Extra extra.N)
 roleOf kind.Other = role.Other
 roleOf kind.NoKind = role.NoRole
 
@@ -50,15 +54,21 @@ isBare = elim [ role.Opens ↦ false | role.Heads ↦ false | role.Tells f ↦ f
 abbrev pub isEvent : Role → Bool
 isEvent = elim [ role.Opens ↦ false | role.Heads ↦ false | role.Tells f ↦ false | role.Columned f ↦ false | role.Declares ↦ false | role.Event ↦ true | role.Satellites ↦ false | role.Differential ↦ false | role.Seals ↦ false | role.Remark ↦ false | role.Other ↦ false | role.NoRole ↦ false ]
 
--- "B, E, F and K lines run in time order."
+-- "B, E, F and K lines run in time order."; of N lines: "and it joins the time order"
 abbrev pub isTimed : Role → Bool
 isTimed = elim [ role.Opens ↦ false | role.Heads ↦ false | role.Tells f ↦ false | role.Columned f ↦ true | role.Declares ↦ false | role.Event ↦ true | role.Satellites ↦ true | role.Differential ↦ false | role.Seals ↦ false | role.Remark ↦ false | role.Other ↦ false | role.NoRole ↦ false ]
 
+abbrev pub sameExtra : Extra → Extra → Bool
+sameExtra extra.K extra.K = true
+sameExtra extra.K extra.N = false
+sameExtra extra.N extra.K = false
+sameExtra extra.N extra.N = true
+
 abbrev pub sameFamily : Family → Family → Bool
 sameFamily family.B family.B = true
-sameFamily family.B family.K = false
-sameFamily family.K family.B = false
-sameFamily family.K family.K = true
+sameFamily family.B (family.Extra d) = false
+sameFamily (family.Extra e) family.B = false
+sameFamily (family.Extra e) (family.Extra d) = sameExtra e d
 
 -- a line of a family
 abbrev pub isOf : Family → Role → Bool
@@ -78,26 +88,28 @@ afterH = 2
 -- behind the line that tells a family's layout
 abbrev pub afterLayout : Family → ℕ
 afterLayout family.B = 3
-afterLayout family.K = 4
+afterLayout (family.Extra extra.K) = 4
+afterLayout (family.Extra extra.N) = 5
 
 abbrev pub inBody : ℕ
-inBody = 5
+inBody = 6
 
 abbrev pub afterG : ℕ
-afterG = 6
+afterG = 7
 
 abbrev pub afterLastG : ℕ
-afterLastG = 7
+afterLastG = 8
 
 -- from the parts `low` to `high` the line leads to the part `next`; from any other it may not come
 abbrev pub leading : ℕ → ℕ → ℕ → ℕ → Option ℕ
 leading low high next stage = need (leb low stage && leb stage high) none λ _. some next
 
--- "After these come C, D, E, F, B, K, L and other, with no further A, H, I, J."
+-- "After these come C, D, E, F, B, K, L and other, with no further A, H, I, J."; so do N lines, and no further M
 abbrev pub bodyAfter : ℕ → Option ℕ
 bodyAfter stage = leading afterH inBody inBody stage
 
--- "Line 1 is A, line 2 is H, then further H lines, then at most one I, then at most one J."
+-- "Line 1 is A, line 2 is H, then further H lines, then at most one I, then at most one J."; "M is built as J is, at most one, straight after J, or after I or the H lines
+-- if those are missing."
 -- "Then one or more G lines. After the first G only G or L; after an L that follows a G, only L. So a B after G is refused, as 000 A2.3.1 demands."
 unfoldable pub stageAfter : Role → ℕ → Option ℕ
 stageAfter role.Opens stage = leading atStart atStart afterA stage

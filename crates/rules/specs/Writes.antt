@@ -7,7 +7,7 @@ use lib.Dec.{eqb, leb}
 use lib.IntN.{ℤ, pos, negsuc}
 use lib.ListN.{length}
 use lib.Seq.{sets}
-use Rattle.rules.specs.Families.{layoutLetter}
+use Rattle.rules.specs.Families.{lineLetter, layoutLetter}
 use Rattle.rules.specs.Choice.{need}
 use Rattle.rules.specs.Refusals.{Said, says, refuses, no, refusal}
 use Rattle.rules.specs.Numbers.{digitsOf}
@@ -21,7 +21,9 @@ use Rattle.rules.specs.declared.Date.{Date}
 use Rattle.rules.specs.declared.Position.{Position}
 use Rattle.rules.specs.declared.Entry.{Entry}
 use Rattle.rules.specs.declared.Layout.{Layout}
+use Rattle.rules.specs.declared.Extra.{Extra}
 use Rattle.rules.specs.declared.Family.{Family}
+use Rattle.rules.specs.declared.Family.the-variants as family
 use Rattle.rules.specs.declared.FixFields.{FixFields}
 use Rattle.rules.specs.declared.Fix.{Fix}
 use Rattle.rules.specs.declared.Planned.{Planned}
@@ -31,8 +33,9 @@ use Rattle.rules.specs.declared.Point.{Point}
 use Rattle.rules.specs.declared.Wrote.{Wrote}
 use Rattle.rules.specs.declared.Wrote.the-variants as wrote
 
--- ---- the text of each line, without its CR LF. "Writers make B, I, J, K and C lines." "Writers take what the readings give, columns and other text as bytes; B and K
--- readers and writers take the layout too; C head and C point have a reader and a writer each."
+-- ---- the text of each line, without its CR LF. "Writers make B, I, J, K and C lines."; M and N "have writers".
+-- "Writers take what the readings give, columns and other text as bytes; B and K readers and writers take the layout too; C head and C point have a reader and a writer
+-- each."; N as K
 
 unfoldable pub fieldsText : FixFields → List ℕ → List ℕ
 fieldsText f tail =
@@ -47,8 +50,8 @@ fieldsText f tail =
 unfoldable pub fixText : Fix → List ℕ → List ℕ
 fixText f tail = fieldsText (fieldsOf f) tail
 
-unfoldable pub extraText : ℕ → List ℕ → List ℕ
-extraText t tail = code "K" ∷ (timeText t ++ tail)
+unfoldable pub extraText : Extra → ℕ → List ℕ → List ℕ
+extraText e t tail = lineLetter (family.Extra e) ∷ (timeText t ++ tail)
 
 unfoldable pub entryText : Entry → List ℕ
 entryText e = digitsOf 2 (e .first) ++ (digitsOf 2 (e .last) ++ codeText (e .code))
@@ -128,8 +131,8 @@ module _ {A : Type 0} where
 unfoldable pub isFix : Fix → List ℕ → Layout → Bool
 isFix f tail layout = reads sameFix (fixSaid (fixText f tail) layout) f
 
-unfoldable pub isExtra : ℕ → List ℕ → Layout → Bool
-isExtra t tail layout = reads eqb (extraSaid (extraText t tail) layout) t
+unfoldable pub isExtra : Extra → ℕ → List ℕ → Layout → Bool
+isExtra e t tail layout = reads eqb (extraSaid e (extraText e t tail) layout) t
 
 unfoldable pub isHead : Head → List ℕ → Bool
 isHead h rest = reads sameHead (headSaid (headText h rest)) h

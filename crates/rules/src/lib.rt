@@ -137,16 +137,22 @@ pub struct Entry {
     pub code: u32,
 }
 
-// The columns that an I or a J line tells: the first `count` entries; the others are all zero.
+// The columns that an I, a J or an M line tells: the first `count` entries; the others are all zero.
 pub struct Layout {
     pub count: usize,
     pub entries: [Entry; 13],
 }
 
-// The lines that a layout is for: B lines with their I line's, K lines with their J line's.
+// The lines whose fields before the columns are a time alone: K lines, and N lines, which are built as they are.
+pub enum Extra {
+    K,
+    N,
+}
+
+// The lines that a layout is for: B lines with their I line's, K lines with their J line's, N lines with their M line's.
 pub enum Family {
     B,
-    K,
+    Extra(Extra),
 }
 
 // A layout that was read; the empty one beside a refusal.
@@ -214,7 +220,7 @@ pub enum FixRead {
     Refused(Refusal),
 }
 
-// The time of a K, an E or an F line.
+// The time of a K, an N, an E or an F line.
 pub enum TimeRead {
     Secs(u32),
     Refused(Refusal),
@@ -256,7 +262,7 @@ pub enum PointRead {
     Refused(Refusal),
 }
 
-// A line's kind, told by its first byte. Other: M to Z. NoKind: no byte from A to Z.
+// A line's kind, told by its first byte. Other: O to Z. NoKind: no byte from A to Z.
 pub enum Kind {
     A,
     B,
@@ -270,11 +276,14 @@ pub enum Kind {
     J,
     K,
     L,
+    M,
+    N,
     Other,
     NoKind,
 }
 
-// What a kind of line does in a file: the A line opens it, H lines head it, I and J lines tell a layout, B and K lines have columns, C lines declare a task. No role: no byte from A to Z.
+// What a kind of line does in a file: the A line opens it, H lines head it, I, J and M lines tell a layout, B, K and N lines have columns, C lines
+// declare a task. No role: no byte from A to Z.
 pub enum Role {
     Opens,
     Heads,
@@ -299,12 +308,14 @@ pub enum Seal {
 pub struct Layouts {
     pub b: Layout,
     pub k: Layout,
+    pub n: Layout,
 }
 
 // How many lines of each family there are.
 pub struct Counts {
     pub b: u32,
     pub k: u32,
+    pub n: u32,
 }
 
 // What an accepted file says: its date, the layouts of its families, how many lines it has, and how many of each family.

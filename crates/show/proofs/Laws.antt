@@ -2,7 +2,7 @@
 use Prim.Native.Nat.{ℕ, _+_, _-_, _≤_, _<_}
 use mathlib.Core.Bool.{Bool, true, false}
 use mathlib.Core.List.{List, [], _∷_, _++_, append-assoc}
-use mathlib.Core.Path.{_≡_, refl, sym, _∙_}
+use mathlib.Core.Path.{_≡_, refl, sym, ap, _∙_}
 use native.Mathlib.Numerals.{add-one}
 use native.Mathlib.Omega.{arith}
 use borrow.Author.Tests.{ne-eqb}
@@ -21,7 +21,7 @@ use Rattle.rules.specs.declared.Flight.{Flight}
 use Rattle.basics.proofs.Laws.{take-most}
 use Rattle.pieces.specs.Buffer.{PiecePut}
 use Rattle.pieces.proofs.Laws.{number-room}
-use Rattle.show.specs.Lines.{columnLine, counted, okNumbers, positionShown, fixPlaces, fixHeights}
+use Rattle.show.specs.Lines.{columnLine, counted, twoShown, okNumbers, positionShown, fixPlaces, fixHeights}
 
 -- ---- an altitude's text by its sign and its size
 plain-metres : (z : ℤ) → nonNeg z ≡ true → shownMetres z ≡ shown (natAbs z)
@@ -76,9 +76,17 @@ pub refused-parts : (n l b : ℕ) → refusedText n l b ≡ counted (bytes "REFU
 unfolding refusedText bytes
 refused-parts n l b = sym (regrouped (bytes "REFUSED") n l b lf)
 
-pub ok-parts : (f : Flight) → okText f ≡ okNumbers (f .lines) (f .counts .b) (f .counts .k) (lineLength 36 (f .layouts .b)) (lineLength 8 (f .layouts .k))
-unfolding okText okNumbers bytes
-ok-parts f = sym (regrouped (bytes "OK") (f .lines) (f .counts .b) (f .counts .k) (shown (lineLength 36 (f .layouts .b)) ++ (shown (lineLength 8 (f .layouts .k)) ++ lf)))
+paired : (a b c d rest : List ℕ) → (a ++ b) ++ ((c ++ d) ++ rest) ≡ a ++ (b ++ (c ++ (d ++ rest)))
+paired a b c d rest = simp append-assoc
+
+pub ok-parts : (f : Flight) → okText f ≡ okNumbers (f .lines) (f .counts) (lineLength 36 (f .layouts .b)) (lineLength 8 (f .layouts .k)) (lineLength 8 (f .layouts .n))
+unfolding okText okNumbers twoShown bytes
+ok-parts f =
+    let b = shown (lineLength 36 (f .layouts .b)) in
+    let k = shown (lineLength 8 (f .layouts .k)) in
+    let n = shown (lineLength 8 (f .layouts .n)) in
+    let c = shown (f .counts .n) in
+    sym (regrouped (bytes "OK") (f .lines) (f .counts .b) (f .counts .k) ((b ++ k) ++ ((c ++ n) ++ lf)) ∙ ap (λ x. bytes "OK" ++ (shown (f .lines) ++ (shown (f .counts .b) ++ (shown (f .counts .k) ++ x)))) (paired b k c n lf))
 
 grouped : (w a b c d rest : List ℕ) → w ++ (a ++ (b ++ ((c ++ d) ++ rest))) ≡ (w ++ (a ++ (b ++ c))) ++ (d ++ rest)
 grouped w a b c d rest = simp append-assoc
@@ -109,7 +117,7 @@ pub ok-room : (f : Flight) → length (okText f) ≤ 288
 unfolding okText bytes
 ok-room f =
     simp length-append
-    (omega (arith, number-room (f .lines), number-room (f .counts .b), number-room (f .counts .k), number-room (lineLength 36 (f .layouts .b)), number-room (lineLength 8 (f .layouts .k))))
+    (omega (arith, number-room (f .lines), number-room (f .counts .b), number-room (f .counts .k), number-room (lineLength 36 (f .layouts .b)), number-room (lineLength 8 (f .layouts .k)), number-room (f .counts .n), number-room (lineLength 8 (f .layouts .n))))
 
 pub fix-room : (n : ℕ) (f : FixFields) → length (fixShown n f) ≤ 288
 unfolding fixShown bytes

@@ -7,6 +7,7 @@ use Rattle.rules.specs.Choice.{need, bytes}
 use Rattle.rules.specs.Refusals.{number}
 use Rattle.rules.specs.Listing.{shown, shownLetter, shownMetres, lf, refusedText, okText, fixShown, columnShown}
 use Rattle.rules.specs.declared.Refusal.{Refusal}
+use Rattle.rules.specs.declared.Counts.{Counts}
 use Rattle.rules.specs.declared.Entry.{Entry}
 use Rattle.rules.specs.declared.Position.{Position}
 use Rattle.rules.specs.declared.FixFields.{FixFields}
@@ -34,10 +35,13 @@ ColumnShown l e out r after = Shown (columnLine l e) out r after
 unfoldable pub counted : List ℕ → ℕ → ℕ → ℕ → List ℕ
 counted word a b c = word ++ (shown a ++ (shown b ++ shown c))
 
--- an OK line of its five numbers
-unfoldable pub okNumbers : ℕ → ℕ → ℕ → ℕ → ℕ → List ℕ
+unfoldable pub twoShown : ℕ → ℕ → List ℕ
+twoShown a b = shown a ++ shown b
+
+-- an OK line of its numbers: the lines, the counts and the lengths of B, K and N lines
+unfoldable pub okNumbers : ℕ → Counts → ℕ → ℕ → ℕ → List ℕ
 unfolding bytes
-okNumbers l b k x y = counted (bytes "OK") l b k ++ (shown x ++ (shown y ++ lf))
+okNumbers l ns b k n = counted (bytes "OK") l (ns .b) (ns .k) ++ (twoShown b k ++ (twoShown (ns .n) n ++ lf))
 
 unfoldable pub positionShown : Position → List ℕ
 positionShown p = shown (p .count) ++ shownLetter (p .letter)

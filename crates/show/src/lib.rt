@@ -22,17 +22,18 @@ pub fn refused(why: Refusal, out: &mut [u8; 288]) -> usize
     put_refusal(out, number, why.line, why.byte)
 }
 
-// OK, the counts of lines, of B lines and of K lines, and the lengths of B and of K lines: how many bytes the line has.
+// OK, the counts of lines, of B lines and of K lines, the lengths of B and of K lines, and the count and the length of N lines: how many bytes the line has.
 pub fn ok(f: Flight, out: &mut [u8; 288]) -> usize
     ensures { λ r. ⌜ FlightShown f (now (out .entry)) r (now (out .exit)) ⌝ }
 {
     let layouts = f.layouts;
     let fixes = layouts.b;
     let extras = layouts.k;
+    let unsigned = layouts.n;
     let b = line_length(36, fixes);
     let k = line_length(8, extras);
-    let counts = f.counts;
-    put_flight(out, f.lines, counts.b, counts.k, b, k)
+    let n = line_length(8, unsigned);
+    put_flight(out, f.lines, f.counts, b, k, n)
 }
 
 // FIX and what the B line of that number says before its columns: how many bytes the line has.

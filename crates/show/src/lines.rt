@@ -5,12 +5,13 @@ ghost use Rattle.rules.specs.Choice.{byte};
 ghost use Rattle.rules.specs.Layouts.{lineLength, columnText, spanOf};
 ghost use Rattle.rules.specs.Listing.{refusedText, fixShown, columnShown};
 ghost use Rattle.pieces.specs.Buffer.{PiecePut};
-ghost use Rattle.show.specs.Lines.{columnLine, counted, okNumbers, positionShown, fixPlaces, fixHeights};
+ghost use Rattle.show.specs.Lines.{columnLine, counted, twoShown, okNumbers, positionShown, fixPlaces, fixHeights};
 use crate::values::put_letter;
 use crate::values::put_metres;
 use pieces::put_byte;
 use pieces::put_shown;
 use pieces::put_text;
+use rules::Counts;
 use rules::Entry;
 use rules::FixFields;
 use rules::Layout;
@@ -50,21 +51,36 @@ pub(crate) fn line_length(start: usize, l: Layout) -> usize
     last.last as usize
 }
 
-// The line of a file that is accepted: its counts of lines, and the lengths of B and of K lines.
+// Two numbers.
+fn put_two(out: &mut [u8], at: usize, a: u64, b: u64) -> usize
+    ensures { λ r. ⌜ PiecePut (now (out .entry)) at (twoShown a b) r (now (out .exit)) ⌝ }
+{
+    let x = put_shown(out, at, a);
+    put_shown(out, x, b)
+}
+
+// The line of a file that is accepted: its counts of lines, of B and of K lines, the lengths of these, and the count and the length of N lines.
 pub(crate) fn put_flight(
     out: &mut [u8],
     lines: u32,
-    bs: u32,
-    ks: u32,
-    fix: usize,
-    extra: usize,
+    counts: Counts,
+    b: usize,
+    k: usize,
+    n: usize,
 ) -> usize
-    ensures { λ r. ⌜ PiecePut (now (out .entry)) 0 (okNumbers lines bs ks fix extra) r (now (out .exit)) ⌝ }
+    ensures { λ r. ⌜ PiecePut (now (out .entry)) 0 (okNumbers lines counts b k n) r (now (out .exit)) ⌝ }
 {
-    let a = put_counted(out, 0, b"OK", lines as u64, bs as u64, ks as u64);
-    let b = put_shown(out, a, fix as u64);
-    let c = put_shown(out, b, extra as u64);
-    put_byte(out, c, b'\n')
+    let c = put_counted(
+        out,
+        0,
+        b"OK",
+        lines as u64,
+        counts.b as u64,
+        counts.k as u64,
+    );
+    let d = put_two(out, c, b as u64, k as u64);
+    let e = put_two(out, d, counts.n as u64, n as u64);
+    put_byte(out, e, b'\n')
 }
 
 // A latitude or a longitude with its letter.

@@ -1,5 +1,6 @@
--- What a layout is that a line tells.
+-- What a layout is that a line tells, and the families one by one.
 pub mod Each
+pub mod Families
 pub mod Entries
 pub mod Placed
 pub mod Columns

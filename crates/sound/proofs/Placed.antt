@@ -1,4 +1,4 @@
--- A layout is its entries and nothing behind them; one that an I or a J line tells is allowed, over the first start, and so is the empty one. Assumes nothing.
+-- A layout is its entries and nothing behind them; one that an I, a J or an M line tells is allowed, over the first start, and so is the empty one. Assumes nothing.
 use Prim.Native.Nat.{ℕ, zero, suc, _+_, _-_, _*_, _≤_, _<_}
 use mathlib.Core.Bool.{Bool, true, false, _&&_}
 use mathlib.Core.List.{List, [], _∷_, _++_, append-nil, append-assoc}

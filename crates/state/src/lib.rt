@@ -4,6 +4,7 @@ ghost use Rattle.rules.specs.Families.{withLayout};
 ghost use Rattle.state.specs.States.{FewTest, NoFlight, BeforeAll, Moved, Dated, LayoutKept, LaidOut, CountedIn, Begun, Pointed, Clocked};
 use rules::Counts;
 use rules::Date;
+use rules::Extra;
 use rules::Family;
 use rules::Flight;
 use rules::Head;
@@ -34,12 +35,13 @@ pub fn no_flight() -> Flight
     let layouts = Layouts {
         b: basics::empty_layout(),
         k: basics::empty_layout(),
+        n: basics::empty_layout(),
     };
     Flight {
         date,
         layouts,
         lines: 0,
-        counts: Counts { b: 0, k: 0 },
+        counts: Counts { b: 0, k: 0, n: 0 },
     }
 }
 
@@ -87,7 +89,10 @@ pub fn layout_of(family: Family, layouts: Layouts) -> Layout
 {
     match family {
         Family::B => layouts.b,
-        Family::K => layouts.k,
+        Family::Extra(e) => match e {
+            Extra::K => layouts.k,
+            Extra::N => layouts.n,
+        },
     }
 }
 
@@ -99,9 +104,14 @@ fn with_layout(family: Family, layout: Layout, layouts: Layouts) -> Layouts
         Family::B => {
             next.b = layout;
         }
-        Family::K => {
-            next.k = layout;
-        }
+        Family::Extra(e) => match e {
+            Extra::K => {
+                next.k = layout;
+            }
+            Extra::N => {
+                next.n = layout;
+            }
+        },
     }
     next
 }

@@ -139,7 +139,7 @@ mild-by family.B l t e d h =
     let s = and-inv (isPlain (getD l 0 0)) (isFront l) e in
     let three : Mild 3 l = joined 1 2 l (first-mild l (s .0)) (time-mild l t h .0) in
     ended 35 l (joined 3 32 l three (front-mild l (s .1))) d
-mild-by family.K l t e d h =
+mild-by (family.Extra x) l t e d h =
     let s = and-inv (isPlain (getD l 0 0)) true e in
     let p = time-mild l t h in
     let three : Mild 3 l = joined 1 2 l (first-mild l (s .0)) (p .0) in
@@ -149,7 +149,7 @@ mild-by family.K l t e d h =
 fields-by : (f : Family) (l : List ℕ) → isEasy f l ≡ true → fieldsTime f l ≡ timeAt l 1
 unfolding fieldsTime isEasy
 fields-by family.B l e = front-time l (and-inv (isPlain (getD l 0 0)) (isFront l) e .1)
-fields-by family.K l e = refl
+fields-by (family.Extra x) l e = refl
 
 -- such a line's time is all that is left to read
 pub easy-time : (f : Family) (l : List ℕ) → isEasy f l ≡ true → every isMild (drop (firstStart f - 1) l) ≡ true → timeAt l 1 ≡ cleanTime f l

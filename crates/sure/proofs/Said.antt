@@ -14,7 +14,7 @@ use Rattle.rules.specs.Choice.{leads, firstOf, given, need, part, byte}
 use Rattle.rules.specs.Chars.{isDigit, characters}
 use Rattle.rules.specs.Fields.{timeAt}
 use Rattle.rules.specs.Layouts.{entriesOf, spanOf, columnText, badColumn, columns, lineLength, withEntry, isSaid, isSpelt, placed, allPlaced, allowed}
-use Rattle.rules.specs.Lines.{isSized, shaped, shapedBy, bLine, kLine, columnedLine, fixFields}
+use Rattle.rules.specs.Lines.{isSized, shaped, shapedBy, bLine, extraLine, columnedLine, fixFields}
 use Rattle.rules.specs.Listed.{listedNumber, listed, unlisted, isDigits, keepsSign, keepsRule}
 use Rattle.rules.specs.Refusals.{Said, says, refuses, no}
 use Rattle.rules.specs.declared.Entry.{Entry}
@@ -130,7 +130,7 @@ columns-said f l layout a e =
   where
     least : (f : Family) → 1 ≤ firstStart f
     least family.B = omega arith
-    least family.K = omega arith
+    least (family.Extra e) = omega arith
 
 -- ---- the whole line
 
@@ -175,8 +175,8 @@ fix-said layout l f s r c = rw (s, r, c)
 -- a line of a family is read with its time
 pub sure-columned : (f : Family) (layout : Layout) (l : List ℕ) (t : ℕ) → allowed (firstStart f) layout ≡ true → SureParts f l (lineLength (firstStart f) layout) (patternOf (entriesOf layout)) t
     → columnedLine f layout l ≡ says t
-unfolding columnedLine kLine fieldsTime
+unfolding columnedLine extraLine fieldsTime
 sure-columned family.B layout l t a p =
     let f = fields-timed (fixFields l) t (p .fields) in
     rw (fix-said layout l (f .fix) (mild-shaped (firstStart family.B) layout l (p .long) (p .mild)) (f .read) (columns-said family.B l layout a (p .columns)), f .time)
-sure-columned family.K layout l t a p = rw (mild-shaped (firstStart family.K) layout l (p .long) (p .mild), p .fields, columns-said family.K l layout a (p .columns))
+sure-columned (family.Extra e) layout l t a p = rw (mild-shaped 8 layout l (p .long) (p .mild), p .fields, columns-said (family.Extra e) l layout a (p .columns))

@@ -50,7 +50,7 @@ timeOf (refuses n l b) = none
 -- the time of a line whose fields before the columns keep their rules
 unfoldable pub fieldsTime : Family → List ℕ → Option ℕ
 fieldsTime family.B l = timeOf (fixFields l)
-fieldsTime family.K l = timeAt l 1
+fieldsTime (family.Extra e) l = timeAt l 1
 
 -- the time of a line with mild bytes alone whose fields before the columns keep their rules
 unfoldable pub cleanTime : Family → List ℕ → Option ℕ
@@ -60,10 +60,10 @@ cleanTime f l = need (every isMild l) none λ _. fieldsTime f l
 unfoldable pub patternTime : Family → List ℕ → List ℕ → Option ℕ
 patternTime f l pattern = need (keepsPattern l pattern) none λ _. cleanTime f l
 
--- the bytes between the time and the columns tell that the fields there keep their rules; a K line has none there
+-- the bytes between the time and the columns tell that the fields there keep their rules; a K or an N line has none there
 abbrev pub isOpen : Family → List ℕ → Bool
 isOpen family.B l = isFront l
-isOpen family.K l = true
+isOpen (family.Extra e) l = true
 
 -- the same, and the first byte is plain
 unfoldable pub isEasy : Family → List ℕ → Bool

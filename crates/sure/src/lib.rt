@@ -105,17 +105,17 @@ fn fields_time(family: Family, line: &[u8]) -> Time
 {
     match family {
         Family::B => fix_time(line),
-        Family::K => field::time_at(line, 1),
+        Family::Extra(_) => field::time_at(line, 1),
     }
 }
 
-// Whether the bytes between a line's time and its columns tell that the fields there keep their rules. A K line has none there.
+// Whether the bytes between a line's time and its columns tell that the fields there keep their rules. A K or an N line has none there.
 fn is_open(family: Family, line: &[u8]) -> bool
     ensures { λ r. ⌜ r ≡ isOpen family (now (line .entry)) ⌝ }
 {
     match family {
         Family::B => front::is_front(line),
-        Family::K => true,
+        Family::Extra(_) => true,
     }
 }
 
@@ -139,7 +139,7 @@ fn columns_from(family: Family) -> usize
 {
     match family {
         Family::B => 35,
-        Family::K => 7,
+        Family::Extra(_) => 7,
     }
 }
 

@@ -11,7 +11,7 @@ abbrev pub isFew : ℕ → Bool
 isFew n = leb n 16777216
 
 unfoldable pub areFew : Counts → Bool
-areFew ns = isFew (ns .b) && isFew (ns .k)
+areFew ns = isFew (ns .b) && isFew (ns .k) && isFew (ns .n)
 
 abbrev pub FewCounts : Counts → Bool → Type 0
 FewCounts ns r = r ≡ areFew ns

@@ -1,6 +1,7 @@
 // The counts of each family's lines: whether they are few, and one line more.
 ghost use Rattle.tally.specs.Counting.{FewCounts, OneCounted};
 use rules::Counts;
+use rules::Extra;
 use rules::Family;
 
 // Whether the counts of each family are few.
@@ -10,7 +11,10 @@ pub fn are_few(counts: Counts) -> bool
     if 16777216 < counts.b {
         return false;
     }
-    counts.k <= 16777216
+    if 16777216 < counts.k {
+        return false;
+    }
+    counts.n <= 16777216
 }
 
 // The counts with one line of a family more. Counts that are not few are left.
@@ -24,10 +28,19 @@ pub fn one_more(family: Family, counts: Counts) -> Counts
         Family::B => Counts {
             b: counts.b + 1,
             k: counts.k,
+            n: counts.n,
         },
-        Family::K => Counts {
-            b: counts.b,
-            k: counts.k + 1,
+        Family::Extra(e) => match e {
+            Extra::K => Counts {
+                b: counts.b,
+                k: counts.k + 1,
+                n: counts.n,
+            },
+            Extra::N => Counts {
+                b: counts.b,
+                k: counts.k,
+                n: counts.n + 1,
+            },
         },
     }
 }

@@ -18,6 +18,7 @@ use Rattle.rules.specs.Layouts.{entriesOf, allowed, columns}
 use Rattle.rules.specs.Lines.{shapedBy, bLine, FieldsIn, timeIn, familyLine, columnedLine}
 use Rattle.rules.specs.Reads.{fieldsSaid, valueFrom, saidOf, reading, entriesSaid}
 use Rattle.rules.specs.declared.Layout.{Layout}
+use Rattle.rules.specs.declared.Extra.the-variants as extra
 use Rattle.rules.specs.declared.Family.{Family}
 use Rattle.rules.specs.declared.Family.the-variants as family
 use Rattle.rules.specs.Limits.{goodTail}
@@ -31,22 +32,23 @@ use Rattle.trips.proofs.LineTrip.{LineTrip}
 pub line-timed : (f : Family) (layout : Layout) (l : List ℕ) (v : FieldsIn f) → familyLine f layout l ≡ says v → columnedLine f layout l ≡ says (timeIn f v)
 unfolding columnedLine
 line-timed family.B layout l v e = rw e
-line-timed family.K layout l t e = e
+line-timed (family.Extra x) layout l t e = e
 
 pub timed-line : (f : Family) (layout : Layout) (l : List ℕ) (t : ℕ) → columnedLine f layout l ≡ says t → (v : FieldsIn f) × (familyLine f layout l ≡ says v) × (timeIn f v ≡ t)
 unfolding columnedLine
 timed-line family.B layout l t e = let r = then-inv (bLine layout l) t _ e in (r .0, r .1, cc)
-timed-line family.K layout l t e = (t, e, refl)
+timed-line (family.Extra x) layout l t e = (t, e, refl)
 
 pub family-of : (f : Family) → familyOf (lineLetter f) ≡ some f
 unfolding familyOf
 family-of family.B = refl
-family-of family.K = refl
+family-of (family.Extra extra.K) = refl
+family-of (family.Extra extra.N) = refl
 
 -- the value that its reader gives
 pub value-said : (f : Family) (l : List ℕ) (layout : Layout) (v : FieldsIn f) → fieldsSaid f l layout ≡ says v → saidOf f l layout ≡ says (valueFrom f v)
 value-said family.B l layout v e = rw e
-value-said family.K l layout t e = e
+value-said (family.Extra x) l layout t e = e
 
 module _ (f : Family) (l : List ℕ) (layout : Layout) (v : FieldsIn f) where
   -- a line of the family by an allowed layout is said to have the fields that its checks find

@@ -1,6 +1,7 @@
 // Lines written by layouts that no line tells, so that only a value of their own type can: each is refused, and the output stays.
 use libc::STDOUT_FILENO;
 use rules::Entry;
+use rules::Extra;
 use rules::Family;
 use rules::Fix;
 use rules::Height;
@@ -33,7 +34,7 @@ fn print(answer: Wrote, out: &[u8]) {
     io::write_all(STDOUT_FILENO, b"\n");
 }
 
-// The I or J line of a layout.
+// The line of a layout.
 fn put_line(family: Family, layout: Layout) {
     let mut out = [46u8; 24];
     let r = write::layout(family, layout, &mut out, 0);
@@ -51,7 +52,7 @@ fn second(first: u8, last: u8, code: u32, count: usize) {
 // A K line by the layout of an I line.
 fn extra() {
     let mut out = [46u8; 16];
-    let r = write::extra(0, b"090", one(36, 38), &mut out, 0);
+    let r = write::extra(Extra::K, 0, b"090", one(36, 38), &mut out, 0);
     print(r, &out);
 }
 
@@ -79,7 +80,7 @@ fn fix() {
 // The first start, a width, a finish below its start, a gap, a code twice, a character that is no code's, a finish over 99, a count that leaves an entry out, and one over 13.
 pub fn write() {
     put_line(Family::B, one(35, 38));
-    put_line(Family::K, one(8, 9));
+    put_line(Family::Extra(Extra::K), one(8, 9));
     second(39, 38, 0x5A5A5A, 2);
     second(40, 42, 0x5A5A5A, 2);
     second(39, 41, 0x484454, 2);

@@ -1,6 +1,7 @@
-// A line read by the readers of its kind: what it says is printed, or why it is refused. A good I or J line tells the layout of those after it.
+// A line read by the readers of its kind: what it says is printed, or why it is refused. A good I, J or M line tells the layout of those after it.
 use libc::STDOUT_FILENO;
 use rules::DateRead;
+use rules::Extra;
 use rules::Family;
 use rules::FixRead;
 use rules::HeadRead;
@@ -11,16 +12,18 @@ use rules::PointRead;
 use rules::Refusal;
 use rules::TimeRead;
 
-// The layouts of B and K lines that the lines so far have told.
+// The layouts of B, K and N lines that the lines so far have told.
 pub struct Told {
     pub fixes: Layout,
     pub extras: Layout,
+    pub unsigned: Layout,
 }
 
 pub fn none_told() -> Told {
     Told {
         fixes: layout::empty_layout(),
         extras: layout::empty_layout(),
+        unsigned: layout::empty_layout(),
     }
 }
 
@@ -80,7 +83,7 @@ fn print_fix(line: &[u8], layout: Layout) {
 
 // What the readers of a line's kind say of it, where it tells no layout; an H line is read as a date line and as another, a C line as a head and as a point, and a line of
 // no kind as an event.
-fn print_line(kind: Kind, line: &[u8], fixes: Layout, extras: Layout) {
+fn print_line(kind: Kind, line: &[u8], fixes: Layout, extras: Layout, unsigned: Layout) {
     match kind {
         Kind::A => print_outcome(line::recorder(line)),
         Kind::B => print_fix(line, fixes),
@@ -95,14 +98,15 @@ fn print_line(kind: Kind, line: &[u8], fixes: Layout, extras: Layout) {
             print_date(line);
             print_outcome(line::header(line));
         }
-        Kind::K => print_time(read::extra(line, extras)),
+        Kind::K => print_time(read::extra(Extra::K, line, extras)),
         Kind::L => print_outcome(shape::shaped(line, 1, 99, false)),
+        Kind::N => print_time(read::extra(Extra::N, line, unsigned)),
         Kind::Other => print_outcome(shape::shaped(line, 1, 255, false)),
         _ => print_time(read::event(line)),
     }
 }
 
-// What is said of an I or J line, and the layout that is told after it: the old one, where it is refused.
+// What is said of an I, J or M line, and the layout that is told after it: the old one, where it is refused.
 fn print_layout(family: Family, line: &[u8], old: Layout) -> Layout {
     let read = read::layout_of(family, line);
     let outcome = read.outcome;
@@ -123,18 +127,26 @@ fn print_layout(family: Family, line: &[u8], old: Layout) -> Layout {
 pub fn read(line: &[u8], told: Told) -> Told {
     let fixes = told.fixes;
     let extras = told.extras;
+    let unsigned = told.unsigned;
     let kind = line::kind_of(chars::byte(line, 0));
     match kind {
         Kind::I => Told {
             fixes: print_layout(Family::B, line, fixes),
             extras,
+            unsigned,
         },
         Kind::J => Told {
             fixes,
-            extras: print_layout(Family::K, line, extras),
+            extras: print_layout(Family::Extra(Extra::K), line, extras),
+            unsigned,
+        },
+        Kind::M => Told {
+            fixes,
+            extras,
+            unsigned: print_layout(Family::Extra(Extra::N), line, unsigned),
         },
         _ => {
-            print_line(kind, line, fixes, extras);
+            print_line(kind, line, fixes, extras, unsigned);
             told
         }
     }

@@ -24,7 +24,7 @@ use Rattle.rules.specs.declared.Seal.the-variants as seal
 use Rattle.rules.specs.declared.State.{State}
 use Rattle.rules.proofs.Inverse.{refuses-says, false-true, need-inv}
 use Rattle.laws.proofs.Passing.{leading-so, leading-inv, roleIn, Leaves, layout}
-use Rattle.wider.proofs.Families.{tells-role}
+use Rattle.sound.proofs.Families.{tells-role}
 use Rattle.wider.proofs.Judged.{came, comes, order-stage}
 
 -- ---- the line that tells a layout
@@ -35,7 +35,7 @@ module _ (f : Family) (l : List ℕ) (i : Layout) (e : layoutSaid f l ≡ says i
   line-there = let k = need-inv (eqb (getD l 0 0) (layoutLetter f)) _ (says i) _ refuses-says e in (eqb-true _ _ (k .0), k .1)
 
   pub told-role : roleIn l ≡ role.Tells f
-  told-role = tells-role f l (line-there .0)
+  told-role = tells-role f _ (line-there .0)
 
   told-left : (m after : State) → Leaves l m (role.Tells f) after → laidOut f i m ≡ after
   told-left m after (layout g x h) = let q : i ≡ x = cc (line-there .1) in ap (λ y. laidOut g y m) q

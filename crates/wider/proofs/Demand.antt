@@ -18,38 +18,39 @@ use Rattle.rules.proofs.Damaged.{fiveLines, fiveLayout, verdict-of-five}
 use Rattle.wider.specs.Wider.{WiderFile}
 use Rattle.wider.specs.Before.{putIn, ReadsAsBefore}
 use Rattle.wider.proofs.WholeFile.{reads-as-before}
-use Rattle.wider.proofs.Instances.{enlBetween, between, othersMoved, before-and-moved, noColumns, withI, put-i, withJ, put-j, withBoth, put-both, bothLines, bothWidened, both, put-in}
-use Rattle.wider.proofs.NotWider.{five, textChanged, text-changed, valueChanged, value-changed, leftOut, left-out, usedTwice, used-twice, ruleBroken, rule-broken, characterInvalid, character-invalid, wrongPlace, wrong-place}
+use Rattle.wider.proofs.Instances.{enlBetween, between, othersMoved, before-and-moved, noColumns, withI, put-i, withJ, put-j, withM, put-m, withJAndM, put-m-behind, withAll, put-all, everyKind, allWidened, all-widened, someWidened, some-widened, put-in}
+use Rattle.wider.proofs.NotWider.{five, textChanged, text-changed, valueChanged, value-changed, leftOut, left-out, usedTwice, used-twice, ruleBroken, rule-broken, characterInvalid, character-invalid, wrongPlace, wrong-place, tooEarly, too-early}
 
 module _ (seal : Seal) (file file′ : List ℕ) (room room′ : Option ℕ) (f : Flight)
     -- take any accepted file, whatever it must have at its end
     (accepted : verdict seal file room ≡ says f)
-    -- and add columns to its B lines or K lines (or both): different codes, none yet in that layout, anywhere among the old columns, which may also move, with the I or J
-    -- line, put in at its place in the order if there was none, telling the new places; the codes and the added text meet their rules
+    -- and add columns to its B lines, K lines or N lines (or several of them): different codes, none yet in that layout, anywhere among the old columns, which may also move,
+    -- with the I, J or M line, put in at its place in the order if there was none, telling the new places; the codes and the added text meet their rules
     (wider : WiderFile file file′)
     -- and every limit ("A file has 1 to 16,777,216 bytes")
     (limit : length file′ ≤ 16777216)
-    -- and the table's room, where a table is lent, for the old lines and the I and J lines that are put in (`putIn wider`, 0 to 2), still hold
+    -- and the table's room, where a table is lent, for the old lines and the I, J and M lines that are put in (`putIn wider`, 0 to 3), still hold
     (fits : hasRoom room′ (f .lines + putIn wider) ≡ true) where
   -- then the new file is accepted, and its first fix, its second and so on read as they did before in every old value and every old column, and so do its K lines
+  -- and its N lines
   pub widened : (f′ : Flight) × (verdict seal file′ room′ ≡ says f′) × ReadsAsBefore file file′ f f′ (putIn wider)
   widened = reads-as-before seal file file′ room room′ f accepted wider limit fits
 
 -- ---- there are such files, and not every file is one
 
--- ENL put between FXA and SIU of document 01's file of five lines; ZZZ put first and the old columns in the other order; an I line put in; a J line put in; both put in; both
--- changed
-pub instances : WiderFile fiveLines enlBetween × WiderFile fiveLines othersMoved × WiderFile noColumns withI × WiderFile noColumns withJ × WiderFile noColumns withBoth
-    × WiderFile bothLines bothWidened
-instances = (between, before-and-moved, put-i, put-j, put-both, both)
+-- ENL put between FXA and SIU of document 01's file of five lines; ZZZ put first and the old columns in the other order; an I line put in; a J line put in; an M line put in, with
+-- no J line and behind one; all three put in; all three changed; those of the B lines and the N lines changed
+pub instances : WiderFile fiveLines enlBetween × WiderFile fiveLines othersMoved × WiderFile noColumns withI × WiderFile noColumns withJ × WiderFile noColumns withM
+    × WiderFile withJ withJAndM × WiderFile noColumns withAll × WiderFile everyKind allWidened × WiderFile everyKind someWidened
+instances = (between, before-and-moved, put-i, put-j, put-m, put-m-behind, put-all, all-widened, some-widened)
 
 -- so of the first of these all that is claimed above holds
 pub enl-put-in : (f′ : Flight) × (verdict seal.Strict enlBetween (some 16) ≡ says f′) × ReadsAsBefore fiveLines enlBetween (five fiveLayout) f′ (putIn between)
 unfolding everything fileOf
 enl-put-in = widened seal.Strict fiveLines enlBetween (some 16) (some 16) (five fiveLayout) verdict-of-five between (lit≤ tt) (rw (put-in .0) refl)
 
--- the text of an old column changed; the fix changed; an old column left out; a code used twice; a listed code's text against its rule; an invalid character; the J line
--- put in before the I line
+-- the text of an old column changed; the fix changed; an old column left out; a code used twice; a listed code's text against its rule; an invalid character; the J line,
+-- and the M line, put in before the I line
 pub no-instances : (WiderFile fiveLines textChanged → ⊥) × (WiderFile fiveLines valueChanged → ⊥) × (WiderFile fiveLines leftOut → ⊥) × (WiderFile fiveLines usedTwice → ⊥)
-    × (WiderFile fiveLines ruleBroken → ⊥) × (WiderFile fiveLines characterInvalid → ⊥) × (WiderFile fiveLines wrongPlace → ⊥)
-no-instances = (text-changed, value-changed, left-out, used-twice, rule-broken, character-invalid, wrong-place)
+    × (WiderFile fiveLines ruleBroken → ⊥) × (WiderFile fiveLines characterInvalid → ⊥) × (WiderFile fiveLines wrongPlace → ⊥) × (WiderFile fiveLines tooEarly → ⊥)
+no-instances = (text-changed, value-changed, left-out, used-twice, rule-broken, character-invalid, wrong-place, too-early)

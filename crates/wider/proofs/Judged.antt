@@ -20,11 +20,11 @@ use Rattle.rules.specs.declared.State.{State}
 use Rattle.rules.proofs.Inverse.{none-some, false-true, need-inv}
 use Rattle.laws.proofs.Passing.{roleIn, Leaves, opens, date, header, layout, columned, head, point, event, satellites, differential, seals, remark, other, judged, judged-so}
 use Rattle.trips.proofs.Columned.{line-timed, timed-line, said-by, by-said}
+use Rattle.sound.proofs.Families.{line-role, Beside, one, apart, beside}
 use Rattle.sound.proofs.Placed.{Sound}
 use Rattle.wider.specs.Wider.{WiderLine}
 use Rattle.wider.specs.Before.{AsBefore}
 use Rattle.wider.proofs.Lists.{Pairs}
-use Rattle.wider.proofs.Families.{columned-role, Beside, one, apart, beside}
 use Rattle.wider.proofs.OneLine.{says-same, as-before}
 
 -- ---- the state of the new file
@@ -130,11 +130,11 @@ module _ (f : Family) (old new : Layouts) (t t′ : List ℕ) (so : Sound (first
   pub columned-step : (n : ℕ) (st after : State) → st .flight .layouts ≡ old → judge t st ≡ says after → Stepped old new n st after t t′
   unfolding orderOf fitsDeclaration
   columned-step n st after p h =
-      let c = came (role.Columned f) t st after (columned-role f t k) h in
+      let c = came (role.Columned f) t st after (line-role f _ k) h in
       let d = columned-left (n + 1) (moved (c .stage) st) after p (c .left) in
-      let q′ = columned-role f t′ (d .2) in
+      let q′ = line-role f _ (d .2) in
       record {
         judges = comes (role.Columned f) t′ _ _ q′ refl (record { stage = c .stage; order = c .order; left = d .0 });
         layouts = d .1;
-        pairs = λ g xs ys r. rw (columned-role f t k, q′) (pairs-with (d .3) g (beside f g) xs ys r);
+        pairs = λ g xs ys r. rw (line-role f _ k, q′) (pairs-with (d .3) g (beside f g) xs ys r);
       }

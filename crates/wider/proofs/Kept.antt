@@ -26,9 +26,10 @@ use Rattle.laws.proofs.Counted.{one, tally}
 use Rattle.basics.proofs.Presence.{set-bits, count-bits}
 use Rattle.wider.specs.Wider.{Extends, widthIn, AfterLayouts, done, same, columned, LayoutLines, all, without, changed, put, Wider, front, from}
 use Rattle.wider.specs.Before.{linesWith, linesOfFamily, addedFrom, addedIn, MoreBits, putInto, putIn}
+use Rattle.sound.proofs.Families.{line-role}
 use Rattle.sound.proofs.Placed.{Sound}
 use Rattle.sound.proofs.Columns.{carried-there, each-at}
-use Rattle.wider.proofs.Families.{columned-role, first-byte}
+use Rattle.wider.proofs.Families.{first-byte}
 use Rattle.wider.proofs.Changing.{told-role}
 
 -- ---- the lines without columns
@@ -50,7 +51,7 @@ module _ (test : Kind → Bool) (no-layout : (k : Kind) (g : Family) → roleOf 
   body-others done = refl
   body-others (same {t = t} {ls = ls} {ls′ = ls′} x b) = keep t ls ls′ (body-others b)
   body-others (columned {t = t} {t′ = t′} {ls = ls} {ls′ = ls′} f x w b) =
-      skip t′ ls′ (no-column _ f (columned-role f t′ (first-same _ t t′ (first-byte f) (w .fields) ∙ x))) ∙ body-others b ∙ sym (skip t ls (no-column _ f (columned-role f t x)))
+      skip t′ ls′ (no-column _ f (line-role f _ (first-same _ t t′ (first-byte f) (w .fields) ∙ x))) ∙ body-others b ∙ sym (skip t ls (no-column _ f (line-role f _ x)))
 
   layouts-others : {fs : List Family} {old new : Layouts} {ls ls′ : Lines} → LayoutLines fs old new ls ls′ → linesWith test ls′ ≡ linesWith test ls
   layouts-others (all b) = body-others b

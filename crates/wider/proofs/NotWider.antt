@@ -30,7 +30,7 @@ use Rattle.wider.proofs.Instances.{told}
 
 -- what is said of document 01's file, with another layout of its B lines
 abbrev pub five : Layout → Flight
-five i = record { date = record { day = 15; month = 7; year = 2024 }; layouts = record { b = i; k = emptyLayout }; lines = 5; counts = record { b = 1; k = 0 } }
+five i = record { date = record { day = 15; month = 7; year = 2024 }; layouts = record { b = i; k = emptyLayout; n = emptyLayout }; lines = 5; counts = record { b = 1; k = 0; n = 0 } }
 
 module _ (file′ : List ℕ) (long : length file′ ≤ 16777216) (w : WiderFile fiveLines file′) where
   so : (f′ : Flight) × (verdict seal.Strict file′ none ≡ says f′) × ReadsAsBefore fiveLines file′ (five fiveLayout) f′ (putIn w)
@@ -125,3 +125,12 @@ wrongPlace = fileOf ("AXYZ001" ∷ "HFDTE150724" ∷ "J010810HDT" ∷ "I023638FX
 pub wrong-place : WiderFile fiveLines wrongPlace → ⊥
 unfolding everything fileOf
 wrong-place w = is-accepted wrongPlace (lit≤ tt) w 6 4 1 refl
+
+-- an M line is put in before the I line
+abbrev pub tooEarly : List ℕ
+unfolding fileOf
+tooEarly = fileOf ("AXYZ001" ∷ "HFDTE150724" ∷ "M010810HRT" ∷ "I023638FXA3940SIU" ∷ "B1200005130000N00015000WA001000012001208" ∷ "GABC" ∷ [])
+
+pub too-early : WiderFile fiveLines tooEarly → ⊥
+unfolding everything fileOf
+too-early w = is-accepted tooEarly (lit≤ tt) w 6 4 1 refl

@@ -126,13 +126,13 @@ module _ {f : Family} {At : List ℕ → FieldsIn f → Type 0} {text : FieldsIn
 -- a line that is read passed its checks
 passed : (f : Family) (l : List ℕ) (layout : Layout) (v : FieldsIn f) → fieldsSaid f l layout ≡ says v → Checked (firstStart f) layout l
 passed family.B = front-passed fix-front
-passed family.K = front-passed extra-front
+passed (family.Extra x) = front-passed (extra-front x)
 
 -- what it spells depends on the bytes before the columns alone, once it passes its checks
 same-front : (f : Family) (l l′ : List ℕ) (old new : Layout) (v : FieldsIn f) → fieldsSaid f l old ≡ says v → take (byte (firstStart f)) l′ ≡ take (byte (firstStart f)) l
     → Checked (firstStart f) new l′ → fieldsSaid f l′ new ≡ says v
 same-front family.B = front-same fix-front
-same-front family.K = front-same extra-front
+same-front (family.Extra x) = front-same (extra-front x)
 
 -- ---- a line with added columns reads as before
 

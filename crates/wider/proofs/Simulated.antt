@@ -23,10 +23,11 @@ use Rattle.rules.specs.declared.Seal.{Seal}
 use Rattle.rules.specs.declared.State.{State}
 use Rattle.rules.proofs.Inverse.{refuses-says, false-true, need-inv}
 use Rattle.laws.proofs.Passing.{leading-inv, front-over, roleIn, Leaves, opens, date, header, layout, columned as has-columns, head, point, event, satellites, differential, seals, remark, other, judged, ran, ran-so}
+use Rattle.sound.proofs.Families.{line-role, put-own, own-put, Beside, one, apart, beside}
 use Rattle.sound.proofs.Placed.{Sound, sound-line, sound-empty}
 use Rattle.wider.specs.Wider.{Extends, AfterLayouts, done, same, columned, LayoutLines, all, without, changed, put, noLayouts, Wider, front, from}
 use Rattle.wider.specs.Before.{linesOfFamily}
-use Rattle.wider.proofs.Families.{columned-role, own-layout, with-own, none-yet, Beside, one, apart, beside, Ordered, in-order}
+use Rattle.wider.proofs.Families.{none-yet, Ordered, in-order}
 use Rattle.wider.proofs.Judged.{wideFlight, wide, order-stage, Paired, bare-step, columned-step}
 use Rattle.wider.proofs.Changing.{told-role, told-after, told-passes, staged, Behind, columned-behind, tells-behind, bare-behind, behind-front, judged-alike, sealed-alike}
 
@@ -120,7 +121,7 @@ in-body low (f ∷ fs) o = omega (arith, o .0, in-body (afterLayout f) fs (o .1)
 begins : {fs : List Family} {old new : Layouts} {ls ls′ : Lines} (low : ℕ) → LayoutLines fs old new ls ls′ → Ordered low fs → Begins low ls
 begins low (all done) o = tt
 begins low (all (same {t = t} x b)) o = bare-behind low (roleIn t) x o
-begins low (all (columned {t = t} f k w b)) o = rw (columned-role f t k) (columned-behind low f o)
+begins low (all (columned {t = t} f k w b)) o = rw (line-role f _ k) (columned-behind low f o)
 begins low (without {f = f} {fs = fs} r) o = begins low r (ordered-from low (afterLayout f) fs (omega (arith, o .0)) (o .1))
 begins low (changed {f = f} {t = t} {i = i} e e′ x r) o = rw (told-role f t i e) (tells-behind low f (o .0))
 begins low (put {f = f} {fs = fs} e′ r) o = begins low r (ordered-from low (afterLayout f) fs (omega (arith, o .0)) (o .1))
@@ -129,7 +130,7 @@ fine-with : (f : Family) (i i′ : Layout) (old new : Layouts) → Fit f i i′ 
 fine-with f i i′ old new x fi g = by g (beside f g)
   where
     by : (g : Family) → Beside f g → Fit g (layoutOf g (withLayout f i old)) (layoutOf g (withLayout f i′ new))
-    by g (one q) = rw (own-layout g i old, own-layout g i′ new) x
+    by g (one q) = rw (put-own g i old, put-own g i′ new) x
     by g (apart q h) = rw (h i old, h i′ new) (fi g)
 
 -- no layout is told yet behind the part `low`
@@ -176,7 +177,7 @@ module _ (seal : Seal) (f : Flight) where
       went-line (line t ls) t′ j (λ q. (rw (told-role g t i e), rw (told-role g t′ i′ e′))) w
   layouts-went {old = old} {new = new} low (put {f = g} {fs = fs} {t′ = t′} {i′ = i′} {ls = ls} e′ r) o la fi st n p z a c h =
       let s = afterLayout g in
-      let q : withLayout g emptyLayout old ≡ old = ap (λ y. withLayout g y old) (sym (la g (omega (arith, o .0)))) ∙ with-own g old in
+      let q : withLayout g emptyLayout old ≡ old = ap (λ y. withLayout g y old) (sym (la g (omega (arith, o .0)))) ∙ own-put g old in
       let fi′ = rw q at (fine-with g emptyLayout i′ old new (sound-empty (firstStart g), sound-line g t′ i′ e′, tt) fi) in
       let same-run = run-alike seal s st (omega (arith, o .0)) ls s (begins s r (o .1)) (in-body s fs (o .1)) (omega arith) (omega (arith, o .0)) a in
       let w = layouts-went s r (o .1) (λ q k. la q (omega (arith, o .0))) fi′ (staged s st) (n + 1) p z (omega (arith, o .0)) (omega arith) (same-run ∙ h) in

@@ -1,4 +1,4 @@
--- Demand 3, to add columns to the B lines or the K lines of a file: which lines may differ, and what each of them must still say.
+-- Demand 3, to add columns to the B lines, the K lines or the N lines of a file: which lines may differ, and what each of them must still say.
 use Prim.Native.Nat.{ℕ, _+_, _-_}
 use mathlib.Core.Bool.{true, false}
 use mathlib.Core.List.{List, [], _∷_}
@@ -18,6 +18,7 @@ use Rattle.rules.specs.Split.{Lines, end, line, linesOf}
 use Rattle.rules.specs.Reads.{layoutSaid}
 use Rattle.rules.specs.declared.Entry.{Entry}
 use Rattle.rules.specs.declared.Layout.{Layout}
+use Rattle.rules.specs.declared.Extra.the-variants as extra
 use Rattle.rules.specs.declared.Family.{Family}
 use Rattle.rules.specs.declared.Family.the-variants as family
 use Rattle.rules.specs.declared.Layouts.{Layouts}
@@ -33,7 +34,7 @@ widthIn layout x = given (look layout x) none λ s. some (s .last + 1 - s .first
 abbrev pub Extends : Layout → Layout → Type 0
 Extends old new = Each (λ (e : Entry). widthIn new (e .code) ≡ widthIn old (e .code)) (entriesOf old)
 
--- ---- a B line or a K line, over the place where its first column starts
+-- ---- a B line, a K line or an N line, over the place where its first column starts
 
 -- the text of the column of a code in a line, where the layout has one
 unfoldable pub textIn : Layout → List ℕ → ℕ → Option (List ℕ)
@@ -71,9 +72,9 @@ pub data LayoutLines : List Family → Layouts → Layouts → Lines → Lines �
   put : {f : Family} {fs : List Family} {old new : Layouts} {t′ : List ℕ} {i′ : Layout} {ls ls′ : Lines} → layoutSaid f t′ ≡ says i′
       → LayoutLines fs old (withLayout f i′ new) ls ls′ → LayoutLines (f ∷ fs) old new ls (line t′ ls′)
 
--- "then at most one I, then at most one J"
+-- "then at most one I, then at most one J"; of M: "straight after J, or after I or the H lines if those are missing"
 abbrev pub families : List Family
-families = family.B ∷ family.K ∷ []
+families = family.B ∷ family.Extra extra.K ∷ family.Extra extra.N ∷ []
 
 -- where no such line came: "with NN 00, or no such line"
 abbrev pub noLayouts : Layouts

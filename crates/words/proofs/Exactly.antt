@@ -17,6 +17,8 @@ use Rattle.rules.specs.Limits.{isTime, isAltitude, goodFixFields}
 use Rattle.rules.specs.Fixes.{fieldsOf}
 use Rattle.rules.specs.Families.{firstStart, lineLetter, layoutLetter}
 use Rattle.rules.specs.Layouts.{emptyLayout, lineLength}
+use Rattle.rules.specs.declared.Extra.{Extra}
+use Rattle.rules.specs.declared.Extra.the-variants as extra
 use Rattle.rules.specs.declared.Family.the-variants as family
 use Rattle.rules.specs.declared.Position.{Position}
 use Rattle.rules.specs.declared.Height.{Height}
@@ -96,17 +98,17 @@ fix-fields-exactly f = (refl, refl, refl, refl, refl, refl)
 pub angle-exactly : (p : Position) (x : Float) → (angle p ≡ x) ↔ IsAngle p x
 angle-exactly = values.angle-exactly
 
--- ---- the two families of lines with columns
+-- ---- the three families of lines with columns
 
--- "The first entry starts at 36 (I) or 8 (J)"
-pub starts-exactly : (firstStart family.B ≡ 36) × (firstStart family.K ≡ 8)
-starts-exactly = (refl, refl)
+-- "The first entry starts at 36 (I) or 8 (J)"; M as J
+pub starts-exactly : (firstStart family.B ≡ 36) × ((x : Extra) → firstStart (family.Extra x) ≡ 8)
+starts-exactly = (refl, λ x. refl)
 
--- B lines with the I line, K lines with the J line
-pub letters-exactly : (lineLetter family.B ≡ code "B") × (layoutLetter family.B ≡ code "I") × (lineLetter family.K ≡ code "K") × (layoutLetter family.K ≡ code "J")
-letters-exactly = (refl, refl, refl, refl)
+-- B lines with the I line, K lines with the J line, N lines with the M line
+pub letters-exactly : (lineLetter family.B ≡ code "B") × (layoutLetter family.B ≡ code "I") × (lineLetter (family.Extra extra.K) ≡ code "K") × (layoutLetter (family.Extra extra.K) ≡ code "J") × (lineLetter (family.Extra extra.N) ≡ code "N") × (layoutLetter (family.Extra extra.N) ≡ code "M")
+letters-exactly = (refl, refl, refl, refl, refl, refl)
 
--- "with NN 00, or no such line, B has 35 and K has 7"
-pub bare-exactly : (lineLength (firstStart family.B) emptyLayout ≡ 35) × (lineLength (firstStart family.K) emptyLayout ≡ 7)
+-- "with NN 00, or no such line, B has 35 and K has 7"; N as K
+pub bare-exactly : (lineLength (firstStart family.B) emptyLayout ≡ 35) × ((x : Extra) → lineLength (firstStart (family.Extra x)) emptyLayout ≡ 7)
 unfolding lineLength
-bare-exactly = (refl, refl)
+bare-exactly = (refl, λ x. refl)

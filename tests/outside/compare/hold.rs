@@ -58,16 +58,33 @@ fn head_values(h: &Head) -> [u64; 9] {
     [d, m, y, h.time.into(), fd, fm, fy, h.task.into(), h.turns.into()]
 }
 
+/// What hive_check answers from answer[2] on.
+fn checked_values(a: &reading::Accepted) -> [u64; ANSWER - 2] {
+    let mut answer = [0; ANSWER];
+    let [d, m, y] = date_values(&a.date);
+    let [b, k, n] = FAMILIES.map(|family| a.layouts.of(family).length(family) as u64);
+    for (place, value) in [
+        (library::DAY, d),
+        (library::MONTH, m),
+        (library::YEAR, y),
+        (library::LINES, a.lines),
+        (library::B_LINES, a.b_lines),
+        (library::K_LINES, a.k_lines),
+        (library::N_LINES, a.n_lines),
+        (library::B_LENGTH, b),
+        (library::K_LENGTH, k),
+        (library::N_LENGTH, n),
+    ] {
+        answer[place] = value;
+    }
+    answer[2..].try_into().unwrap()
+}
+
 /// The check with a table of so many entries, and every entry afterwards. The checks in C that the library is measured against are held too.
 pub fn check(tally: &mut Tally, file: &[u8], entries: usize) -> Held<(Answer<reading::Accepted>, Vec<u32>)> {
     let lent: Vec<u32> = (0..entries as u32).map(|n| 0xDEAD_0000 ^ n).collect();
     let mut theirs = lent.clone();
     let answer = reading::check(file, &mut theirs);
-    let values = |a: &reading::Accepted| {
-        let [d, m, y] = date_values(&a.date);
-        let [b, k] = FAMILIES.map(|family| a.layouts.of(family).length(family) as u64);
-        [d, m, y, a.lines, a.b_lines, a.k_lines, b, k]
-    };
     let checks: [(&str, fn(&[u8], &mut [u32]) -> Told); 4] = [
         ("hive_check", library::check_file),
         ("bench/check.c", library::check_by_hand),
@@ -78,7 +95,7 @@ pub fn check(tally: &mut Tally, file: &[u8], entries: usize) -> Held<(Answer<rea
         let mut ours = lent.clone();
         let raw = check(file, &mut ours);
         let asked = format!("a table of {entries} entries");
-        tally.same(name, &asked, raw.number, raw, told(&answer, values))?;
+        tally.same(name, &asked, raw.number, raw, told(&answer, checked_values))?;
         let first = ours.iter().zip(&theirs).position(|(a, b)| a != b);
         tally.same(name, &"its table", raw.number, first.map(|n| (n, ours[n])), first.map(|n| (n, theirs[n])))?;
     }
@@ -173,12 +190,13 @@ pub fn by_stepping(tally: &mut Tally, random: &mut Random, file: &[u8]) -> Held<
 pub struct Given<'a> {
     pub fixes: &'a [u8],
     pub extras: &'a [u8],
+    pub unsigned: &'a [u8],
 }
 
-/// The first I and J lines among the lines found, whatever they say.
+/// The first I, J and M lines among the lines found, whatever they say.
 pub fn layouts<'a>(file: &'a [u8], lines: &[(usize, usize)]) -> Given<'a> {
     let first = |kind: u8| lines.iter().map(|&(a, b)| &file[a..b]).find(|l| l.first() == Some(&kind)).unwrap_or(&[]);
-    Given { fixes: first(b'I'), extras: first(b'J') }
+    Given { fixes: first(b'I'), extras: first(b'J'), unsigned: first(b'M') }
 }
 
 /// What the reading says by a layout given as text; 17 where that is none.
@@ -196,6 +214,9 @@ pub fn line(tally: &mut Tally, random: &mut Random, line: &[u8], number: usize, 
     if all || kind == b'K' {
         extra(tally, random, line, given.extras)?;
     }
+    if all || kind == b'N' {
+        extra(tally, random, line, given.unsigned)?;
+    }
     if all || number == 2 {
         let raw = library::date(line);
         tally.same("hive_date", &line, raw.number, raw, told(&reading::read_date(line), date_values))?;
@@ -211,13 +232,22 @@ pub fn line(tally: &mut Tally, random: &mut Random, line: &[u8], number: usize, 
     if all || kind == b'C' {
         declaration(tally, random, line)?;
     }
-    if all || kind == b'I' || kind == b'J' {
+    if all || Family::told_by(line).is_some() {
         layout(tally, random, line)?;
     }
     if all {
-        // The layouts of the other family.
-        fix(tally, random, line, given.extras)?;
-        extra(tally, random, line, given.fixes)?;
+        // The layouts of the other families; of K and N lines also where the two lines tell the same but for their first byte.
+        for other in [given.extras, given.unsigned] {
+            fix(tally, random, line, other)?;
+        }
+        for other in [given.fixes, given.extras, given.unsigned] {
+            extra(tally, random, line, other)?;
+        }
+    }
+    if (kind == b'K' || kind == b'N') && random.once_in(4) {
+        let own = if kind == b'K' { given.extras } else { given.unsigned };
+        let turned = own.iter().enumerate().map(|(n, &c)| if n == 0 { b'J' ^ b'M' ^ c } else { c }).collect::<Vec<u8>>();
+        extra(tally, random, line, &turned)?;
     }
     Ok(())
 }
@@ -237,15 +267,20 @@ fn fix(tally: &mut Tally, random: &mut Random, line: &[u8], given: &[u8]) -> Hel
     Ok(())
 }
 
-/// A K line: its time, its columns, and the line written again.
+/// The family that a reader of columns takes a line for: one with a layout of its own, or else any.
+fn family_of(line: &[u8]) -> Family {
+    Family::of_line(line).unwrap_or(Family::Extras)
+}
+
+/// A K line by a J line's text, or an N line by an M line's: its time, its columns, and the line written again.
 fn extra(tally: &mut Tally, random: &mut Random, line: &[u8], given: &[u8]) -> Held<()> {
-    let layout = reading::layout_given(given, Family::Extras);
+    let layout = reading::layout_given(given, family_of(line));
     let answer = by_layout(&layout, |y| reading::read_extra(line, y));
     let raw = library::extra(line, given);
     tally.same("hive_extra", &(line, given), raw.number, raw, told(&answer, |&t| [t.into()]))?;
     columns(tally, random, line, given, layout.as_ref())?;
-    if let (Ok(time), Some(layout)) = (answer, &layout) {
-        write_extra(tally, random, time, &line[7..], given, layout)?;
+    if let Ok(time) = answer {
+        write_extra(tally, random, line[0], time, &line[7..], given)?;
     }
     Ok(())
 }
@@ -255,9 +290,8 @@ fn columns(tally: &mut Tally, random: &mut Random, line: &[u8], given: &[u8], la
     let some = *random.pick(&[*b"ENL", *b"FXA", *b"ZZZ", *b"\0\xFF ", *b"enl", *b"TDS"]);
     let codes = layout.iter().flat_map(|y| y.entries.iter().map(|e| e.code)).chain([some]);
     for code in codes {
-        // The layout is judged for the line's kind; one for the other kind is none.
-        let family = if line.first() == Some(&b'B') { Family::Fixes } else { Family::Extras };
-        let layout = reading::layout_given(given, family);
+        // The layout is judged for the line's kind; one for another kind is none.
+        let layout = reading::layout_given(given, family_of(line));
         let answer = by_layout(&layout, |y| reading::read_column(line, y, &code));
         let raw = library::column(line, given, code);
         let place = told(&answer, |e| [e.first as u64 - 1, (e.last - e.first + 1) as u64]);
@@ -270,7 +304,7 @@ fn columns(tally: &mut Tally, random: &mut Random, line: &[u8], given: &[u8], la
     Ok(())
 }
 
-/// An I or J line: each of its columns by its place, places that it has not, and the word of an I line.
+/// An I, J or M line: each of its columns by its place, places that it has not, and the word of an I line.
 fn layout(tally: &mut Tally, random: &mut Random, line: &[u8]) -> Held<()> {
     for n in (0..=14).chain([usize::MAX]) {
         let entry = reading::column_given(line, n);
@@ -373,19 +407,21 @@ fn spoil_text(random: &mut Random, text: &mut Vec<u8>) {
     }
 }
 
-fn write_extra(tally: &mut Tally, random: &mut Random, time: u32, columns: &[u8], given: &[u8], layout: &Layout) -> Held<()> {
-    let (mut time, mut columns) = (time, columns.to_vec());
-    match random.below(8) {
+/// A K or an N line written by its own layout's text; now and then of the other letter, or of one that is neither, which is 17.
+fn write_extra(tally: &mut Tally, random: &mut Random, kind: u8, time: u32, columns: &[u8], given: &[u8]) -> Held<()> {
+    let (mut kind, mut time, mut columns) = (kind, time, columns.to_vec());
+    match random.below(10) {
         0 => time = *random.pick(&[86_399, 86_400, 360_000, u32::MAX]),
         1 | 2 => spoil_text(random, &mut columns),
+        3 => kind = *random.pick(b"KNKNBEJMOkn\0\xFF"),
         _ => {}
     }
     let (out, place) = output(random, 7 + columns.len());
     let (mut ours, mut theirs) = (out.clone(), out);
-    let raw = library::write_extra(time, &columns, given, place, &mut ours);
-    let answer = reading::write_extra(time, &columns, layout, place, &mut theirs);
+    let raw = library::write_extra(kind, time, &columns, given, place, &mut ours);
+    let answer = reading::write_extra_given(kind, time, &columns, given, place, &mut theirs);
     let expected = (told(&answer, |&after| [after as u64]), theirs);
-    tally.same("hive_write_extra", &(time, columns, given, place), raw.number, (raw, ours), expected)
+    tally.same("hive_write_extra", &(kind, time, columns, given, place), raw.number, (raw, ours), expected)
 }
 
 /// A C line, by both of its readers and both of its writers.

@@ -75,13 +75,15 @@ fn filled(random: &mut Random, size: usize) -> Sample {
     sample
 }
 
-/// The listing's file, the marked lines, the empty file, a few long ones, one at the limit and one a byte over it.
+/// The listing's file, source document 000's M and N lines, the marked lines, the empty file, a few long ones, one at the limit and one a byte over it.
 fn ends(met: &mut Met, seed: u64, out: &str) {
     let mut random = Random::new(seed ^ 0xE4D5);
-    let five = hold_file(met, &mut random, examples::FIVE, 16_384, Known::Counts { lines: 5, b_lines: 1, k_lines: 0 }, 1);
-    stop_at(five, examples::FIVE, out);
+    for (file, b_lines, n_lines) in [(examples::FIVE, 1, 0), (examples::UNSIGNED, 0, 1)] {
+        let held = hold_file(met, &mut random, file, 16_384, Known::Counts { lines: 5, b_lines, k_lines: 0, n_lines }, 1);
+        stop_at(held, file, out);
+    }
     for line in examples::MARKED {
-        let held = hold::line(&mut met.tally, &mut random, line, 2, hold::Given { fixes: b"", extras: b"" });
+        let held = hold::line(&mut met.tally, &mut random, line, 2, hold::Given { fixes: b"", extras: b"", unsigned: b"" });
         stop_at(held, line, out);
     }
     let nothing = hold_file(met, &mut random, b"", 3, Known::Refused(Refusal::of(1)), 1);
@@ -134,6 +136,7 @@ fn summary(met: &Met, options: &Options) {
     println!("outside: {} of the refusals were also known from how the file was made, number, line and byte", met.aimed);
     println!("outside: refusals by number: {}", met.reached.by_number());
     println!("outside: fields that a refusal names, by number, kind of line and byte: {}", met.reached.by_field());
+    println!("outside: branches of the rules on layouts: {}", met.reached.by_branch());
     for (operation, count) in &met.tally.answers {
         let numbers: Vec<String> =
             met.tally.refusals.iter().filter(|((o, _), _)| o == operation).map(|((_, n), c)| format!("{n}: {c}")).collect();

@@ -55,7 +55,7 @@ pub fn checked() -> Vec<u8> {
 fn accepted(said: &Accepted) -> String {
     let d = said.date;
     let date = format!("{}-{:02}-{:02}", d.year, d.month, d.day);
-    format!("accepted, {date}, lines {}, fixes {}, K lines {}, signed\n", said.lines, said.b_lines, said.k_lines)
+    format!("accepted, {date}, lines {}, fixes {}, K lines {}, N lines {}, signed\n", said.lines, said.b_lines, said.k_lines, said.n_lines)
 }
 
 /// What is said on standard error.

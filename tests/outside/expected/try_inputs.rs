@@ -44,7 +44,7 @@ fn checked<T>(read: Read<T>) -> String {
     said(read.map_err(|fault| fault.at(0)))
 }
 
-/// A line by the readers of its kind; a good I or J line tells the layout of those after it. An H line is read as a date line and as another, a C line as a head and as a
+/// A line by the readers of its kind; a good I, J or M line tells the layout of those after it. An H line is read as a date line and as another, a C line as a head and as a
 /// point. A line of no kind is 17 for any reader.
 fn line(line: &[u8], told: &mut Layouts) -> String {
     match line[0] {
@@ -60,7 +60,9 @@ fn line(line: &[u8], told: &mut Layouts) -> String {
         b'J' => layout(line, Family::Extras, told),
         b'K' => said(read_extra(line, &told.extras)),
         b'L' => checked(text_line(line, Role::Remark)),
-        b'M'..=b'Z' => checked(text_line(line, Role::Other)),
+        b'M' => layout(line, Family::Unsigned, told),
+        b'N' => said(read_extra(line, &told.unsigned)),
+        b'O'..=b'Z' => checked(text_line(line, Role::Other)),
         _ => refusal(&Refusal::of(BAD_VALUE)),
     }
 }

@@ -2,8 +2,8 @@
 
 use outside::reading::refusals::BAD_VALUE;
 use outside::reading::{
-    Answer, Date, Entry, Family, Fix, Head, Layout, Point, Position, Refusal, listing, write_extra, write_fix, write_head, write_layout,
-    write_layout_given, write_point,
+    Answer, Date, Entry, Family, Fix, Head, Layout, Point, Position, Refusal, listing, write_extra, write_extra_given, write_fix,
+    write_head, write_layout, write_layout_given, write_point,
 };
 
 /// One write into an output of so many dots.
@@ -89,7 +89,7 @@ fn heads() -> Vec<Vec<u8>> {
     ]
 }
 
-// I and J lines
+// I, J and M lines
 
 fn layouts() -> Vec<Vec<u8>> {
     let layout = |line: &str, place| told(24, |out| write_layout_given(line.as_bytes(), place, out));
@@ -107,6 +107,10 @@ fn layouts() -> Vec<Vec<u8>> {
         layout("I023638HDT4042ZZZ", 0),
         layout("I023638HDT3941HDT", 0),
         layout("I023638HDT3941ZZz", 0),
+        layout(OF_M, 2),
+        layout(OF_M, 13),
+        layout("M013638HDT", 0),
+        layout("M010809HDT", 0),
     ]
 }
 
@@ -124,27 +128,37 @@ fn of_j() -> Layout {
     columns(&[(8, 10, b"HDT")])
 }
 
-// K lines
+// K and N lines
 
-fn extra(time: u32, tail: &[u8], layout: &Layout, place: usize) -> Vec<u8> {
-    told(16, |out| write_extra(time, tail, layout, place, out))
+/// HDT at 36 to 38 of B lines, at 8 to 10 of K lines, and at 8 to 10 of N lines, as the lines that tell it.
+const OF_I: &str = "I013638HDT";
+const OF_J: &str = "J010810HDT";
+const OF_M: &str = "M010810HDT";
+
+fn extra(kind: u8, time: u32, tail: &[u8], line: &str, place: usize) -> Vec<u8> {
+    told(16, |out| write_extra_given(kind, time, tail, line.as_bytes(), place, out))
 }
 
+/// The same writes of K lines by their J line and of N lines by their M line; then by each other's, and of a letter that is neither.
 fn extras() -> Vec<Vec<u8>> {
-    let usual = |time, tail: &[u8], place| extra(time, tail, &of_j(), place);
-    vec![
-        usual(0, b"090", 0),
-        usual(86_399, b"090", 4),
-        usual(0, b"090", 5),
-        usual(0, b"090", 17),
-        extra(3_600, b"", &Layout::default(), 7),
-        usual(86_400, b"090", 0),
-        usual(0, b"09", 0),
-        usual(0, b"0900", 0),
-        usual(0, b"0*0", 0),
-        usual(0, b"0A0", 0),
-        extra(0, b"090", &of_i(), 0),
-    ]
+    let of_kind = |kind, line| {
+        let usual = |time, tail: &[u8], place| extra(kind, time, tail, line, place);
+        vec![
+            usual(0, b"090", 0),
+            usual(86_399, b"090", 4),
+            usual(0, b"090", 5),
+            usual(0, b"090", 17),
+            extra(kind, 3_600, b"", "", 7),
+            usual(86_400, b"090", 0),
+            usual(0, b"09", 0),
+            usual(0, b"0900", 0),
+            usual(0, b"0*0", 0),
+            usual(0, b"0A0", 0),
+            extra(kind, 0, b"090", OF_I, 0),
+        ]
+    };
+    let crossed = vec![extra(b'K', 0, b"090", OF_M, 0), extra(b'N', 0, b"090", OF_J, 0), extra(b'B', 0, b"", "", 0)];
+    [of_kind(b'K', OF_J), of_kind(b'N', OF_M), crossed].concat()
 }
 
 // B lines
@@ -209,7 +223,7 @@ pub fn by_layouts_that_no_line_tells() -> Vec<u8> {
         two(39, 100, b"ZZZ"),
         miscounted(),
         miscounted(),
-        extra(0, b"090", &of_i(), 0),
+        told(16, |out| write_extra(b'K', 0, b"090", &of_i(), 0, out)),
         fix(USUAL, b"012", &of_j(), 0),
     ]
     .concat()

@@ -8,7 +8,7 @@ use crate::reading::layouts::{FAMILIES, listed};
 use crate::reading::{Family, LISTED, Layout, Refusal, Role};
 
 /// Bytes that rules turn on, to be put where they do not belong.
-const SHARP: &[u8] = b"\r\n\0 !$*\\^,-~0123456789:AZ@[`az{}\x7F\x80\xFF/BCGHIJKLNSEWAV";
+const SHARP: &[u8] = b"\r\n\0 !$*\\^,-~0123456789:AZ@[`az{}\x7F\x80\xFF/BCGHIJKLMNOSEWAV";
 
 /// One to three faults at places of no particular meaning: in the whole file, in one line, or lines moved.
 pub fn anywhere(random: &mut Random, sample: &Sample) -> Vec<u8> {
@@ -137,7 +137,7 @@ fn kind(random: &mut Random, sample: &Sample) -> Aimed {
 fn wrong_kinds(lines: &[Line], at: usize) -> Vec<u8> {
     let before = &lines[..at];
     let has = |role: Role| before.iter().any(|l| l.role == role);
-    let has_layout = |family: Family| has(Role::Layout(family));
+    let has_layout = |families: &[Family]| families.iter().any(|&family| has(Role::Layout(family)));
     let sealed = before.iter().position(|l| l.role == Role::Seal);
     let body = before.iter().any(|l| !matches!(l.role, Role::Recorder | Role::Day | Role::Header | Role::Layout(_)));
     let all_but = |kind: u8| (b'A'..=b'Z').filter(|&k| k != kind).collect();
@@ -151,17 +151,20 @@ fn wrong_kinds(lines: &[Line], at: usize) -> Vec<u8> {
         return all_but(b'C');
     }
     let mut wrong = vec![b'A'];
-    if body || has_layout(Family::Fixes) || has_layout(Family::Extras) {
+    if body || has_layout(&FAMILIES) {
         wrong.extend(b"HI");
     }
-    if body || has_layout(Family::Extras) {
+    if body || has_layout(&[Family::Extras, Family::Unsigned]) {
         wrong.push(b'J');
+    }
+    if body || has_layout(&[Family::Unsigned]) {
+        wrong.push(b'M');
     }
     if has(Role::Head) || has(Role::Fix) || sealed.is_some() {
         wrong.push(b'C');
     }
     if let Some(seal) = sealed {
-        wrong.extend(b"BDEFKMNOPQRSTUVWXYZ");
+        wrong.extend(b"BDEFKNOPQRSTUVWXYZ");
         if before[seal..].iter().any(|l| l.role == Role::Remark) {
             wrong.push(b'G');
         }
@@ -169,10 +172,18 @@ fn wrong_kinds(lines: &[Line], at: usize) -> Vec<u8> {
     wrong
 }
 
-/// A line of a kind that may not stand where it is put.
+/// A line of a kind that may not stand where it is put: at any place, or just behind a layout line; of any such kind, or one of the top or of N lines.
 fn order(random: &mut Random, sample: &Sample) -> Aimed {
-    let at = random.within(0, sample.lines.len());
-    let kind = *random.pick(&wrong_kinds(&sample.lines, at));
+    let layout = find(random, sample, |l| matches!(l.role, Role::Layout(_)));
+    let at = match layout {
+        Some(layout) if random.once_in(2) => layout + 1,
+        _ => random.within(0, sample.lines.len()),
+    };
+    let mut kinds = wrong_kinds(&sample.lines, at);
+    if random.once_in(2) && kinds.iter().any(|kind| b"HIJMN".contains(kind)) {
+        kinds.retain(|kind| b"HIJMN".contains(kind));
+    }
+    let kind = *random.pick(&kinds);
     let line = match find(random, sample, |l| l.text[0] == kind) {
         Some(like) if random.once_in(2) => sample.lines[like].text.clone(),
         _ => {
@@ -187,7 +198,7 @@ fn length(random: &mut Random, sample: &Sample) -> Aimed {
     let at = random.below(sample.lines.len());
     let line = &sample.lines[at];
     let (least, most) = match line.role {
-        Role::Fix | Role::Extra => (line.text.len(), line.text.len()),
+        Role::Fix | Role::Extra | Role::Unsigned => (line.text.len(), line.text.len()),
         role => role.lengths(),
     };
     let mut text = line.text.clone();
@@ -213,7 +224,7 @@ fn character(random: &mut Random, sample: &Sample) -> Option<Aimed> {
 /// The roles whose lines have a field with this number.
 fn roles_with(number: u32) -> &'static [Role] {
     match number {
-        22 => &[Role::Fix, Role::Extra, Role::Event, Role::Satellites, Role::Head],
+        22 => &[Role::Fix, Role::Extra, Role::Unsigned, Role::Event, Role::Satellites, Role::Head],
         23 => &[Role::Fix, Role::Point],
         24 => &[Role::Fix],
         25 => &[Role::Day, Role::Head],
@@ -223,6 +234,7 @@ fn roles_with(number: u32) -> &'static [Role] {
             Role::Header,
             Role::Layout(Family::Fixes),
             Role::Layout(Family::Extras),
+            Role::Layout(Family::Unsigned),
             Role::Fix,
             Role::Event,
             Role::Satellites,
@@ -269,7 +281,7 @@ fn counted_wrong(random: &mut Random, mut text: Vec<u8>) -> Vec<u8> {
     text
 }
 
-/// An I or J entry that does not go on from the one before (10), has its code (11) or is of the wrong width (12).
+/// An I, J or M entry that does not go on from the one before (10), has its code (11) or is of the wrong width (12).
 fn entry(random: &mut Random, sample: &Sample, number: u32) -> Option<Aimed> {
     let at = find(random, sample, |l| matches!(l.role, Role::Layout(_)) && l.text.len() > 3)?;
     let line = &sample.lines[at];

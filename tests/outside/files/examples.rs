@@ -1,7 +1,10 @@
-//! Document 01's own examples, as files and lines for the library to be asked too. What the reading must say of them stands in `worked`.
+//! The documents' own examples, as files and lines for the library to be asked too. What the reading must say of them stands in `worked`.
 
 /// The listing's input.
 pub const FIVE: &[u8] = b"AXYZ001\r\nHFDTE150724\r\nI023638FXA3940SIU\r\nB1200005130000N00015000WA001000012001208\r\nGABC\r\n";
+
+/// Source document 000's M line and N line (A4.7), with a time, in the smallest file.
+pub const UNSIGNED: &[u8] = b"AXYZ001\r\nHFDTE150724\r\nM020810HRT1113OXY\r\nN120000112098\r\nGABC\r\n";
 
 /// The marked examples as whole lines.
 pub const MARKED: [&[u8]; 16] = [

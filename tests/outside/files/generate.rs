@@ -259,13 +259,14 @@ impl<'a> Maker<'a> {
                 [timed(b'B'), place, heights, columns(random, &self.sample.layouts.fixes)].concat()
             }
             Role::Extra => [timed(b'K'), columns(random, &self.sample.layouts.extras)].concat(),
+            Role::Unsigned => [timed(b'N'), columns(random, &self.sample.layouts.unsigned)].concat(),
             Role::Remark => with_text(random, role, vec![b'L']),
             Role::Seal => {
                 let line = [b"G".to_vec(), text(random, b'G', 1)].concat();
                 with_text(random, role, line)
             }
             Role::Other => {
-                let kind = *random.pick(b"MNOPQRSTUVWXYZ");
+                let kind = *random.pick(b"OPQRSTUVWXYZ");
                 with_text(random, role, vec![kind])
             }
         }
@@ -282,6 +283,9 @@ impl<'a> Maker<'a> {
         }
         if self.random.once_in(2) {
             self.push_layout(Family::Extras);
+        }
+        if self.random.once_in(2) {
+            self.push_layout(Family::Unsigned);
         }
     }
 
@@ -321,7 +325,7 @@ impl<'a> Maker<'a> {
 }
 
 /// The roles of a body's lines; a role comes up as often as it stands here.
-const BODY: [Role; 20] = [
+const BODY: [Role; 23] = [
     Role::Fix,
     Role::Fix,
     Role::Fix,
@@ -336,6 +340,9 @@ const BODY: [Role; 20] = [
     Role::Extra,
     Role::Extra,
     Role::Extra,
+    Role::Unsigned,
+    Role::Unsigned,
+    Role::Unsigned,
     Role::Event,
     Role::Event,
     Role::Satellites,

@@ -5,7 +5,7 @@ use super::random::Random;
 use super::rules::{Field, fields};
 use crate::reading::file::HALF_DAY;
 use crate::reading::layouts::FAMILIES;
-use crate::reading::{Entry, Family, LISTED, Layout, Role};
+use crate::reading::{Entry, Family, LISTED, Layout, Layouts, Role};
 
 /// What stands at a limit.
 #[derive(Clone, Debug)]
@@ -20,16 +20,19 @@ pub enum Limit {
     Columns(Family, usize),
     /// A listed code's column with this text, as wide as the text is.
     Listed(Family, [u8; 3], Vec<u8>),
-    /// A timed line so many seconds before the one before it.
-    Fall(Role, u32),
+    /// A line of the second role so many seconds before one of the first, which stands before it.
+    Fall(Role, Role, u32),
+    /// A line of the second role straight after one of the first.
+    After(Role, Role),
 }
 
-const ROLES: [Role; 15] = [
+const ROLES: [Role; 17] = [
     Role::Recorder,
     Role::Day,
     Role::Header,
     Role::Layout(Family::Fixes),
     Role::Layout(Family::Extras),
+    Role::Layout(Family::Unsigned),
     Role::Head,
     Role::Point,
     Role::Differential,
@@ -37,14 +40,31 @@ const ROLES: [Role; 15] = [
     Role::Satellites,
     Role::Fix,
     Role::Extra,
+    Role::Unsigned,
     Role::Remark,
     Role::Seal,
     Role::Other,
 ];
 
+/// The roles of which any may come after any, as lines of a small file.
+const NEIGHBOURS: [Role; 11] = [
+    Role::Recorder,
+    Role::Header,
+    Role::Layout(Family::Fixes),
+    Role::Layout(Family::Extras),
+    Role::Layout(Family::Unsigned),
+    Role::Fix,
+    Role::Extra,
+    Role::Unsigned,
+    Role::Remark,
+    Role::Other,
+    Role::Seal,
+];
+
 /// Every limit.
 pub fn all() -> Vec<Limit> {
-    ROLES.into_iter().enumerate().flat_map(of_role).chain(FAMILIES.into_iter().flat_map(of_family)).collect()
+    let neighbours = NEIGHBOURS.into_iter().flat_map(|before| NEIGHBOURS.map(|role| Limit::After(before, role)));
+    ROLES.into_iter().enumerate().flat_map(of_role).chain(FAMILIES.into_iter().flat_map(of_family)).chain(neighbours).collect()
 }
 
 /// The characters around those that are not valid, and some that are far off.
@@ -59,7 +79,9 @@ fn of_role((n, role): (usize, Role)) -> Vec<Limit> {
     let (from, by) = if matches!(role, Role::Header | Role::Remark) { (0, 1) } else { (n % 5, 5) };
     limits.extend(CHARACTERS.iter().skip(from).step_by(by).map(|&c| Limit::Character(role, c)));
     if role.is_timed() {
-        limits.extend([0, 1, HALF_DAY - 1, HALF_DAY, HALF_DAY + 1, DAY - 1].map(|fall| Limit::Fall(role, fall)));
+        for before in ROLES.into_iter().filter(|before| before.is_timed()) {
+            limits.extend([0, 1, HALF_DAY - 1, HALF_DAY, HALF_DAY + 1, DAY - 1].map(|fall| Limit::Fall(before, role, fall)));
+        }
     }
     limits
 }
@@ -79,7 +101,7 @@ fn texts(role: Role) -> Vec<Limit> {
 /// The least and most length of a line in the file that `small` makes.
 fn lengths(role: Role) -> (usize, usize) {
     match role {
-        Role::Fix | Role::Extra => {
+        Role::Fix | Role::Extra | Role::Unsigned => {
             let end = two_columns(role.family().unwrap()).entries[1].last;
             (end, end)
         }
@@ -136,10 +158,29 @@ fn small_by(random: &mut Random, role: Role, layout: Option<(Family, Layout)>) -
     maker.sample
 }
 
+/// A small file in which a line of the second role comes straight after one of the first; a Recorder that is the first is line 1.
+fn neighbours(random: &mut Random, before: Role, role: Role) -> Sample {
+    let mut maker = Maker::new(random);
+    maker.push(Role::Recorder);
+    let first = if before == Role::Recorder { None } else { Some(before) };
+    if first.is_some() {
+        maker.push(Role::Day);
+    }
+    for role in first.into_iter().chain([role]) {
+        if let Role::Layout(family) = role {
+            *maker.sample.layouts.of_mut(family) = two_columns(family);
+        }
+        maker.push(role);
+    }
+    maker.push(Role::Seal);
+    maker.sample
+}
+
 /// The file that has a limit.
 pub fn file(random: &mut Random, limit: &Limit) -> Vec<u8> {
     let role = match *limit {
-        Limit::Text(role, ..) | Limit::Character(role, _) | Limit::Length(role, _) | Limit::Fall(role, _) => role,
+        Limit::After(before, role) => return neighbours(random, before, role).bytes(),
+        Limit::Text(role, ..) | Limit::Character(role, _) | Limit::Length(role, _) | Limit::Fall(_, role, _) => role,
         Limit::Columns(family, _) | Limit::Listed(family, ..) => family.role(),
     };
     let mut sample = match limit {
@@ -151,18 +192,33 @@ pub fn file(random: &mut Random, limit: &Limit) -> Vec<u8> {
     let line = &mut sample.lines[at].text;
     match limit {
         Limit::Text(_, first, text) => line[first - 1..first - 1 + text.len()].copy_from_slice(text),
-        Limit::Character(Role::Fix | Role::Extra, c) => *line.last_mut().unwrap() = *c,
+        Limit::Character(Role::Fix | Role::Extra | Role::Unsigned, c) => *line.last_mut().unwrap() = *c,
         Limit::Character(_, c) => line.push(*c),
         Limit::Length(_, length) => set_length(random, role, line, *length),
-        Limit::Columns(..) => {}
+        Limit::Columns(..) | Limit::After(..) => {}
         Limit::Listed(family, _, text) => line[family.start() - 1..].copy_from_slice(text),
-        Limit::Fall(_, fall) => {
+        Limit::Fall(role, _, fall) => {
             let before = random.within(*fall as usize, DAY as usize - 1) as u32;
             line[1..7].copy_from_slice(&clock(before - fall));
-            sample.lines.insert(at, Line { role: Role::Event, text: [b"E", &*clock(before), b"PEV"].concat() });
+            let text = timed(*role, before, &sample.layouts);
+            sample.lines.insert(at, Line { role: *role, text });
         }
     }
     sample.bytes()
+}
+
+/// A timed line with nothing behind its fields but the columns of its layout, which are unlisted ones.
+fn timed(role: Role, seconds: u32, layouts: &Layouts) -> Vec<u8> {
+    let (kind, fields) = match role {
+        Role::Fix => (b'B', "0000000N00000000EA0000000000"),
+        Role::Event => (b'E', "PEV"),
+        Role::Satellites => (b'F', ""),
+        Role::Extra => (b'K', ""),
+        Role::Unsigned => (b'N', ""),
+        _ => panic!("{role:?} has no time"),
+    };
+    let columns = role.family().map_or(0, |family| layouts.of(family).length(family) + 1 - family.start());
+    [vec![kind], clock(seconds), fields.as_bytes().to_vec(), vec![b'x'; columns]].concat()
 }
 
 /// So many columns of one byte each.

@@ -1,5 +1,6 @@
 //! Files to try the reading and the library on, each made from a seed and its number in a run; and what is known of a file's answer from how it was made.
 
+mod branches;
 pub mod damage;
 pub mod examples;
 pub mod generate;
@@ -8,8 +9,9 @@ pub mod random;
 pub mod reached;
 mod rules;
 
+use crate::reading::layouts::FAMILIES;
 use crate::reading::refusals::TABLE_FULL;
-use crate::reading::{Accepted, Answer, Refusal, Role};
+use crate::reading::{Accepted, Answer, Refusal};
 use generate::Sample;
 use limits::Limit;
 use random::Random;
@@ -17,13 +19,14 @@ use random::Random;
 /// What the maker of a file knows of its answer.
 pub enum Known {
     Nothing,
-    Counts { lines: u64, b_lines: u64, k_lines: u64 },
+    Counts { lines: u64, b_lines: u64, k_lines: u64, n_lines: u64 },
     Refused(Refusal),
 }
 
 impl Known {
     pub fn of(sample: &Sample) -> Known {
-        Known::Counts { lines: sample.lines.len() as u64, b_lines: sample.count(Role::Fix), k_lines: sample.count(Role::Extra) }
+        let [b_lines, k_lines, n_lines] = FAMILIES.map(|family| sample.count(family.role()));
+        Known::Counts { lines: sample.lines.len() as u64, b_lines, k_lines, n_lines }
     }
 
     /// What is known where the table has this many entries.
@@ -40,9 +43,9 @@ impl Known {
     pub fn agrees(&self, answer: &Answer<Accepted>) -> Result<(), String> {
         let (agrees, known) = match (self, answer) {
             (Known::Nothing, _) => return Ok(()),
-            (Known::Counts { lines, b_lines, k_lines }, _) => {
-                let counts = answer.as_ref().map(|a| (a.lines, a.b_lines, a.k_lines));
-                (counts == Ok((*lines, *b_lines, *k_lines)), format!("a valid file of {lines} lines"))
+            (Known::Counts { lines, b_lines, k_lines, n_lines }, _) => {
+                let counts = answer.as_ref().map(|a| (a.lines, a.b_lines, a.k_lines, a.n_lines));
+                (counts == Ok((*lines, *b_lines, *k_lines, *n_lines)), format!("a valid file of {lines} lines"))
             }
             (Known::Refused(r), _) => (answer.as_ref().err() == Some(r), format!("refused with {r:?}")),
         };
@@ -108,7 +111,7 @@ impl Run {
 
     /// A file damaged at one aim after the other; another file is taken where one has nothing to aim at.
     fn aimed(&self, random: &mut Random, turn: u64) -> (Vec<u8>, Known) {
-        let aims = [3, 4, 5, 6, 7, 8, 9, 9, 22, 22, 23, 23, 24, 25, 25, 10, 11, 12, 13, 14, 16];
+        let aims = [3, 4, 5, 6, 6, 6, 6, 7, 7, 8, 9, 9, 22, 22, 23, 23, 24, 25, 25, 10, 10, 11, 11, 12, 12, 13, 13, 14, 14, 16];
         let aim = aims[(turn % aims.len() as u64) as usize];
         loop {
             let sample = self.sample(random);

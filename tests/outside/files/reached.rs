@@ -1,5 +1,7 @@
-//! What the files of a run have reached: how many were accepted, how many were refused with each number, and which fields had a number that names them.
+//! What the files of a run have reached: how many were accepted, how many were refused with each number, which fields had a number that names them, and which branches of the
+//! rules on layouts and on the lines by them.
 
+use super::branches::{self, branches};
 use crate::reading::{Accepted, Answer};
 use std::collections::BTreeMap;
 
@@ -9,14 +11,15 @@ const NUMBERS: [u32; 20] = [1, 2, 3, 4, 5, 6, 7, 8, 9, 10, 11, 12, 13, 14, 15, 1
 /// A field that its refusal names: the number, the kind of its line, and its first byte.
 type Field = (u32, char, u64);
 
-/// Every such field: the time of B, E, F and K lines and of the C head; latitude and longitude of B lines and C points; both altitudes of B lines; the date of line 2, and of
+/// Every such field: the time of B, E, F, K and N lines and of the C head; latitude and longitude of B lines and C points; both altitudes of B lines; the date of line 2, and of
 /// the C head the declared and the flight date.
-const FIELDS: [Field; 14] = [
+const FIELDS: [Field; 15] = [
     (22, 'B', 2),
     (22, 'C', 8),
     (22, 'E', 2),
     (22, 'F', 2),
     (22, 'K', 2),
+    (22, 'N', 2),
     (23, 'B', 8),
     (23, 'B', 16),
     (23, 'C', 2),
@@ -33,10 +36,14 @@ pub struct Reached {
     pub accepted: u64,
     numbers: BTreeMap<u32, u64>,
     fields: BTreeMap<Field, u64>,
+    branches: BTreeMap<String, u64>,
 }
 
 impl Reached {
     pub fn add(&mut self, file: &[u8], answer: &Answer<Accepted>) {
+        for branch in branches(file, answer) {
+            *self.branches.entry(branch).or_default() += 1;
+        }
         let Err(refused) = answer else {
             self.accepted += 1;
             return;
@@ -65,11 +72,19 @@ impl Reached {
         each.join(", ")
     }
 
-    /// What should have been reached and was not: the numbers, and the fields. `but` are numbers that this run cannot reach.
+    /// How often each branch was reached that a run must reach.
+    pub fn by_branch(&self) -> String {
+        let count = |branch: &String| self.branches.get(branch).copied().unwrap_or(0);
+        let each: Vec<String> = branches::wanted().iter().map(|branch| format!("{branch}: {}", count(branch))).collect();
+        each.join(", ")
+    }
+
+    /// What should have been reached and was not: the numbers, the fields, and the branches. `but` are numbers that this run cannot reach.
     pub fn never(&self, but: &[u32]) -> Vec<String> {
         let numbers = NUMBERS.iter().filter(|n| !but.contains(n) && !self.numbers.contains_key(n)).map(u32::to_string);
         let fields = FIELDS.iter().filter(|f| !self.fields.contains_key(f)).map(told);
-        numbers.chain(fields).collect()
+        let branches = branches::wanted().into_iter().filter(|branch| !self.branches.contains_key(branch));
+        numbers.chain(fields).chain(branches).collect()
     }
 
     /// What should never be reached and was: a number that no file has, or one that names a field where no such field stands.

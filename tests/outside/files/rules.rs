@@ -30,7 +30,7 @@ pub fn fields(line: &Line) -> Vec<Field> {
         Role::Day => vec![(2, 4, Word), (6, 6, Date)],
         Role::Header => vec![(2, 1, OneOf(b"FO")), (3, 3, Codes)],
         Role::Fix => vec![(2, 6, Time), (8, 8, Latitude), (16, 9, Longitude), (25, 1, OneOf(b"AV")), (26, 5, Altitude), (31, 5, Altitude)],
-        Role::Extra => vec![(2, 6, Time)],
+        Role::Extra | Role::Unsigned => vec![(2, 6, Time)],
         Role::Event => vec![(2, 6, Time), (8, 3, Codes)],
         Role::Satellites => {
             let pairs = (8..end).step_by(2).map(|at| (at, 2, Codes));

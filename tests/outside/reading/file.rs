@@ -21,6 +21,7 @@ pub struct Accepted {
     pub lines: u64,
     pub b_lines: u64,
     pub k_lines: u64,
+    pub n_lines: u64,
 }
 
 /// How far a file has come: what may follow is told from this.
@@ -31,6 +32,7 @@ enum Stage {
     Headers,
     FixLayout,
     ExtraLayout,
+    UnsignedLayout,
     Body,
     Seal,
     Remarks,
@@ -61,6 +63,8 @@ impl Course {
             // "then at most one I, then at most one J"
             b'I' => (Role::Layout(Family::Fixes), stage == Stage::Headers),
             b'J' => (Role::Layout(Family::Extras), stage <= Stage::FixLayout),
+            // M: "at most one, straight after J, or after I or the H lines if those are missing"
+            b'M' => (Role::Layout(Family::Unsigned), stage <= Stage::ExtraLayout),
             // "At most one declaration (h), begun before the first B"
             b'C' => (Role::Head, in_body && !self.declared && self.said.b_lines == 0),
             b'D' => (Role::Differential, in_body),
@@ -68,10 +72,11 @@ impl Course {
             b'F' => (Role::Satellites, in_body),
             b'B' => (Role::Fix, in_body),
             b'K' => (Role::Extra, in_body),
+            b'N' => (Role::Unsigned, in_body),
             // "After the first G only G or L; after an L that follows a G, only L."
             b'L' => (Role::Remark, true),
             b'G' => (Role::Seal, stage <= Stage::Seal),
-            // "M to Z are "other" and carried (h)."
+            // "M to Z are "other" and carried (h)." "M and N are "other" no more".
             _ => (Role::Other, in_body),
         };
         allowed.then_some(role)
@@ -83,6 +88,7 @@ impl Course {
             Role::Day | Role::Header => Stage::Headers,
             Role::Layout(Family::Fixes) => Stage::FixLayout,
             Role::Layout(Family::Extras) => Stage::ExtraLayout,
+            Role::Layout(Family::Unsigned) => Stage::UnsignedLayout,
             Role::Seal => Stage::Seal,
             Role::Remark if self.stage >= Stage::Seal => Stage::Remarks,
             _ => Stage::Body,
@@ -94,7 +100,8 @@ impl Course {
         let said = &mut self.said;
         match role {
             Role::Fix => return fix_line(line, &said.layouts.fixes).map(|f| Some(f.time)),
-            Role::Extra => return extra_line(line, &said.layouts.extras).map(Some),
+            Role::Extra => return extra_line(line, Family::Extras, &said.layouts.extras).map(Some),
+            Role::Unsigned => return extra_line(line, Family::Unsigned, &said.layouts.unsigned).map(Some),
             Role::Event => return event_line(line).map(Some),
             Role::Satellites => return satellites_line(line).map(Some),
             Role::Recorder => recorder(line)?,
@@ -140,6 +147,7 @@ impl Course {
         self.said.lines += 1;
         self.said.b_lines += u64::from(role == Role::Fix);
         self.said.k_lines += u64::from(role == Role::Extra);
+        self.said.n_lines += u64::from(role == Role::Unsigned);
         Ok(())
     }
 }

@@ -1,4 +1,4 @@
-//! The layouts that I and J lines tell, the listed codes, and the columns of the lines that follow a layout.
+//! The layouts that I, J and M lines tell, the listed codes, and the columns of the lines that follow a layout.
 
 use super::fields::{codes_of, digits, digits_of};
 use super::lines::{Role, shape};
@@ -9,17 +9,39 @@ use super::refusals::{COLUMN, FORM, Read, TILE, TWICE, WIDTH, refuse};
 pub enum Family {
     Fixes,
     Extras,
+    /// "Unsigned data in N lines, described by an M line".
+    Unsigned,
 }
 
-pub const FAMILIES: [Family; 2] = [Family::Fixes, Family::Extras];
+pub const FAMILIES: [Family; 3] = [Family::Fixes, Family::Extras, Family::Unsigned];
 
 impl Family {
+    /// The kind of the lines that have the columns.
+    pub const fn kind(self) -> u8 {
+        match self {
+            Family::Fixes => b'B',
+            Family::Extras => b'K',
+            Family::Unsigned => b'N',
+        }
+    }
+
     /// The kind of the line that tells the layout.
     pub const fn layout_kind(self) -> u8 {
         match self {
             Family::Fixes => b'I',
             Family::Extras => b'J',
+            Family::Unsigned => b'M',
         }
+    }
+
+    /// The family that a line has columns of, by its first byte.
+    pub fn of_line(line: &[u8]) -> Option<Family> {
+        FAMILIES.into_iter().find(|family| line.first() == Some(&family.kind()))
+    }
+
+    /// The family whose layout a line tells, by its first byte.
+    pub fn told_by(line: &[u8]) -> Option<Family> {
+        FAMILIES.into_iter().find(|family| line.first() == Some(&family.layout_kind()))
     }
 
     /// The role of the lines that have the columns.
@@ -27,14 +49,15 @@ impl Family {
         match self {
             Family::Fixes => Role::Fix,
             Family::Extras => Role::Extra,
+            Family::Unsigned => Role::Unsigned,
         }
     }
 
-    /// "The first entry starts at 36 (I) or 8 (J)".
+    /// "The first entry starts at 36 (I) or 8 (J)"; "M is built as J is".
     pub const fn start(self) -> usize {
         match self {
             Family::Fixes => 36,
-            Family::Extras => 8,
+            Family::Extras | Family::Unsigned => 8,
         }
     }
 }
@@ -116,7 +139,7 @@ pub struct Layout {
 }
 
 impl Layout {
-    /// "A line of that kind ends at the last FF; with NN 00, or no such line, B has 35 and K has 7."
+    /// "A line of that kind ends at the last FF; with NN 00, or no such line, B has 35 and K has 7." "N is built as K is".
     pub fn length(&self, family: Family) -> usize {
         self.entries.last().map_or(family.start() - 1, |e| e.last)
     }
@@ -136,7 +159,7 @@ impl Layout {
         line
     }
 
-    /// Whether some I or J line that passes 7 to 12 tells this layout.
+    /// Whether some I, J or M line that passes 7 to 12 tells this layout.
     pub fn is_allowed(&self, family: Family) -> bool {
         layout_line(&self.text(family), family).as_ref() == Ok(self)
     }
@@ -154,6 +177,7 @@ impl Layout {
 pub struct Layouts {
     pub fixes: Layout,
     pub extras: Layout,
+    pub unsigned: Layout,
 }
 
 impl Layouts {
@@ -161,6 +185,7 @@ impl Layouts {
         match family {
             Family::Fixes => &self.fixes,
             Family::Extras => &self.extras,
+            Family::Unsigned => &self.unsigned,
         }
     }
 
@@ -168,11 +193,12 @@ impl Layouts {
         match family {
             Family::Fixes => &mut self.fixes,
             Family::Extras => &mut self.extras,
+            Family::Unsigned => &mut self.unsigned,
         }
     }
 }
 
-/// An I or a J line: "NN and the length against it come first (9, byte 2), then entries from the left, each by 9, 10, 11, 12".
+/// An I, a J or an M line: "NN and the length against it come first (9, byte 2), then entries from the left, each by 9, 10, 11, 12".
 pub fn layout_line(line: &[u8], family: Family) -> Read<Layout> {
     shape(line, Role::Layout(family).lengths())?;
     let count = digits_of(2).at(line, 2)? as usize;

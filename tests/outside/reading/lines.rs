@@ -19,13 +19,14 @@ pub enum Role {
     Satellites,
     Fix,
     Extra,
+    Unsigned,
     Remark,
     Seal,
     Other,
 }
 
 impl Role {
-    /// The least and most length, of a B or a K line by some layout or other.
+    /// The least and most length, of a B, a K or an N line by some layout or other.
     pub const fn lengths(self) -> (usize, usize) {
         match self {
             Role::Recorder => (7, 255),
@@ -38,7 +39,7 @@ impl Role {
             Role::Event => (10, 255),
             Role::Satellites => (7, 255),
             Role::Fix => (35, 99),
-            Role::Extra => (7, 99),
+            Role::Extra | Role::Unsigned => (7, 99),
             Role::Remark => (1, 99),
             Role::Seal => (2, 255),
             Role::Other => (1, 255),
@@ -51,13 +52,14 @@ impl Role {
             Role::Layout(family) => Some(family),
             Role::Fix => Some(Family::Fixes),
             Role::Extra => Some(Family::Extras),
+            Role::Unsigned => Some(Family::Unsigned),
             _ => None,
         }
     }
 
-    /// "B, E, F and K lines run in time order."
+    /// "B, E, F and K lines run in time order." N "joins the time order".
     pub const fn is_timed(self) -> bool {
-        matches!(self, Role::Fix | Role::Event | Role::Satellites | Role::Extra)
+        matches!(self, Role::Fix | Role::Event | Role::Satellites | Role::Extra | Role::Unsigned)
     }
 }
 
@@ -135,9 +137,9 @@ pub fn fix_line(line: &[u8], layout: &Layout) -> Read<Fix> {
     Ok(fix)
 }
 
-/// "K: time 2 to 7, columns from 8."
-pub fn extra_line(line: &[u8], layout: &Layout) -> Read<u32> {
-    let length = layout.length(Family::Extras);
+/// "K: time 2 to 7, columns from 8." "N is built as K is: time at 2 to 7, columns from 8, exact length, listed codes checked". The family is one of these two.
+pub fn extra_line(line: &[u8], family: Family, layout: &Layout) -> Read<u32> {
+    let length = layout.length(family);
     shape(line, (length, length))?;
     let time = TIME.at(line, 2)?;
     columns(line, layout)?;

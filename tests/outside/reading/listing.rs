@@ -1,7 +1,7 @@
 //! The listing: what the program of that name prints of a file.
 
 use super::file::{Accepted, check};
-use super::layouts::{Family, Layout};
+use super::layouts::{FAMILIES, Layout};
 use super::lines::{Fix, fix_line};
 use super::places::line;
 use super::refusals::{INPUT_OVER, Refusal};
@@ -29,11 +29,11 @@ pub fn refusal(r: &Refusal) -> String {
     format!("REFUSED {} {} {}\n", r.number, r.line, r.byte)
 }
 
-/// An accepted file with its table. "OK: lines, B lines, K lines, B length, K length."
+/// An accepted file with its table. "OK: lines, B lines, K lines, B length, K length." It "gets the N count and N length as two more fields at its end".
 pub fn flight(file: &[u8], table: &[u32], said: &Accepted) -> String {
     let layout = &said.layouts.fixes;
-    let lengths = (layout.length(Family::Fixes), said.layouts.extras.length(Family::Extras));
-    let mut out = format!("OK {} {} {} {} {}\n", said.lines, said.b_lines, said.k_lines, lengths.0, lengths.1);
+    let [b, k, n] = FAMILIES.map(|family| said.layouts.of(family).length(family));
+    let mut out = format!("OK {} {} {} {b} {k} {} {n}\n", said.lines, said.b_lines, said.k_lines, said.n_lines);
     for number in 1..=said.lines {
         let (start, end) = line(file, table, number).unwrap();
         let text = &file[start..end];

@@ -20,7 +20,7 @@ pub use degrees::degrees;
 pub use explained::{explained, name};
 pub use fields::{Date, Position};
 pub use file::{Accepted, LIMIT, check};
-pub use given::{column_given, layout_given, write_layout_given};
+pub use given::{column_given, layout_given, write_extra_given, write_layout_given};
 pub use layouts::{Entry, Family, LISTED, Layout, Layouts, Listed};
 pub use lines::{Fix, Head, Point, Role};
 pub use places::{line, step};

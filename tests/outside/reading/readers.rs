@@ -16,9 +16,11 @@ pub fn read_fix(line: &[u8], layout: &Layout) -> Answer<Fix> {
     reader(line, b'B', layout.is_allowed(Family::Fixes), |l| fix_line(l, layout))
 }
 
-/// A K line: its time.
+/// A K line by a J layout, or an N line by an M layout: its time.
 pub fn read_extra(line: &[u8], layout: &Layout) -> Answer<u32> {
-    reader(line, b'K', layout.is_allowed(Family::Extras), |l| extra_line(l, layout))
+    let family = Family::of_line(line).unwrap_or(Family::Extras);
+    let allowed = family != Family::Fixes && layout.is_allowed(family);
+    reader(line, family.kind(), allowed, |l| extra_line(l, family, layout))
 }
 
 pub fn read_date(line: &[u8]) -> Answer<Date> {
@@ -45,7 +47,7 @@ pub fn read_layout(line: &[u8], family: Family) -> Answer<Layout> {
     reader(line, family.layout_kind(), true, |l| layout_line(l, family))
 }
 
-/// The column of a code in a B line by an I layout, or in a K line by a J layout.
+/// The column of a code in a B line by an I layout, in a K line by a J layout, or in an N line by an M layout.
 pub fn read_column(line: &[u8], layout: &Layout, code: &[u8]) -> Answer<Entry> {
     if line.first() == Some(&b'B') {
         read_fix(line, layout)?;

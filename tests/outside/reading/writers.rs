@@ -48,10 +48,12 @@ pub fn write_fix(fix: &Fix, columns: &[u8], layout: &Layout, place: usize, out: 
     write(&joined(line, 35, columns)?, fix, |l| fix_line(l, layout), place, out)
 }
 
-pub fn write_extra(time: u32, columns: &[u8], layout: &Layout, place: usize, out: &mut [u8]) -> Answer<usize> {
-    allowed(layout, Family::Extras)?;
-    let line = format!("K{}", time_text(time)).into_bytes();
-    write(&joined(line, 7, columns)?, &time, |l| extra_line(l, layout), place, out)
+/// A K or an N line, by its letter; 17 for another letter.
+pub fn write_extra(kind: u8, time: u32, columns: &[u8], layout: &Layout, place: usize, out: &mut [u8]) -> Answer<usize> {
+    let family = [Family::Extras, Family::Unsigned].into_iter().find(|family| family.kind() == kind).ok_or(Refusal::of(BAD_VALUE))?;
+    allowed(layout, family)?;
+    let line = [vec![kind], time_text(time).into_bytes()].concat();
+    write(&joined(line, 7, columns)?, &time, |l| extra_line(l, family, layout), place, out)
 }
 
 pub fn write_layout(layout: &Layout, family: Family, place: usize, out: &mut [u8]) -> Answer<usize> {

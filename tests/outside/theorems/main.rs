@@ -33,7 +33,8 @@ use Rattle.rules.proofs.Computed.{everything}
 unfoldable numbersOf : Said Flight → List ℕ
 unfolding lineLength
 numbersOf (says f) =
-    0 ∷ f .lines ∷ f .counts .b ∷ f .counts .k ∷ f .date .day ∷ f .date .month ∷ f .date .year ∷ lineLength 36 (f .layouts .b) ∷ lineLength 8 (f .layouts .k) ∷ []
+    0 ∷ f .lines ∷ f .counts .b ∷ f .counts .k ∷ f .counts .n ∷ f .date .day ∷ f .date .month ∷ f .date .year
+        ∷ lineLength 36 (f .layouts .b) ∷ lineLength 8 (f .layouts .k) ∷ lineLength 8 (f .layouts .n) ∷ []
 numbersOf (refuses n l b) = n ∷ l ∷ b ∷ []
 
 unfoldable same : List ℕ → List ℕ → Bool
@@ -47,8 +48,9 @@ same (x ∷ xs) (y ∷ ys) = eqb x y && same xs ys
 fn numbers(answer: &Answer<Accepted>) -> Vec<u64> {
     match answer {
         Ok(a) => {
-            let [b, k] = FAMILIES.map(|family| a.layouts.of(family).length(family) as u64);
-            vec![0, a.lines, a.b_lines, a.k_lines, a.date.day.into(), a.date.month.into(), a.date.year.into(), b, k]
+            let [b, k, n] = FAMILIES.map(|family| a.layouts.of(family).length(family) as u64);
+            let [day, month, year] = [a.date.day, a.date.month, a.date.year].map(u64::from);
+            vec![0, a.lines, a.b_lines, a.k_lines, a.n_lines, day, month, year, b, k, n]
         }
         Err(r) => vec![r.number.into(), r.line, r.byte],
     }

@@ -93,8 +93,8 @@ fn order() {
     assert_eq!(body(&[G, "LX", "LX"]), (6, 6, 1));
     assert_eq!(verdict(&file(&[A, DATE, G, G, "LX", "LY"])), OK);
     assert_eq!(verdict(&file(&[A, DATE, "LX", G])), OK);
-    let in_body = ["D1ABCD", "E120000PEV", "F120000", B35, "K120000", "M", "Z"];
-    for line in [A, DATE, "I00", "J00", HEAD].into_iter().chain(in_body) {
+    let in_body = ["D1ABCD", "E120000PEV", "F120000", B35, "K120000", "N120000", "O", "Z"];
+    for line in [A, DATE, "I00", "J00", "M00", HEAD].into_iter().chain(in_body) {
         assert_eq!(verdict(&file(&[A, DATE, G, line])), (6, 4, 1), "{line} after G");
         assert_eq!(verdict(&file(&[A, DATE, G, "L", line])), (6, 5, 1), "{line} after G and L");
     }

@@ -11,7 +11,7 @@ fn lengths() {
     assert_eq!(first(&(A.to_string() + &x(249))), (7, 1, 0));
     assert_eq!(verdict(&file(&[A, &DATE[..10]])), (7, 2, 0));
     assert_eq!(verdict(&file(&[A, "HFDTE1507240"])), (7, 2, 0));
-    for (line, most) in [("HFABC", 255), ("E120000PEV", 255), ("L", 99), ("GX", 255), ("M", 255), ("D1ABCD", 6)] {
+    for (line, most) in [("HFABC", 255), ("E120000PEV", 255), ("L", 99), ("GX", 255), ("O", 255), ("D1ABCD", 6)] {
         let verdict_of = |length: usize| verdict(&file(&[A, DATE, &format!("{line}{}", x(length - line.len())), G]));
         assert_eq!(verdict_of(line.len()), OK, "{line}");
         assert_eq!(verdict_of(most), OK, "{line} of {most}");

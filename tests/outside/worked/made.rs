@@ -1,4 +1,4 @@
-//! Generated files: each is answered as it was made, and every refusal of a file is met, in every field that a refusal names.
+//! Generated files: each is answered as it was made, and every refusal of a file is met, in every field that a refusal names, and every branch of the rules on layouts.
 
 use outside::files::Run;
 use outside::files::reached::Reached;
@@ -8,7 +8,7 @@ use outside::reading::check;
 fn answered_as_made() {
     let run = Run::new(11, 20);
     let mut reached = Reached::default();
-    for n in 0..6_000 {
+    for n in 0..14_000 {
         let made = run.make(&mut run.random(n), n);
         let answer = check(&made.file, &mut vec![0; made.entries]);
         if let Err(difference) = made.known.agrees(&answer) {
@@ -16,7 +16,7 @@ fn answered_as_made() {
         }
         reached.add(&made.file, &answer);
     }
-    println!("{} accepted; {}; {}", reached.accepted, reached.by_number(), reached.by_field());
+    println!("{} accepted; {}; {}; {}", reached.accepted, reached.by_number(), reached.by_field(), reached.by_branch());
     assert_ne!(reached.accepted, 0);
     // 1 and 2 are no file of a run
     assert_eq!(reached.never(&[1, 2]), Vec::<String>::new(), "never met");

@@ -10,6 +10,7 @@ mod marked;
 mod places;
 mod programs;
 mod readers;
+mod unsigned;
 mod writers;
 
 use outside::reading::{Answer, Entry, Layout, Refusal, check};

@@ -120,10 +120,10 @@ fn run_only() {
 #[test]
 fn largest_file() {
     let (top, end) = (file(&[A, DATE]), file(&["GX"]));
-    let (long, left) = (file(&["N".repeat(255)]), 16_777_216 - top.len() - end.len());
+    let (long, left) = (file(&["O".repeat(255)]), 16_777_216 - top.len() - end.len());
     let (whole, rest) = (left / long.len(), left % long.len());
     assert!(rest >= 3);
-    let data = [top, long.repeat(whole), file(&["N".repeat(rest - 2)]), end].concat();
+    let data = [top, long.repeat(whole), file(&["O".repeat(rest - 2)]), end].concat();
     assert_eq!((data.len(), LIMIT), (16_777_216, 16_777_216));
     let mut table = vec![7; whole + 5];
     assert_eq!(check(&data, &mut table).map(|said| said.lines), Ok(whole as u64 + 4));
@@ -134,7 +134,7 @@ fn largest_file() {
 
 #[test]
 fn listing_example() {
-    let expected = "OK 5 1 0 40 7\nFIX 4 43200 3090000 N 15000 W A 100 120\nCOL FXA 012\nCOL SIU 08\n";
+    let expected = "OK 5 1 0 40 7 0 7\nFIX 4 43200 3090000 N 15000 W A 100 120\nCOL FXA 012\nCOL SIU 08\n";
     assert_eq!(listing(&file(&[A, DATE, I2, B40, G])), expected);
     assert_eq!(listing(outside::files::examples::FIVE), expected);
 }

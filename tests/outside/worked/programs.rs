@@ -20,18 +20,21 @@ fn listings() {
     }
     assert_eq!(listing(&file(&[A, "HFDTE290223", G])), "REFUSED 25 2 6\n");
     let remarks = |count: usize| listing(&file(&[&[A, DATE], &*times(count, "L"), &["GX"]].concat()));
-    assert_eq!(remarks(16_381), "OK 16384 0 0 35 7\n");
+    assert_eq!(remarks(16_381), "OK 16384 0 0 35 7 0 7\n");
     assert_eq!(remarks(16_382), "REFUSED 15 16385 0\n");
     let south = "B0000000000000S00000000WV-0012-9999";
     let data = file(&[A, DATE, "J010809ZZZ", "K000000 -", south, "B0000010000001S00000001EV0000099999", "GX"]);
-    assert_eq!(listing(&data), "OK 7 2 1 35 9\nFIX 5 0 0 S 0 W V -12 -9999\nFIX 6 1 1 S 1 E V 0 99999\n");
+    assert_eq!(listing(&data), "OK 7 2 1 35 9 0 7\nFIX 5 0 0 S 0 W V -12 -9999\nFIX 6 1 1 S 1 E V 0 99999\n");
     let data = file(&[A, DATE, "I013638ZZZ", &format!("{B35} x "), "GX"]);
     assert!(listing(&data).ends_with("COL ZZZ  x \n"));
 }
 
 #[test]
 fn explanations() {
-    assert_eq!([0, 1, 9, 21, 22, 25, 26].map(name), [None, Some("EMPTY"), Some("FORM"), Some("INPUT_OVER"), Some("TIME"), Some("DATE"), None]);
+    assert_eq!(
+        [0, 1, 9, 21, 22, 25, 26].map(name),
+        [None, Some("EMPTY"), Some("FORM"), Some("INPUT_OVER"), Some("TIME"), Some("DATE"), None]
+    );
     let of = |file: &[u8], number, line, byte| explained(file, &Refusal { number, line, byte });
     assert_eq!(of(b"", 26, 0, 0), None);
     assert_eq!(of(b"", 1, 0, 0).unwrap(), "REFUSED 1 EMPTY: no bytes\n");

@@ -66,7 +66,7 @@ fn fixes() {
 
 #[test]
 fn extras() {
-    let write = |time: u32, tail: &str, y: &Layout| written(|place, out| write_extra(time, tail.as_bytes(), y, place, out));
+    let write = |time: u32, tail: &str, y: &Layout| written(|place, out| write_extra(b'K', time, tail.as_bytes(), y, place, out));
     let two = layout(&[(8, 9, "LAD"), (10, 10, "ZZZ")]);
     assert_eq!(write(1, "", &Layout::default()), line("K000001"));
     assert_eq!(write(86_399, "12a", &two), line("K23595912a"));
@@ -129,7 +129,7 @@ fn declarations() {
 fn where_a_line_is_put() {
     let put = |time: u32, place: usize| {
         let mut out = *b"...............";
-        let answer = write_extra(time, b"", &Layout::default(), place, &mut out);
+        let answer = write_extra(b'K', time, b"", &Layout::default(), place, &mut out);
         (answer, String::from_utf8(out.to_vec()).unwrap())
     };
     let dots = "...............".to_string();

@@ -13,4 +13,10 @@ are-allowed-spec =
     (λ c κs. search needs)
     (λ c z. absurd (false-true z))
     (λ c κs. search needs)
-    (λ c z. record { fixes = sym (c .before .before .allowed .ensures) ∙ not-false _ (c .before .if1 .left); extras = sym (c .allowed2 .ensures) ∙ z }))
+    (λ c z. absurd (false-true z))
+    (λ c κs. search needs)
+    (λ c z. record {
+      fixes = sym (c .before .before .before .before .allowed .ensures) ∙ not-false _ (c .before .before .before .if1 .left);
+      extras = sym (c .before .before .allowed2 .ensures) ∙ not-false _ (c .before .if2 .left);
+      unsigned = sym (c .allowed3 .ensures) ∙ z;
+    }))

@@ -11,31 +11,31 @@ use Rattle.ahead.proofs.run_lines.Statement.{statement}
 use Rattle.ahead.proofs.run_lines.Tie as tie
 
 abbrev Inv-loop : tie.InvT-loop
-Inv-loop file lent table₀ from b fixes k extras st p₀ table p = Running lent file table₀ from st table p
+Inv-loop file lent table₀ from b fixes k extras n unsigned st p₀ table p = Running lent file table₀ from st table p
 
 abbrev μ-loop : tie.MeasureT-loop
-μ-loop file lent table₀ from b fixes k extras st p₀ table p = length file - p .at
+μ-loop file lent table₀ from b fixes k extras n unsigned st p₀ table p = length file - p .at
 
 loop-holds : tie.Need-loop-holds Inv-loop μ-loop
 loop-holds c =
-    let pre = c .before .before .before .before .before .pre in
+    let pre = c .before .before .before .before .before .before .pre in
     running-first _ _ _ _ _ _ (c .pace-of .ensures) (pre .0) (pre .3) (pre .4) (pre .5)
 
 cast-place : tie.Need-cast-put-entry Inv-loop μ-loop
-cast-place c = omega (arith, c .before .before .before .before .before .before .before .before .loop .inv .within, c .before .before .before .before .before .before .before .before .before .before .before .before .before .before .pre .1)
+cast-place c = omega (arith, c .before .before .before .before .before .before .before .before .loop .inv .within, c .before .before .before .before .before .before .before .before .before .before .before .before .before .before .before .pre .1)
 
 loop-less : tie.Need-loop-less Inv-loop μ-loop
 loop-less c =
     let g = c .before .before .before .before .before .before .before .before .before .before .before .before .loop .inv in
-    let pre = c .before .before .before .before .before .before .before .before .before .before .before .before .before .before .before .before .before .before .pre in
-    let t = taken-is _ (c .before .before .before .before .before .before .before .before .before .take-line .ensures _ (g .going) (pre .6) (pre .7)) (c .before .before .before .before .before .before .before .next .given .1) in
+    let pre = c .before .before .before .before .before .before .before .before .before .before .before .before .before .before .before .before .before .before .before .pre in
+    let t = taken-is _ (c .before .before .before .before .before .before .before .before .before .take-line .ensures _ (g .going) (pre .6) (pre .7) (pre .8)) (c .before .before .before .before .before .before .before .next .given .1) in
     omega (arith, running-less g t, t .passed .within)
 
 loop-again : tie.Need-loop-again Inv-loop μ-loop
 loop-again c =
     let g = c .before .before .before .before .before .before .before .before .before .before .before .before .loop .inv in
-    let pre = c .before .before .before .before .before .before .before .before .before .before .before .before .before .before .before .before .before .before .pre in
-    let t = taken-is _ (c .before .before .before .before .before .before .before .before .before .take-line .ensures _ (g .going) (pre .6) (pre .7)) (c .before .before .before .before .before .before .before .next .given .1) in
+    let pre = c .before .before .before .before .before .before .before .before .before .before .before .before .before .before .before .before .before .before .before .pre in
+    let t = taken-is _ (c .before .before .before .before .before .before .before .before .before .take-line .ensures _ (g .going) (pre .6) (pre .7) (pre .8)) (c .before .before .before .before .before .before .before .next .given .1) in
     running-next g t _ _ (c .before .before .before .put-entry .ensures) (not-false _ (c .if2 .left))
 
 pub run-lines-spec : {M : Type 1} → statement M

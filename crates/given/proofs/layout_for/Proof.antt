@@ -1,7 +1,7 @@
 -- `layout_for` meets its contract: each way out is a way through `layoutFor`. Assumes nothing.
 use mathlib.Core.Path.{refl}
 use borrow.Author.Needs.{needs}
-use Rattle.known.proofs.Laws.{family-of, no-family}
+use Rattle.families.proofs.Laws.{family-of, no-family}
 use Rattle.layout.proofs.Turns.{told-same}
 use Rattle.given.specs.Given.{layoutFor}
 use Rattle.given.proofs.layout_for.Statement.{statement}

@@ -1,7 +1,7 @@
 -- `told_layout` meets its contract: each way out is a way through `toldLayout`. Assumes nothing.
 use mathlib.Core.Path.{refl}
 use borrow.Author.Needs.{needs}
-use Rattle.known.proofs.Laws.{family-of, no-family}
+use Rattle.families.proofs.Laws.{family-of, no-family}
 use Rattle.layout.proofs.Turns.{told-same}
 use Rattle.given.specs.Given.{toldLayout}
 use Rattle.given.proofs.told_layout.Statement.{statement}

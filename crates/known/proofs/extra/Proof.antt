@@ -1,8 +1,9 @@
 -- `extra` meets its contract: each way out is a way through `extraKnown`. Assumes nothing.
+use mathlib.Core.Path.{refl, sym, _∙_}
 use borrow.Author.Needs.{needs}
 use Rattle.rules.specs.Reads.{timeReadTold}
 use Rattle.known.specs.Known.{extraKnown}
-use Rattle.known.proofs.Laws.{kinds}
+use Rattle.known.proofs.Laws.{kind-is, kind-is-not}
 use Rattle.known.proofs.extra.Statement.{statement}
 use Rattle.known.proofs.extra.Tie as tie
 
@@ -12,6 +13,7 @@ extra-spec =
     tie.close
     (tie.spec
     (λ c κs. search needs)
-    (λ c. search kinds depth 8)
     (λ c κs. search needs)
-    (λ c. search kinds depth 8))
+    (λ c. kind-is-not _ _ _ _ _ _ (c .before .before .byte .ensures) (λ q. c .if1 .taken (q ∙ sym (c .before .line-letter .ensures))) refl)
+    (λ c κs. search needs)
+    (λ c. kind-is _ _ _ _ _ _ (c .before .before .before .byte .ensures) (c .before .if1 .left ∙ c .before .before .line-letter .ensures) (c .extra-line .ensures)))

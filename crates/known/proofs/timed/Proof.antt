@@ -2,7 +2,7 @@
 use borrow.Author.Needs.{needs}
 use Rattle.rules.specs.Reads.{timeReadTold}
 use Rattle.known.specs.Known.{lineKnown}
-use Rattle.known.proofs.Laws.{families}
+use Rattle.families.proofs.Laws.{families}
 use Rattle.known.proofs.timed.Statement.{statement}
 use Rattle.known.proofs.timed.Tie as tie
 

@@ -1,4 +1,4 @@
--- `line::columned_line` meets its contract: a B line by its fix's time, a K line by its own. Assumes nothing.
+-- `line::columned_line` meets its contract: a B line by its fix's time, a K or an N line by its own. Assumes nothing.
 use borrow.Author.Needs.{needs}
 use Rattle.rules.specs.Lines.{columnedLine}
 use Rattle.rules.specs.Reads.{fixFieldsTold, timeReadTold}

@@ -1,13 +1,13 @@
--- `line::extra_line` meets its contract: each way out is a way through `kLine`. Assumes nothing.
+-- `line::extra_line` meets its contract: each way out is a way through `extraLine`. Assumes nothing.
 use borrow.Author.Needs.{needs}
-use Rattle.rules.specs.Lines.{kLine}
+use Rattle.rules.specs.Lines.{extraLine}
 use Rattle.rules.specs.Reads.{timeReadTold}
 use Rattle.line.proofs.Laws.{lines}
 use Rattle.line.proofs.extra_line.Statement.{statement}
 use Rattle.line.proofs.extra_line.Tie as tie
 
 pub extra-line-spec : {M : Type 1} → statement M
-unfolding kLine timeReadTold
+unfolding extraLine timeReadTold
 extra-line-spec =
     tie.close
     (tie.spec

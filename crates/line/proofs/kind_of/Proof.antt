@@ -10,15 +10,17 @@ use Rattle.rules.specs.declared.Kind.the-variants as kind
 use Rattle.line.proofs.kind_of.Statement.{statement}
 use Rattle.line.proofs.kind_of.Tie as tie
 
--- the byte is none of A to L
+-- the byte is none of A to N
 abbrev Rest : ℕ → Type 0
 Rest b =
-    (((((((((((Unit {0} × (b ≡ 65 → ⊥)) × (b ≡ 66 → ⊥)) × (b ≡ 67 → ⊥)) × (b ≡ 68 → ⊥)) × (b ≡ 69 → ⊥)) × (b ≡ 70 → ⊥)) × (b ≡ 71 → ⊥)) × (b ≡ 72 → ⊥)) × (b ≡ 73 → ⊥)) × (b ≡ 74 → ⊥)) × (b ≡ 75 → ⊥)) × (b ≡ 76 → ⊥)
+    (((((((((((((Unit {0} × (b ≡ 65 → ⊥)) × (b ≡ 66 → ⊥)) × (b ≡ 67 → ⊥)) × (b ≡ 68 → ⊥)) × (b ≡ 69 → ⊥)) × (b ≡ 70 → ⊥)) × (b ≡ 71 → ⊥)) × (b ≡ 72 → ⊥)) × (b ≡ 73 → ⊥)) × (b ≡ 74 → ⊥)) × (b ≡ 75 → ⊥)) × (b ≡ 76 → ⊥)) × (b ≡ 77 → ⊥)) × (b ≡ 78 → ⊥)
 
 rest : (b : ℕ) → Rest b → kindOf b ≡ cond (ltb b 65) kind.NoKind (cond (leb b 90) kind.Other kind.NoKind)
 unfolding kindOf
 rest b r =
     simp (
+      ne-eqb _ _ (r .0 .0 .0 .0 .0 .0 .0 .0 .0 .0 .0 .0 .0 .1),
+      ne-eqb _ _ (r .0 .0 .0 .0 .0 .0 .0 .0 .0 .0 .0 .0 .1),
       ne-eqb _ _ (r .0 .0 .0 .0 .0 .0 .0 .0 .0 .0 .0 .1),
       ne-eqb _ _ (r .0 .0 .0 .0 .0 .0 .0 .0 .0 .0 .1),
       ne-eqb _ _ (r .0 .0 .0 .0 .0 .0 .0 .0 .0 .1),
@@ -50,6 +52,8 @@ kind-of-spec =
     (λ c. rw (c .match .keys10))
     (λ c. rw (c .match .keys11))
     (λ c. rw (c .match .keys12))
+    (λ c. rw (c .match .keys13))
+    (λ c. rw (c .match .keys14))
     (λ c.
     let l : c .before .before .before .args .b < 91 = c .if2 .taken in
     sym (rest (c .before .before .before .args .b) (c .before .before .match .rest) ∙ simp (le-ltb _ _ (c .before .if1 .left), le-leb (c .before .before .before .args .b) 90 (omega arith))))

@@ -4,6 +4,7 @@ use mathlib.Core.Path.{sym}
 use native.Mathlib.Omega.{arith}
 use borrow.Author.Needs.{needs}
 use Rattle.rules.specs.Roles.{afterLayout, stageAfter}
+use Rattle.rules.specs.declared.Extra.the-variants as extra
 use Rattle.rules.specs.declared.Family.{Family}
 use Rattle.rules.specs.declared.Family.the-variants as family
 use Rattle.order.specs.Following.{leadingTold}
@@ -12,7 +13,8 @@ use Rattle.order.proofs.layout_after.Tie as tie
 
 not-first : (f : Family) → afterLayout f < 1 → ⊥
 not-first family.B h = omega arith
-not-first family.K h = omega arith
+not-first (family.Extra extra.K) h = omega arith
+not-first (family.Extra extra.N) h = omega arith
 
 pub layout-after-spec : {M : Type 1} → statement M
 unfolding stageAfter leadingTold

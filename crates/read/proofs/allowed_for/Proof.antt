@@ -1,7 +1,7 @@
 -- `allowed_for` meets its contract: each way out is a way through `allowedFor`. Assumes nothing.
 use borrow.Author.Needs.{needs}
 use Rattle.known.specs.Known.{allowedFor}
-use Rattle.known.proofs.Laws.{families}
+use Rattle.families.proofs.Laws.{families}
 use Rattle.read.proofs.allowed_for.Statement.{statement}
 use Rattle.read.proofs.allowed_for.Tie as tie
 

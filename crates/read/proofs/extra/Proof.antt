@@ -13,6 +13,6 @@ extra-spec =
     tie.close
     (tie.spec
     (λ c κs. search needs)
-    (λ c. extra-not-allowed _ _ (sym (c .before .allowed .ensures) ∙ not-true _ (c .if1 .taken)))
+    (λ c. extra-not-allowed _ _ _ (sym (c .before .allowed .ensures) ∙ not-true _ (c .if1 .taken)))
     (λ c κs. search needs)
-    (λ c. c .extra .ensures ∙ extra-allowed _ _ (sym (c .before .before .allowed .ensures) ∙ not-false _ (c .before .if1 .left))))
+    (λ c. c .extra .ensures ∙ extra-allowed _ _ _ (sym (c .before .before .allowed .ensures) ∙ not-false _ (c .before .if1 .left))))

@@ -9,4 +9,5 @@ no-flight-spec =
     (tie.spec
     (λ c κs. search needs)
     (λ c κs. search needs)
-    (λ c. rw (c .before .empty-layout .ensures, c .empty-layout2 .ensures)))
+    (λ c κs. search needs)
+    (λ c. rw (c .before .before .empty-layout .ensures, c .before .empty-layout2 .ensures, c .empty-layout3 .ensures)))
