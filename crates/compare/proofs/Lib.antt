@@ -1,0 +1,2 @@
+-- Texts byte by byte.
+pub mod Letters
