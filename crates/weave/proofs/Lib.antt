@@ -1,0 +1,3 @@
+-- Two slices of notes woven into one.
+pub mod Reading
+pub mod Turns
