@@ -60,7 +60,7 @@ front-is f = let w = front-by (linesOf f) f refl in ap (take (size f)) (w .bytes
 abbrev pub reach : ℕ → ℕ → Lines → ℕ
 reach seen at k = cond (sealed k) (at + length (commonPart k)) seen
 
-none-common : (k : Lines) → sealed k ≡ false → commonPart k ≡ []
+pub none-common : (k : Lines) → sealed k ≡ false → commonPart k ≡ []
 unfolding sealed commonPart
 none-common end e = refl
 none-common (broken n) e = refl

@@ -1,2 +1,3 @@
 -- The part of a file up to the end of its last G line.
 pub mod Common
+pub mod Accepted
