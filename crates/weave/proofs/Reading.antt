@@ -76,7 +76,7 @@ fresh-filled s heads p l n f h r en ei el =
 
 -- ---- bytes put one after the other
 
-sets-append : (l : List ℕ) (at : ℕ) (a b : List ℕ) → sets l at (a ++ b) ≡ sets (sets l at a) (at + length a) b
+pub sets-append : (l : List ℕ) (at : ℕ) (a b : List ℕ) → sets l at (a ++ b) ≡ sets (sets l at a) (at + length a) b
 sets-append l at [] b = let e : at + 0 ≡ at = omega arith in rw e
 sets-append l at (x ∷ a) b =
     let e : suc at + length a ≡ at + suc (length a) = omega arith in
