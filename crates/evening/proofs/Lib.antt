@@ -1,0 +1,2 @@
+-- What is demanded of the merge, and the laws below it.
+pub mod Copies
