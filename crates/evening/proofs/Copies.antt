@@ -11,6 +11,7 @@ use lib.ListN.{length, getD, length-append}
 use Rattle.rules.specs.Choice.{Each}
 use Rattle.rules.specs.Split.{Lines, end, broken, line, linesOf}
 use Rattle.rules.specs.declared.Seal.the-variants as seal
+use Rattle.laws.proofs.Splitting.{textsOf}
 use Rattle.sound.proofs.Each.{each-map, each-both, each-join, each-cut}
 use Rattle.notes.specs.Notes.{joined, isSeal, sealed, commonPart, notesIn}
 use Rattle.demands.specs.Grammar.{IsText, IsGLine, IsLLine, Parts, linesIn, joinLines, Keeps, Meets}
@@ -119,6 +120,9 @@ module _ (file : List ℕ) (m : Meets seal.Strict file) where
   pub notes-is : notesIn (linesOf file) ≡ remarksOf
   notes-is = ap notesIn cut-is ∙ closed-notes sealedLines remarksOf closes (remarks-open remarksOf (m .keeps .remarks))
 
+  pub texts-is : textsOf (linesOf file) ≡ sealedLines ++ remarksOf
+  texts-is = lines-are file m ∙ all-lines
+
   -- the notes are L lines, and texts
   pub notes-are : Each (λ l. IsLLine l × IsText l) (notesIn (linesOf file))
   notes-are =
@@ -130,7 +134,7 @@ module _ (file : List ℕ) (m : Meets seal.Strict file) where
     abbrev parts : Parts
     parts = record { recorder = m .parts .recorder; day = m .parts .day; headers = m .parts .headers; told = m .parts .told; body = m .parts .body; seals = m .parts .seals; remarks = zs }
 
-    keeps : Keeps seal.Strict parts (m .date) (m .layouts) (m .times)
+    abbrev keeps : Keeps seal.Strict parts (m .date) (m .layouts) (m .times)
     keeps = record {
       recorder = m .keeps .recorder;
       day = m .keeps .day;
@@ -158,3 +162,24 @@ module _ (file : List ℕ) (m : Meets seal.Strict file) where
       times = m .times;
       keeps = keeps;
     }
+
+-- and it has the same lines up to the last G line, these notes, and says the same date and layouts
+module _ (file : List ℕ) (m : Meets seal.Strict file) (zs : List (List ℕ)) (h : Each (λ l. IsLLine l × IsText l) zs) (short : length (joined (sealedLines file m) ++ joined zs) ≤ 16777216) where
+  abbrev noted : List ℕ
+  noted = joined (sealedLines file m) ++ joined zs
+
+  pub noted-common : commonPart (linesOf noted) ≡ commonPart (linesOf file)
+  unfolding meets
+  noted-common = common-is noted (meets file m zs h short) ∙ sym (common-is file m)
+
+  pub noted-notes : notesIn (linesOf noted) ≡ zs
+  unfolding meets
+  noted-notes = notes-is noted (meets file m zs h short)
+
+  pub noted-lines : textsOf (linesOf noted) ≡ sealedLines file m ++ zs
+  unfolding meets
+  noted-lines = texts-is noted (meets file m zs h short)
+
+  pub noted-says : (meets file m zs h short .date ≡ m .date) × (meets file m zs h short .layouts ≡ m .layouts)
+  unfolding meets
+  noted-says = (refl, refl)

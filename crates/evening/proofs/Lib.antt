@@ -1,2 +1,3 @@
 -- What is demanded of the merge, and the laws below it.
 pub mod Copies
+pub mod Making

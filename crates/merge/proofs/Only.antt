@@ -31,7 +31,7 @@ back (ofFirst n l b) = brought.First (refusalOf n l b)
 back (ofSecond n l b) = brought.Second (refusalOf n l b)
 back (ofNeither n l b) = cond (eqb n notSame) brought.NotSame (brought.Neither (refusalOf n l b))
 
-merge-one : OneToOne mergeTold
+pub merge-one : OneToOne mergeTold
 unfolding mergeTold back
 merge-one =
     by-back back (elim [ brought.Whole n ↦ refl | brought.First r ↦ ap brought.First (refusal-back r) | brought.Second r ↦ ap brought.Second (refusal-back r) | brought.NotSame ↦ refl | brought.Neither r ↦ rw (other-number (r .reason)) (ap brought.Neither (refusal-back r)) ])
