@@ -111,7 +111,7 @@ module _ (file : List ℕ) (m : Meets seal.Strict file) where
   closes : Closes sealedLines
   closes = closes-behind (front (m .keeps) ++ m .parts .body) (m .parts .seals) (seals-close (m .parts .seals) (m .keeps .seals) (m .keeps .sealed))
 
-  cut-is : linesOf file ≡ before (sealedLines ++ remarksOf) end
+  pub cut-is : linesOf file ≡ before (sealedLines ++ remarksOf) end
   cut-is = lines-cut file m ∙ ap (λ (ls : List (List ℕ)). before ls end) all-lines
 
   pub common-is : commonPart (linesOf file) ≡ joined sealedLines
@@ -175,6 +175,10 @@ module _ (file : List ℕ) (m : Meets seal.Strict file) (zs : List (List ℕ)) (
   pub noted-notes : notesIn (linesOf noted) ≡ zs
   unfolding meets
   noted-notes = notes-is noted (meets file m zs h short)
+
+  pub noted-cut : linesOf noted ≡ before (sealedLines file m ++ zs) end
+  unfolding meets
+  noted-cut = cut-is noted (meets file m zs h short)
 
   pub noted-lines : textsOf (linesOf noted) ≡ sealedLines file m ++ zs
   unfolding meets

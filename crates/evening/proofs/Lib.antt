@@ -1,3 +1,5 @@
 -- What is demanded of the merge, and the laws below it.
 pub mod Copies
 pub mod Making
+pub mod Turned
+pub mod Alike

@@ -105,8 +105,12 @@ pub accepted-meets : (file : List ℕ) → (a : Accepted file) → (m : Meets se
 accepted-meets file a = let r = accepted-as seal.Strict file none (a .0) .0 (a .1) in (r .0, r .2)
 
 module _ (first second file : List ℕ) (w : Made first second file) where
-  meets-first : Meets seal.Strict first
+  pub meets-first : Meets seal.Strict first
   meets-first = accepted-meets first (w .one) .0
+
+  pub first-flight : flightOf meets-first ≡ w .one .0
+  unfolding meets-first
+  first-flight = accepted-meets first (w .one) .1
 
   meets-second : Meets seal.Strict second
   meets-second = accepted-meets second (w .two) .0
@@ -117,13 +121,13 @@ module _ (first second file : List ℕ) (w : Made first second file) where
       (notes-are first meets-first) (notes-are second meets-second)
 
   -- in the grammar's words
-  abbrev built : List ℕ
+  abbrev pub built : List ℕ
   built = joined (sealedLines first meets-first) ++ joined (w .notes)
 
-  file-is : file ≡ built
+  pub file-is : file ≡ built
   file-is = w .is ∙ ap (λ (l : List ℕ). l ++ joined (w .notes)) (common-is first meets-first)
 
-  built-short : length built ≤ 16777216
+  pub built-short : length built ≤ 16777216
   built-short = subst (λ (l : List ℕ). length l ≤ 16777216) file-is (w .short)
 
   abbrev built-meets : Meets seal.Strict built
