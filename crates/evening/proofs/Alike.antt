@@ -1,5 +1,5 @@
 -- A file that a merge made reads as the first copy does, but for the notes: date, layouts and counts are the same, and so are the lines up to the last G line. Assumes nothing.
-use Prim.Native.Nat.{ℕ, _≤_}
+use Prim.Native.Nat.{ℕ, zero, suc, _≤_, _<_}
 use Prim.Native.Char.{code}
 use mathlib.Core.Bool.{Bool, true, false, cond}
 use mathlib.Core.List.{List, [], _∷_, _++_, append-nil}
@@ -18,6 +18,7 @@ use Rattle.rules.specs.Split.{Lines, end, line, linesOf}
 use Rattle.rules.specs.Files.{verdict}
 use Rattle.rules.specs.declared.Family.{Family}
 use Rattle.rules.specs.declared.Flight.{Flight}
+use Rattle.rules.specs.declared.Layouts.{Layouts}
 use Rattle.rules.specs.declared.Role.the-variants as role
 use Rattle.rules.specs.declared.Seal.the-variants as seal
 use Rattle.laws.proofs.Splitting.{textsOf}
@@ -107,3 +108,17 @@ module _ (first second file : List ℕ) (w : Made first second file) (f g : Flig
         unnoted = ap withoutL texts-file ∙ notes-left-out (sealedLines first m) (w .notes) (each-map (w .notes) (λ l h. h .0) keep)
             ∙ sym (notes-left-out (sealedLines first m) (remarksOf first m) (m .keeps .remarks)) ∙ sym (ap withoutL (texts-is first m));
       }
+
+-- ---- and whatever is read of a line that both have
+
+front-at : (xs ys : List (List ℕ)) (n : ℕ) → n < length xs → getD (xs ++ ys) n [] ≡ getD xs n []
+front-at [] ys n h = absurd (omega arith)
+front-at (x ∷ xs) ys zero h = refl
+front-at (x ∷ xs) ys (suc n) h = front-at xs ys n (omega arith)
+
+pub read-alike : {A : Type 0} (f : Flight) (ls : List (List ℕ)) (g : Flight) (ks : List (List ℕ)) (w : ReadAlike f ls g ks) (reader : Layouts → List ℕ → A) (n : ℕ)
+    → n < length (w .common) → reader (g .layouts) (getD ks n []) ≡ reader (f .layouts) (getD ls n [])
+read-alike f ls g ks w reader n h =
+    let k : getD ks n [] ≡ getD (w .common) n [] = ap (λ (l : List (List ℕ)). getD l n []) (w .also) ∙ front-at (w .common) (w .others) n h in
+    let l : getD ls n [] ≡ getD (w .common) n [] = ap (λ (l : List (List ℕ)). getD l n []) (w .lines) ∙ front-at (w .common) (w .notes) n h in
+    ap₂ reader (w .layouts) (k ∙ sym l)

@@ -3,3 +3,4 @@ pub mod Copies
 pub mod Making
 pub mod Turned
 pub mod Alike
+pub mod Evening

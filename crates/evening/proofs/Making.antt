@@ -18,7 +18,7 @@ use Rattle.rules.specs.declared.Reason.the-variants.{TooLong, NoRoom}
 use Rattle.rules.specs.declared.Seal.the-variants as seal
 use Rattle.rules.proofs.Inverse.{need-inv}
 use Rattle.sorted.specs.Sorted.{Together}
-use Rattle.sorted.proofs.Pairs.{together-each}
+use Rattle.sorted.proofs.Pairs.{together-turned, together-each}
 use Rattle.notes.specs.Notes.{notAfter, joined, commonPart, notesIn, isSame}
 use Rattle.notes.specs.Merging.{Merged, merged, ofFirst, ofSecond, ofNeither, notSame, acceptFirst, acceptSecond, mergedFile, mergeSaid, outMerged}
 use Rattle.notes.proofs.Texts.{texts}
@@ -98,6 +98,30 @@ makes-made first second file w =
     let t = told first second (w .out) (length file) (w .after) (w .says) in
     let e : t .file ≡ file = front-one (t .file) file (drop (length (t .file)) (w .out)) (drop (length file) (w .out)) (t .size) (sym (t .bytes) ∙ w .left) in
     subst (Made first second) e (t .made)
+
+pub told-makes : (first second out : List ℕ) (n : ℕ) (after : List ℕ) → FilesMerged first second out (brought.Whole n) after → Makes first second (take n after)
+told-makes first second out n after w =
+    let t = told first second out n after w in
+    let e : take n after ≡ t .file = ap₂ (λ (k : ℕ) (l : List ℕ). take k l) (sym (t .size)) (t .bytes) ∙ take-append-seam (t .file) (drop (length (t .file)) out) in
+    let s : n ≡ length (take n after) = sym (t .size) ∙ ap length (sym e) in
+    record {
+      out = out;
+      after = after;
+      says = subst (λ (k : ℕ). FilesMerged first second out (brought.Whole k) after) s w;
+      left = t .bytes ∙ ap (λ (l : List ℕ). l ++ drop (length l) out) (sym e);
+    }
+
+-- the other way round it is made too
+pub made-turned : (first second file : List ℕ) → Made first second file → Made second first file
+made-turned first second file w = record {
+  one = w .two;
+  two = w .one;
+  same = sym (w .same);
+  notes = w .notes;
+  together = together-turned texts (notesIn (linesOf first)) (notesIn (linesOf second)) (w .notes) (w .together);
+  is = w .is ∙ ap (λ (l : List ℕ). l ++ joined (w .notes)) (w .same);
+  short = w .short;
+}
 
 -- ---- the file made is a copy again
 

@@ -105,6 +105,17 @@ module _ (first second out : List ℕ) (r : Brought) (after : List ℕ) (w : Fil
       go (says f) = rw e
       go (refuses n m c) = refl
 
+-- where it is refused
+pub refused-leaves : (first second out : List ℕ) (r : Brought) (after : List ℕ) → FilesMerged first second out r after → ((n : ℕ) → r ≡ brought.Whole n → ⊥) → after ≡ out
+unfolding mergeTold
+refused-leaves first second out r after w h = w .bytes ∙ go (mergeSaid first second (mergedFile first (w .notes)) (length out)) (w .told)
+  where
+    go : (m : Merged) → mergeTold r ≡ m → outMerged m (mergedFile first (w .notes)) out ≡ out
+    go (merged n) e = absurd (h n (merge-one r (brought.Whole n) e))
+    go (ofFirst k l b) e = refl
+    go (ofSecond k l b) e = refl
+    go (ofNeither k l b) e = refl
+
 pub either-way : (first second out : List ℕ) (r r′ : Brought) (after after′ : List ℕ) → FilesMerged first second out r after → FilesMerged second first out r′ after′
     → (after ≡ after′) × (Accepted first → Accepted second → r ≡ r′)
 either-way first second out r r′ after after′ w v = (go (verdict seal.Strict first none) (verdict seal.Strict second none) refl refl, λ a b. both a b .0)

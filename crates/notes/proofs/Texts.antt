@@ -1,7 +1,7 @@
 -- Texts are in order: of any two one comes first, and two that come after none of each other are the same. Assumes nothing.
 use Prim.Native.Nat.{ℕ, _<_}
 use mathlib.Core.Bool.{true, false}
-use mathlib.Core.List.{List, [], _∷_}
+use mathlib.Core.List.{List, [], _∷_, _++_}
 use mathlib.Core.Logic.{_⊎_, inl, inr}
 use mathlib.Core.Path.{_≡_, refl}
 use native.Mathlib.Omega.{arith}
@@ -57,3 +57,15 @@ text-antisym (a ∷ x) (b ∷ y) e f = go (text-inv a b x y e) (text-inv b a y x
 
 pub texts : Total notAfter
 texts = record { total = text-total; trans = text-trans; antisym = text-antisym }
+
+-- ---- what the order means
+
+-- "a line that begins another coming first"
+pub beginning-first : (x y : List ℕ) → notAfter x (x ++ y) ≡ true
+beginning-first [] y = refl
+beginning-first (a ∷ x) y = text-same a a x (x ++ y) refl (beginning-first x y)
+
+-- "ascending byte order": the first byte that differs decides
+pub byte-decides : (x y z : List ℕ) (a b : ℕ) → a < b → (notAfter (x ++ a ∷ y) (x ++ b ∷ z) ≡ true) × (notAfter (x ++ b ∷ z) (x ++ a ∷ y) ≡ false)
+byte-decides [] y z a b h = (rw (lt-ltb a b h), rw (le-ltb b a (omega arith), lt-ltb a b h))
+byte-decides (c ∷ x) y z a b h = let r = byte-decides x y z a b h in let e = le-ltb c c (omega arith) in (rw e (r .0), rw e (r .1))

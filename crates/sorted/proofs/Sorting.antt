@@ -2,7 +2,7 @@
 use Prim.Native.Nat.{ℕ, zero, suc, _+_, _-_, _≤_, _<_}
 use mathlib.Core.Bool.{Bool, true, false, not, cond, _&&_}
 use mathlib.Core.List.{List, [], _∷_, _++_}
-use mathlib.Core.Logic.{_⊎_, inl, inr}
+use mathlib.Core.Logic.{_↔_}
 use mathlib.Core.Path.{_≡_, refl, sym, _∙_, ap}
 use native.Mathlib.Omega.{arith}
 use lib.ListN.{length, take, drop, getD, length-append}
@@ -47,6 +47,10 @@ module _ {A : Type 0} {le : A → A → Bool} (O : Total le) where
   pub hit-is : (x y : A) → 1 ≤ hit le x y → x ≡ y
   unfolding hit
   hit-is x y h = split (le x y) (λ f. split (le y x) (λ g. O .antisym x y f g) (λ g. absurd (omega (arith, hit-behind x y g)))) (λ f. absurd (omega (arith, hit-before x y f)))
+
+  -- 1 exactly where the two are the same
+  pub hit-exactly : (x y : A) → (hit le x y ≡ 1) ↔ (x ≡ y)
+  hit-exactly x y = (λ e. hit-is x y (omega arith), λ e. let f : hit le x x ≡ hit le x y = ap (hit le x) e in sym f ∙ hit-self x)
 
   -- ---- what occurs in a list that lies above x does not come before x
   pub above-member : (x z : A) (ys : List A) → Above le x ys → 1 ≤ count le z ys → le x z ≡ true
