@@ -37,14 +37,11 @@ module _ (s : List ℕ) (i : ℕ) where
       (λ e. g (ltb-true i (length s) h) (text-more (ltb-true i (length s) h) (eqb-false (getD s i 0) 13 e))))
       (λ h. f (text-past (ltb-false i (length s) h)))
 
-  pub letter-past : length s ≤ i → 0 ≡ letter (textAt s i)
-  letter-past h = rw (text-past h)
+  pub letter-more : (r : Bool) → r ≡ inText (textAt s i) → r ≡ true → getD s i 0 + 1 ≡ letter (textAt s i)
+  letter-more r e f = text-cases (λ t. clash (sym e ∙ f) (rw t)) (λ h t. rw t)
 
-  pub letter-cr : i < length s → getD s i 0 ≡ 13 → 0 ≡ letter (textAt s i)
-  letter-cr h e = rw (text-cr h e)
-
-  pub letter-more : i < length s → (getD s i 0 ≡ 13 → ⊥) → getD s i 0 + 1 ≡ letter (textAt s i)
-  letter-more h e = rw (text-more h e)
+  pub letter-end : (r : Bool) → r ≡ inText (textAt s i) → r ≡ false → 0 ≡ letter (textAt s i)
+  letter-end r e f = text-cases (λ t. rw t) (λ h t. clash (rw t) (sym e ∙ f))
 
   pub letter-inside : (b : ℕ) → b ≡ letter (textAt s i) → (b ≡ 0 → ⊥) → i < length s
   letter-inside b e n = text-cases (λ t. absurd (n (rw t at e))) (λ h t. h)

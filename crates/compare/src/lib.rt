@@ -3,18 +3,24 @@ ghost use mathlib.Core.Path.{_≡_};
 ghost use Rattle.notes.specs.Places.{textAt};
 ghost use Rattle.compare.specs.Letters.{letter, TextsCompared, PlacesCompared, TextGoesOn};
 
+// Whether the text goes on there.
+pub fn in_text(s: &[u8], i: usize) -> bool
+    ensures { λ r. ⌜ TextGoesOn (now (s .entry)) i r ⌝ }
+{
+    if s.len() <= i {
+        return false;
+    }
+    s[i] != 13
+}
+
 // The byte of the text there, and one more; 0 where the text has ended.
 fn letter_at(s: &[u8], i: usize) -> u32
     ensures { λ r. ⌜ r ≡ letter (textAt (now (s .entry)) i) ⌝ }
 {
-    if s.len() <= i {
-        return 0;
+    if in_text(s, i) {
+        return s[i] as u32 + 1;
     }
-    let b = s[i];
-    if b == 13 {
-        return 0;
-    }
-    b as u32 + 1
+    0
 }
 
 // Whether the text behind i bytes of s does not come after the text behind j bytes of t: by byte value, a text that begins the other first.
@@ -48,14 +54,4 @@ pub fn is_earlier(s: &[u8], i: usize, j: usize) -> bool
         return at_most(s, i, s, j);
     }
     !at_most(s, j, s, i)
-}
-
-// Whether the text goes on there.
-pub fn in_text(s: &[u8], i: usize) -> bool
-    ensures { λ r. ⌜ TextGoesOn (now (s .entry)) i r ⌝ }
-{
-    if s.len() <= i {
-        return false;
-    }
-    s[i] != 13
 }
