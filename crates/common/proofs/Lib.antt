@@ -1,0 +1,4 @@
+-- The part of a file up to the end of its last G line.
+pub mod Common
+pub mod Accepted
+pub mod Only

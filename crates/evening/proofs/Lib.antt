@@ -1,0 +1,6 @@
+-- What is demanded of the merge, and the laws below it.
+pub mod Copies
+pub mod Making
+pub mod Turned
+pub mod Alike
+pub mod Evening

@@ -1,0 +1,3 @@
+-- Two files merged.
+pub mod Merging
+pub mod Only

@@ -1,0 +1,4 @@
+-- Two slices of notes woven into one.
+pub mod Reading
+pub mod Turns
+pub mod Only
