@@ -48,7 +48,7 @@ fn kept_notes() {
 
 #[test]
 fn order_of_notes() {
-    // a line that begins another comes first, though its CR is less than any character and would be sorted with it otherwise
+    // a line that begins another comes first; a space goes on where the line before it ends
     assert_eq!(notes(&["LAB", "LA", "L", "LABC"], &["LA "]), "L\r\nLA\r\nLA \r\nLAB\r\nLABC\r\n");
     // by byte value: digits, capitals, small letters; 9 before A, Z before a; as texts and not as numbers or by length
     assert_eq!(notes(&["La", "LZ", "L9", "L10"], &["L}", "L ", "L-"]), "L \r\nL-\r\nL10\r\nL9\r\nLZ\r\nLa\r\nL}\r\n");
