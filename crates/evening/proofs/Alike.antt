@@ -1,20 +1,18 @@
 -- A file that a merge made reads as the first copy does, but for the notes: date, layouts and counts are the same, and so are the lines up to the last G line. Assumes nothing.
 use Prim.Native.Nat.{ℕ, zero, suc, _≤_, _<_}
 use Prim.Native.Char.{code}
-use mathlib.Core.Bool.{Bool, true, false, cond}
-use mathlib.Core.List.{List, [], _∷_, _++_, append-nil}
+use mathlib.Core.Bool.{false}
+use mathlib.Core.List.{List, [], _∷_, _++_}
 use mathlib.Core.Option.{none}
-use mathlib.Core.Path.{_≡_, refl, sym, _∙_, ap, ap₂, subst}
+use mathlib.Core.Path.{_≡_, refl, sym, _∙_, ap, ap₂}
 use native.Mathlib.Omega.{arith}
-use borrow.Author.Tests.{eq-eqb}
-use lib.Dec.{eqb}
+use borrow.Author.Tests.{eq-eqb, ne-eqb}
 use lib.ListN.{length, getD}
 use Rattle.rules.specs.Choice.{Each}
-use Rattle.rules.specs.Families.{countOf}
 use Rattle.rules.specs.Lines.{kindOf}
 use Rattle.rules.specs.Refusals.{says}
-use Rattle.rules.specs.Roles.{roleOf, isOf}
-use Rattle.rules.specs.Split.{Lines, end, line, linesOf}
+use Rattle.rules.specs.Roles.{isOf}
+use Rattle.rules.specs.Split.{end, linesOf}
 use Rattle.rules.specs.Files.{verdict}
 use Rattle.rules.specs.declared.Family.{Family}
 use Rattle.rules.specs.declared.Flight.{Flight}
@@ -25,8 +23,8 @@ use Rattle.laws.proofs.Splitting.{textsOf}
 use Rattle.laws.proofs.Passing.{roleIn}
 use Rattle.laws.proofs.Counted.{tally, family-counted}
 use Rattle.sound.proofs.Each.{each-map}
-use Rattle.notes.specs.Notes.{joined}
 use Rattle.demands.specs.Grammar.{IsText, IsLLine, Meets, flightOf}
+use Rattle.demands.specs.Coming.{those}
 use Rattle.demands.proofs.Sections.{before}
 use Rattle.demands.proofs.Accepted.{accepted-as}
 use Rattle.evening.specs.Evening.{withoutL, ReadAlike}
@@ -52,6 +50,12 @@ unfolding withoutL
 notes-left-out [] [] h = refl
 notes-left-out [] (y ∷ ys) h = rw (eq-eqb (getD y 0 0) (code "L") (h .0 .letter)) (notes-left-out [] ys (h .1))
 notes-left-out (x ∷ xs) ys h = rw (notes-left-out xs ys h)
+
+notes-of-no-kind : (x : ℕ) → (x ≡ code "L" → ⊥) → (xs ys : List (List ℕ)) → Each IsLLine ys → those x (xs ++ ys) ≡ those x xs
+unfolding those
+notes-of-no-kind x n [] [] h = refl
+notes-of-no-kind x n [] (y ∷ ys) h = rw (ne-eqb (getD y 0 0) x (λ e. n (sym e ∙ h .0 .letter))) (notes-of-no-kind x n [] ys (h .1))
+notes-of-no-kind x n (z ∷ xs) ys h = rw (notes-of-no-kind x n xs ys h)
 
 -- ---- the first copy, and the file made
 
@@ -107,6 +111,8 @@ module _ (first second file : List ℕ) (w : Made first second file) (f g : Flig
         remarks-too = each-map (w .notes) (λ l h. h .0) keep;
         unnoted = ap withoutL texts-file ∙ notes-left-out (sealedLines first m) (w .notes) (each-map (w .notes) (λ l h. h .0) keep)
             ∙ sym (notes-left-out (sealedLines first m) (remarksOf first m) (m .keeps .remarks)) ∙ sym (ap withoutL (texts-is first m));
+        kinds = λ x n. ap (those x) texts-file ∙ notes-of-no-kind x n (sealedLines first m) (w .notes) (each-map (w .notes) (λ l h. h .0) keep)
+            ∙ sym (notes-of-no-kind x n (sealedLines first m) (remarksOf first m) (m .keeps .remarks)) ∙ sym (ap (those x) (texts-is first m));
       }
 
 -- ---- and whatever is read of a line that both have

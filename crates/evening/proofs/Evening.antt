@@ -1,4 +1,5 @@
--- Bring evening notes together, what is claimed. Each claim is a line from the room that proves it; its words stand in specs/Evening, in notes (Notes, Merging) and in sorted (Sorted). Assumes nothing.
+-- Bring evening notes together, what is claimed. Each claim is a line from the room that proves it; its words stand in specs/Evening, in notes (Notes, Merging)
+-- and in sorted (Sorted). Assumes nothing.
 --
 -- The claims are about every answer that the contract of `merge::merge` allows (promise FilesMerged), and by `only-files-merged` that is one. It is told by `mergeSaid`: the first file's
 -- refusal, the second's, 26, 2, 18, in this order, or how many bytes the merged file has.
@@ -7,7 +8,7 @@ use mathlib.Core.Bool.{true, false}
 use mathlib.Core.List.{List, [], _∷_, _++_}
 use mathlib.Core.Logic.{_↔_}
 use mathlib.Core.Option.{none}
-use mathlib.Core.Path.{_≡_, sym, _∙_, ap, ap₂, subst}
+use mathlib.Core.Path.{_≡_, sym, _∙_, ap, subst}
 use lib.ListN.{length, getD, take, drop}
 use Rattle.rules.specs.Refusals.{number, says}
 use Rattle.rules.specs.Split.{linesOf}

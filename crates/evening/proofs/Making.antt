@@ -1,15 +1,14 @@
 -- What a merge that was not refused makes of two copies; and that a file so made is a copy again, with the same common part and the notes of both. Assumes nothing.
 use Prim.Native.Nat.{ℕ, _+_, _≤_}
-use mathlib.Core.Bool.{Bool, true, false, cond}
-use mathlib.Core.List.{List, [], _∷_, _++_}
+use mathlib.Core.List.{List, _++_}
 use mathlib.Core.Option.{none}
 use mathlib.Core.Path.{_≡_, refl, sym, _∙_, ap, ap₂, subst}
 use native.Mathlib.Omega.{arith}
 use borrow.Author.Tests.{leb-true}
 use lib.Dec.{leb}
-use lib.ListN.{length, take, drop, length-append}
+use lib.ListN.{length, take, drop}
 use lib.Seq.{take-append-seam}
-use Rattle.rules.specs.Choice.{need, Each}
+use Rattle.rules.specs.Choice.{Each}
 use Rattle.rules.specs.Refusals.{number, Said, says, refuses}
 use Rattle.rules.specs.Split.{linesOf}
 use Rattle.rules.specs.Files.{verdict}
@@ -20,7 +19,7 @@ use Rattle.rules.proofs.Inverse.{need-inv}
 use Rattle.sorted.specs.Sorted.{Together}
 use Rattle.sorted.proofs.Pairs.{together-turned, together-each}
 use Rattle.notes.specs.Notes.{notAfter, joined, commonPart, notesIn, isSame}
-use Rattle.notes.specs.Merging.{Merged, merged, ofFirst, ofSecond, ofNeither, notSame, acceptFirst, acceptSecond, mergedFile, mergeSaid, outMerged}
+use Rattle.notes.specs.Merging.{Merged, merged, ofNeither, notSame, acceptFirst, acceptSecond, mergedFile, mergeSaid, outMerged}
 use Rattle.notes.proofs.Texts.{texts}
 use Rattle.common.proofs.Common.{same-is}
 use Rattle.merge.specs.Merge.{Accepted, mergeTold, FilesMerged}
@@ -28,7 +27,7 @@ use Rattle.merge.specs.declared.Brought.the-variants as brought
 use Rattle.demands.specs.Grammar.{IsText, IsLLine, Meets, flightOf}
 use Rattle.demands.proofs.Accepted.{accepted-as}
 use Rattle.evening.specs.Evening.{Makes}
-use Rattle.evening.proofs.Copies.{sealedLines, remarksOf, common-is, notes-is, texts-is, notes-are, meets, noted-common, noted-notes, noted-lines, noted-says}
+use Rattle.evening.proofs.Copies.{sealedLines, common-is, notes-are, meets, noted-common, noted-notes}
 
 -- ---- a merge that was not refused
 

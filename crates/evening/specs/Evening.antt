@@ -13,6 +13,7 @@ use Rattle.rules.specs.declared.Flight.{Flight}
 use Rattle.merge.specs.Merge.{FilesMerged}
 use Rattle.merge.specs.declared.Brought.the-variants as brought
 use Rattle.demands.specs.Grammar.{IsLLine}
+use Rattle.demands.specs.Coming.{those}
 
 -- "make one": a merge of the two, into some output, was not refused, and left this file at the output's front
 pub record Makes (first second file : List ℕ) : Type 0 where
@@ -42,3 +43,5 @@ pub record ReadAlike (f : Flight) (ls : List (List ℕ)) (g : Flight) (ks : List
   pub remarks-too : Each IsLLine others
   -- so the lines other than L lines are the same in the same order
   pub unnoted : withoutL ks ≡ withoutL ls
+  -- and those of each kind: the nth B line, K line, E line, the lines of the declaration
+  pub kinds : (letter : ℕ) → (letter ≡ code "L" → ⊥) → those letter ks ≡ those letter ls

@@ -2,7 +2,7 @@
 use Prim.Native.Nat.{ℕ, _+_, _-_, _≤_, _<_}
 use mathlib.Core.Bool.{Bool, true, false, cond}
 use mathlib.Core.List.{List, [], _∷_, _++_, append-assoc}
-use mathlib.Core.Option.{Option, none, some}
+use mathlib.Core.Option.{none, some}
 use mathlib.Core.Path.{_≡_, refl, sym, _∙_, ap}
 use native.Mathlib.Numerals.{add-one}
 use native.Mathlib.Omega.{arith}
@@ -24,16 +24,15 @@ use Rattle.rules.specs.declared.Reason.the-variants.{TooLong, NoRoom}
 use Rattle.rules.specs.declared.Refusal.{Refusal}
 use Rattle.rules.specs.declared.Seal.the-variants as seal
 use Rattle.rules.proofs.Inverse.{refuses-says, none-some, need-inv}
-use Rattle.sorted.specs.Sorted.{Together}
 use Rattle.sorted.specs.Ways.{inOrder, weave}
 use Rattle.sorted.proofs.Pairs.{weave-is}
 use Rattle.notes.specs.Notes.{notAfter, joined, commonPart, notesIn, isSame}
-use Rattle.notes.specs.Merging.{Merged, merged, ofNeither, notSame, mergedFile, mergeSaid, outMerged}
+use Rattle.notes.specs.Merging.{Merged, merged, ofNeither, mergedFile, mergeSaid, outMerged}
 use Rattle.notes.specs.Places.{Note}
 use Rattle.notes.proofs.Texts.{texts}
 use Rattle.notes.proofs.Places.{whole}
 use Rattle.common.proofs.Common.{front-is, front-inside, same-is}
-use Rattle.common.proofs.Accepted.{Copy, copy}
+use Rattle.common.proofs.Accepted.{copy}
 use Rattle.weave.specs.Weave.{all, wovenSaid, outWoven, NotesWoven}
 use Rattle.weave.proofs.Reading.{sets-append}
 use Rattle.weave.specs.declared.Woven.{Woven}

@@ -1,6 +1,5 @@
 -- The answer of the merge of two files, in the paper's terms, and its promise.
 use Prim.Native.Nat.{ℕ}
-use mathlib.Core.Bool.{true}
 use mathlib.Core.List.{List}
 use mathlib.Core.Option.{none}
 use mathlib.Core.Path.{_≡_}

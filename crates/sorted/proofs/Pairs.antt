@@ -1,12 +1,12 @@
 -- Two lists brought together: such a list there is, which one walk over the two in order makes, and only one; the same either way and in any pairing; and what holds of
 -- all elements of both holds of all of its. Assumes nothing.
-use Prim.Native.Nat.{ℕ, zero, suc, _+_, _≤_, max}
+use Prim.Native.Nat.{ℕ, zero, suc, _≤_}
 use mathlib.Core.Bool.{Bool}
 use mathlib.Core.List.{List, [], _∷_}
 use mathlib.Core.Path.{_≡_, refl, sym, subst}
 use native.Mathlib.Omega.{arith}
 use Rattle.rules.specs.Choice.{Each}
-use Rattle.sorted.specs.Sorted.{Total, hit, count, Sorted, Together}
+use Rattle.sorted.specs.Sorted.{Total, hit, count, Together}
 use Rattle.sorted.specs.Ways.{inOrder, weave}
 use Rattle.sorted.proofs.Sorting.{hit-is, hit-self, unique, into-count, into-sorted, weave-sorted, weave-count}
 

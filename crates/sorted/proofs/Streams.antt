@@ -1,14 +1,14 @@
 -- The sort in runs: the first k of what comes after `last`, found by one look at each element; and how it goes on. Assumes nothing.
 use Prim.Native.Nat.{ℕ, zero, suc, _+_, _-_, _≤_, _<_}
-use mathlib.Core.Bool.{Bool, true, false, not, cond, _&&_}
+use mathlib.Core.Bool.{Bool, true, false, cond}
 use mathlib.Core.List.{List, [], _∷_, _++_}
-use mathlib.Core.Path.{_≡_, refl, sym, _∙_, ap}
+use mathlib.Core.Path.{_≡_, refl, ap}
 use native.Mathlib.Omega.{arith}
 use lib.ListN.{length, take, drop, getD}
 use lib.Seq.{take-take, take-nil}
 use Rattle.sorted.specs.Sorted.{Total, hit, count, Above, Sorted}
-use Rattle.sorted.specs.Ways.{insert, into, inOrder, after, rest, keep, gather}
-use Rattle.sorted.proofs.Sorting.{by, split, clash, reflexive, hit-self, hit-is, hit-le-one, hit-before, hit-behind, same-hit, absent, unique, into-count, into-sorted, into-length}
+use Rattle.sorted.specs.Ways.{insert, into, after, rest, keep, gather}
+use Rattle.sorted.proofs.Sorting.{by, split, clash, reflexive, hit-self, hit-is, hit-before, absent, unique, into-count, into-sorted, into-length}
 
 module _ {A : Type 0} {le : A → A → Bool} (O : Total le) where
   -- ---- what comes after `last`

@@ -1,7 +1,7 @@
 -- No second answer meets the promise of `weave`, and the output is afterwards one thing. Assumes nothing.
 use Prim.Native.Nat.{ℕ}
 use mathlib.Core.List.{List}
-use mathlib.Core.Path.{_≡_, sym, _∙_}
+use mathlib.Core.Path.{sym, _∙_}
 use Rattle.only.proofs.Only.{OnlyBoth}
 use Rattle.weave.specs.Weave.{NotesWoven}
 

@@ -1,12 +1,13 @@
 -- One note after the other of the two slices: a turn puts the next note of both, and all turns put all notes. Assumes nothing.
 use Prim.Native.Nat.{ℕ, suc, _+_, _*_, _≤_, _<_}
-use mathlib.Core.Bool.{Bool, true, false}
+use mathlib.Core.Bool.{Bool, true, false, _&&_}
 use mathlib.Core.List.{List, [], _∷_, _++_, map, append-assoc, append-nil}
 use mathlib.Core.Path.{_≡_, refl, sym, _∙_, ap}
 use native.Mathlib.Omega.{arith}
 use borrow.Author.Tests.{leb-true, leb-false, le-leb, lt-leb}
 use lib.Dec.{leb, eqb}
 use lib.ListN.{length, drop, length-append, length-drop}
+use Rattle.rules.proofs.Inverse.{and-inv}
 use Rattle.sorted.specs.Ways.{weave}
 use Rattle.sorted.proofs.Sorting.{by, split, clash}
 use Rattle.sorted.proofs.Streams.{rest-length}
@@ -18,6 +19,7 @@ use Rattle.weave.specs.Weave.{Ready, Fine, Fresh, Taken, Fills, line, Em
 use Rattle.weave.specs.declared.Place.{Place}
 use Rattle.weave.specs.declared.Woven.the-variants as woven
 use Rattle.weave.proofs.Reading.{fills-then}
+use Rattle.weave.proofs.Sizes.{all-size}
 
 -- ---- the walk by the choice
 
@@ -222,3 +224,13 @@ module _ (front : ℕ) (a b out : List ℕ) where
               told = rw (le-leb (length a) 16777216 sa, le-leb (length b) 16777216 sb, w, l, e);
               bytes = rw (le-leb (length a) 16777216 sa, le-leb (length b) 16777216 sb, w, l) p;
             }
+
+      -- the output has room for all notes of both, whatever they are
+      pub all-fit : (most : ℕ) → most ≡ front + length a + length b + 4 → (r : Bool) → r ≡ (leb most 16777216 && leb most (length out)) → r ≡ true → (n : ℕ) (out₁ : List ℕ) → Walked a b front out out₁ n
+          → NotesWoven front a b out (woven.Put n) out₁
+      all-fit most m r e t n out₁ v =
+          let w = and-inv (leb most 16777216) (leb most (length out)) (sym e ∙ t) in
+          let l = leb-true most 16777216 (w .0) in
+          let o = leb-true most (length out) (w .1) in
+          let s = all-size a b in
+          all-put n (v .is) (omega (arith, v .is)) (omega (arith, v .is)) n out₁ v

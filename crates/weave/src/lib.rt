@@ -1,6 +1,9 @@
 // The notes of two slices woven into one: each slice is read in runs of up to 4,096 notes in order, and of the two that come next the one that comes first is put into the
 // output, once where both have it.
+ghost use mathlib.Core.Bool.{_&&_};
 ghost use mathlib.Core.List.{_∷_, []};
+ghost use mathlib.Core.Path.{_≡_};
+ghost use lib.Dec.{leb};
 ghost use Prim.Native.Nat.{_≤_, _<_};
 ghost use lib.ListN.{length};
 ghost use Rattle.weave.specs.Weave.{Ready, Fine, Fresh, Taken, Fills, Emitted, Chosen, Turned, Over, Walked, NotesWoven};
@@ -166,6 +169,13 @@ fn walk(a: &[u8], b: &[u8], from: usize, out: &mut [u8]) -> usize
     }
 }
 
+// Whether so many bytes are allowed and have room.
+fn has_room(most: usize, room: usize) -> bool
+    ensures { λ r. ⌜ r ≡ (leb most 16777216 && leb most room) ⌝ }
+{
+    most <= 16777216 && most <= room
+}
+
 // What became of the notes: they were put, and so many bytes the whole has; or it is over 16,777,216 bytes; or the output has no room.
 pub enum Woven {
     Put(usize),
@@ -186,6 +196,10 @@ pub fn weave(front: usize, a: &[u8], b: &[u8], out: &mut [u8]) -> Woven
     }
     if 16777216 < front {
         return Woven::TooLong;
+    }
+    let most = front + a.len() + b.len() + 4;
+    if has_room(most, out.len()) {
+        return Woven::Put(walk(a, b, front, out));
     }
     let mut none = [0u8; 1];
     let n = walk(a, b, front, &mut none);

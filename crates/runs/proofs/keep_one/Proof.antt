@@ -1,7 +1,6 @@
 -- `runs::keep_one` meets its contract: the note comes not after `last`, or is put in at its place. Assumes nothing.
-use mathlib.Core.Path.{_≡_, refl, sym, _∙_, ap}
 use native.Mathlib.Omega.{arith}
-use Rattle.runs.proofs.Runs.{kept-none, kept-room, kept-full, pushed-length}
+use Rattle.runs.proofs.Runs.{kept-none, kept-room, kept-full}
 use borrow.Author.Needs.{needs}
 use Rattle.runs.proofs.keep_one.Statement.{statement}
 use Rattle.runs.proofs.keep_one.Tie as tie

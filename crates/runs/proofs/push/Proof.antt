@@ -1,11 +1,11 @@
 -- `runs::push` meets its contract: one place after the other is moved on. Assumes nothing.
 use borrow.Author.Needs.{needs}
-use Prim.Native.Nat.{_-_, _≤_}
-use mathlib.Core.Path.{_≡_, refl, sym, _∙_}
+use Prim.Native.Nat.{_-_}
+use mathlib.Core.Path.{_≡_, _∙_}
 use native.Mathlib.Omega.{arith}
 use lib.ListN.{length, length-set}
 use Rattle.runs.specs.Runs.{pushed}
-use Rattle.runs.proofs.Runs.{pushed-none, pushed-more, pushed-length}
+use Rattle.runs.proofs.Runs.{pushed-none, pushed-more}
 use Rattle.runs.proofs.push.Statement.{statement}
 use Rattle.runs.proofs.push.Tie as tie
 

@@ -1,6 +1,6 @@
 -- `weave::emit` meets its contract: what is left of the text, and CR LF. Assumes nothing.
 use Prim.Native.Nat.{_-_}
-use mathlib.Core.Path.{_≡_, refl, sym, _∙_}
+use mathlib.Core.Path.{sym, _∙_}
 use native.Mathlib.Omega.{arith}
 use lib.ListN.{length}
 use Rattle.compare.proofs.Letters.{in-inside}

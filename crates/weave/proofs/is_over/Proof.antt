@@ -1,7 +1,6 @@
 -- `weave::is_over` meets its contract: both runs are through. Assumes nothing.
 use native.Mathlib.Omega.{arith}
 use Rattle.weave.proofs.Turns.{over-not, over-by}
-use borrow.Author.Needs.{needs}
 use Rattle.weave.proofs.is_over.Statement.{statement}
 use Rattle.weave.proofs.is_over.Tie as tie
 

@@ -1,5 +1,4 @@
 -- `weave::which` meets its contract: by the two texts that come next. Assumes nothing.
-use mathlib.Core.Path.{refl}
 use native.Mathlib.Omega.{arith}
 use Rattle.weave.proofs.Reading.{chosen-second, chosen-first, chosen-both, chosen-less, chosen-more}
 use borrow.Author.Needs.{needs}
