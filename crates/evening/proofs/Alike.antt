@@ -128,3 +128,8 @@ read-alike f ls g ks w reader n h =
     let k : getD ks n [] ≡ getD (w .common) n [] = ap (λ (l : List (List ℕ)). getD l n []) (w .also) ∙ front-at (w .common) (w .others) n h in
     let l : getD ls n [] ≡ getD (w .common) n [] = ap (λ (l : List (List ℕ)). getD l n []) (w .lines) ∙ front-at (w .common) (w .notes) n h in
     ap₂ reader (w .layouts) (k ∙ sym l)
+
+-- and of the nth line of each kind other than L
+pub nth-alike : {A : Type 0} (f : Flight) (ls : List (List ℕ)) (g : Flight) (ks : List (List ℕ)) (w : ReadAlike f ls g ks) (reader : Layouts → List ℕ → A) (letter : ℕ)
+    → (letter ≡ code "L" → ⊥) → (n : ℕ) → reader (g .layouts) (getD (those letter ks) n []) ≡ reader (f .layouts) (getD (those letter ls) n [])
+nth-alike f ls g ks w reader letter other n = ap₂ reader (w .layouts) (ap (λ (l : List (List ℕ)). getD l n []) (w .kinds letter other))

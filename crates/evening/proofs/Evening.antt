@@ -4,15 +4,19 @@
 -- The claims are about every answer that the contract of `merge::merge` allows (promise FilesMerged), and by `only-files-merged` that is one. It is told by `mergeSaid`: the first file's
 -- refusal, the second's, 26, 2, 18, in this order, or how many bytes the merged file has.
 use Prim.Native.Nat.{ℕ, _≤_, _<_, max}
+use Prim.Native.Char.{code}
 use mathlib.Core.Bool.{true, false}
 use mathlib.Core.List.{List, [], _∷_, _++_}
 use mathlib.Core.Logic.{_↔_}
 use mathlib.Core.Option.{none}
 use mathlib.Core.Path.{_≡_, sym, _∙_, ap, subst}
+use native.Mathlib.Omega.{arith}
 use lib.ListN.{length, getD, take, drop}
 use Rattle.rules.specs.Refusals.{number, says}
+use Rattle.rules.specs.Reads.{fixSaid, extraSaid, eventSaid, satellitesSaid, headSaid, pointSaid, columnSaid, columnTextSaid, numberSaid}
 use Rattle.rules.specs.Split.{linesOf}
 use Rattle.rules.specs.Files.{verdict}
+use Rattle.rules.specs.declared.Extra.the-variants as extra
 use Rattle.rules.specs.declared.Flight.{Flight}
 use Rattle.rules.specs.declared.Layouts.{Layouts}
 use Rattle.rules.specs.declared.Reason.the-variants.{NoRoom}
@@ -28,7 +32,8 @@ use Rattle.notes.proofs.Texts as order
 use Rattle.merge.specs.Merge.{Accepted, mergeTold, FilesMerged}
 use Rattle.merge.specs.declared.Brought.{Brought}
 use Rattle.merge.specs.declared.Brought.the-variants as brought
-use Rattle.evening.specs.Evening.{Makes, ReadAlike}
+use Rattle.demands.specs.Coming.{those}
+use Rattle.evening.specs.Evening.{Makes, ReadAlike, SameColumn}
 use Rattle.evening.proofs.Making as making
 use Rattle.evening.proofs.Turned as turned
 use Rattle.evening.proofs.Alike as alike
@@ -43,7 +48,7 @@ counted-exactly = hit-exactly texts
 pub byte-decides : (x y z : List ℕ) (a b : ℕ) → a < b → (notAfter (x ++ a ∷ y) (x ++ b ∷ z) ≡ true) × (notAfter (x ++ b ∷ z) (x ++ a ∷ y) ≡ false)
 byte-decides = order.byte-decides
 
-pub beginning-first : (x y : List ℕ) → notAfter x (x ++ y) ≡ true
+pub beginning-first : (x y : List ℕ) (b : ℕ) → (notAfter x (x ++ b ∷ y) ≡ true) × (notAfter (x ++ b ∷ y) x ≡ false)
 beginning-first = order.beginning-first
 
 -- a merge that is not refused makes a file: the output's first bytes, as many as it says
@@ -97,6 +102,57 @@ module _ (first second file : List ℕ) (w : Makes first second file) where
 pub read-alike : {A : Type 0} (f : Flight) (ls : List (List ℕ)) (g : Flight) (ks : List (List ℕ)) (w : ReadAlike f ls g ks) (reader : Layouts → List ℕ → A) (n : ℕ)
     → n < length (w .common) → reader (g .layouts) (getD ks n []) ≡ reader (f .layouts) (getD ls n [])
 read-alike = alike.read-alike
+
+-- and of the nth line of each kind other than L
+pub nth-alike : {A : Type 0} (f : Flight) (ls : List (List ℕ)) (g : Flight) (ks : List (List ℕ)) (w : ReadAlike f ls g ks) (reader : Layouts → List ℕ → A) (letter : ℕ)
+    → (letter ≡ code "L" → ⊥) → (n : ℕ) → reader (g .layouts) (getD (those letter ks) n []) ≡ reader (f .layouts) (getD (those letter ls) n [])
+nth-alike = alike.nth-alike
+
+-- by name, with the readings of the rules: the nth fix, the nth K line and the nth N line, each with its layout
+module _ (f : Flight) (ls : List (List ℕ)) (g : Flight) (ks : List (List ℕ)) (w : ReadAlike f ls g ks) (n : ℕ) where
+  pub fixes-alike : fixSaid (getD (those (code "B") ks) n []) (g .layouts .b) ≡ fixSaid (getD (those (code "B") ls) n []) (f .layouts .b)
+  fixes-alike = nth-alike f ls g ks w (λ by l. fixSaid l (by .b)) (code "B") (λ e. omega (arith, e)) n
+
+  pub k-lines-alike : extraSaid extra.K (getD (those (code "K") ks) n []) (g .layouts .k) ≡ extraSaid extra.K (getD (those (code "K") ls) n []) (f .layouts .k)
+  k-lines-alike = nth-alike f ls g ks w (λ by l. extraSaid extra.K l (by .k)) (code "K") (λ e. omega (arith, e)) n
+
+  pub n-lines-alike : extraSaid extra.N (getD (those (code "N") ks) n []) (g .layouts .n) ≡ extraSaid extra.N (getD (those (code "N") ls) n []) (f .layouts .n)
+  n-lines-alike = nth-alike f ls g ks w (λ by l. extraSaid extra.N l (by .n)) (code "N") (λ e. omega (arith, e)) n
+
+  -- their columns: where each stands, its text, and its number
+  pub fix-columns-alike : (name : List ℕ) → SameColumn name (getD (those (code "B") ks) n []) (g .layouts .b) (getD (those (code "B") ls) n []) (f .layouts .b)
+  fix-columns-alike name = (
+    nth-alike f ls g ks w (λ by l. columnSaid l (by .b) name) (code "B") (λ e. omega (arith, e)) n,
+    nth-alike f ls g ks w (λ by l. columnTextSaid l (columnSaid l (by .b) name)) (code "B") (λ e. omega (arith, e)) n,
+    nth-alike f ls g ks w (λ by l. numberSaid l (by .b) name) (code "B") (λ e. omega (arith, e)) n,
+  )
+
+  pub k-columns-alike : (name : List ℕ) → SameColumn name (getD (those (code "K") ks) n []) (g .layouts .k) (getD (those (code "K") ls) n []) (f .layouts .k)
+  k-columns-alike name = (
+    nth-alike f ls g ks w (λ by l. columnSaid l (by .k) name) (code "K") (λ e. omega (arith, e)) n,
+    nth-alike f ls g ks w (λ by l. columnTextSaid l (columnSaid l (by .k) name)) (code "K") (λ e. omega (arith, e)) n,
+    nth-alike f ls g ks w (λ by l. numberSaid l (by .k) name) (code "K") (λ e. omega (arith, e)) n,
+  )
+
+  pub n-columns-alike : (name : List ℕ) → SameColumn name (getD (those (code "N") ks) n []) (g .layouts .n) (getD (those (code "N") ls) n []) (f .layouts .n)
+  n-columns-alike name = (
+    nth-alike f ls g ks w (λ by l. columnSaid l (by .n) name) (code "N") (λ e. omega (arith, e)) n,
+    nth-alike f ls g ks w (λ by l. columnTextSaid l (columnSaid l (by .n) name)) (code "N") (λ e. omega (arith, e)) n,
+    nth-alike f ls g ks w (λ by l. numberSaid l (by .n) name) (code "N") (λ e. omega (arith, e)) n,
+  )
+
+  -- the nth event, the nth line of satellites, and the nth line of the declaration, read as its head and as a point
+  pub events-alike : eventSaid (getD (those (code "E") ks) n []) ≡ eventSaid (getD (those (code "E") ls) n [])
+  events-alike = nth-alike f ls g ks w (λ _ l. eventSaid l) (code "E") (λ e. omega (arith, e)) n
+
+  pub satellites-alike : satellitesSaid (getD (those (code "F") ks) n []) ≡ satellitesSaid (getD (those (code "F") ls) n [])
+  satellites-alike = nth-alike f ls g ks w (λ _ l. satellitesSaid l) (code "F") (λ e. omega (arith, e)) n
+
+  pub heads-alike : headSaid (getD (those (code "C") ks) n []) ≡ headSaid (getD (those (code "C") ls) n [])
+  heads-alike = nth-alike f ls g ks w (λ _ l. headSaid l) (code "C") (λ e. omega (arith, e)) n
+
+  pub points-alike : pointSaid (getD (those (code "C") ks) n []) ≡ pointSaid (getD (those (code "C") ls) n [])
+  points-alike = nth-alike f ls g ks w (λ _ l. pointSaid l) (code "C") (λ e. omega (arith, e)) n
 
 -- ---- a file merged with itself is refused by none but 18, and keeps its notes, in order
 

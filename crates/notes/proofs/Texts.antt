@@ -61,9 +61,9 @@ texts = record { total = text-total; trans = text-trans; antisym = text-antisym 
 -- ---- what the order means
 
 -- "a line that begins another coming first"
-pub beginning-first : (x y : List ℕ) → notAfter x (x ++ y) ≡ true
-beginning-first [] y = refl
-beginning-first (a ∷ x) y = text-same a a x (x ++ y) refl (beginning-first x y)
+pub beginning-first : (x y : List ℕ) (b : ℕ) → (notAfter x (x ++ b ∷ y) ≡ true) × (notAfter (x ++ b ∷ y) x ≡ false)
+beginning-first [] y b = (refl, refl)
+beginning-first (a ∷ x) y b = let r = beginning-first x y b in let e = le-ltb a a (omega arith) in (rw e (r .0), rw e (r .1))
 
 -- "ascending byte order": the first byte that differs decides
 pub byte-decides : (x y z : List ℕ) (a b : ℕ) → a < b → (notAfter (x ++ a ∷ y) (x ++ b ∷ z) ≡ true) × (notAfter (x ++ b ∷ z) (x ++ a ∷ y) ≡ false)
