@@ -14,6 +14,7 @@ use Rattle.laws.proofs.Splitting.{textsOf}
 use Rattle.sound.proofs.Each.{each-map, each-both, each-join, each-cut}
 use Rattle.notes.specs.Notes.{joined, isSeal, sealed, commonPart, notesIn}
 use Rattle.demands.specs.Grammar.{IsText, IsGLine, IsLLine, Parts, linesIn, joinLines, Keeps, Meets}
+use Rattle.evening.specs.Evening.{sealedPart}
 use Rattle.demands.proofs.Sections.{before}
 use Rattle.demands.proofs.Accepted.{lines-cut}
 use Rattle.demands.proofs.Reading.{front, in-three, lines-are}
@@ -121,6 +122,12 @@ module _ (file : List ℕ) (m : Meets seal.Strict file) where
 
   pub texts-is : textsOf (linesOf file) ≡ sealedLines ++ remarksOf
   texts-is = lines-are file m ∙ all-lines
+
+  -- in the grammar's words
+  pub sealed-is : commonPart (linesOf file) ≡ joinLines (sealedPart (m .parts))
+  sealed-is =
+      let e : sealedLines ≡ sealedPart (m .parts) = simp append-assoc in
+      common-is ∙ ap joined e ∙ sym (join-is (sealedPart (m .parts)))
 
   -- the notes are L lines, and texts
   pub notes-are : Each (λ l. IsLLine l × IsText l) (notesIn (linesOf file))

@@ -13,6 +13,7 @@ use mathlib.Core.Path.{_≡_, sym, _∙_, ap, subst}
 use native.Mathlib.Omega.{arith}
 use lib.ListN.{length, getD, take, drop}
 use Rattle.rules.specs.Refusals.{number, says}
+use Rattle.rules.specs.Choice.{Each}
 use Rattle.rules.specs.Reads.{fixSaid, extraSaid, eventSaid, satellitesSaid, headSaid, pointSaid, columnSaid, columnTextSaid, numberSaid}
 use Rattle.rules.specs.Split.{linesOf}
 use Rattle.rules.specs.Files.{verdict}
@@ -23,20 +24,22 @@ use Rattle.rules.specs.declared.Reason.the-variants.{NoRoom}
 use Rattle.rules.specs.declared.Seal.the-variants as seal
 use Rattle.laws.proofs.Splitting.{textsOf}
 use Rattle.sorted.specs.Sorted.{hit, count, Sorted}
-use Rattle.sorted.specs.Ways.{inOrder}
 use Rattle.sorted.proofs.Sorting.{hit-exactly}
 use Rattle.notes.specs.Notes.{notAfter, joined, commonPart, notesIn}
-use Rattle.notes.specs.Merging.{ofNeither, mergedFile}
+use Rattle.notes.specs.Merging.{ofNeither}
 use Rattle.notes.proofs.Texts.{texts}
 use Rattle.notes.proofs.Texts as order
 use Rattle.merge.specs.Merge.{Accepted, mergeTold, FilesMerged}
 use Rattle.merge.specs.declared.Brought.{Brought}
 use Rattle.merge.specs.declared.Brought.the-variants as brought
 use Rattle.demands.specs.Coming.{those}
-use Rattle.evening.specs.Evening.{Makes, ReadAlike, SameColumn}
+use Rattle.demands.specs.Grammar.{IsText, IsLLine, joinLines, Meets}
+use Rattle.evening.specs.Evening.{Makes, ReadAlike, SameColumn, sealedPart}
 use Rattle.evening.proofs.Making as making
 use Rattle.evening.proofs.Turned as turned
 use Rattle.evening.proofs.Alike as alike
+use Rattle.evening.proofs.Copies as copies
+use Rattle.evening.proofs.NotSame as not-same
 
 -- ---- what the words mean, apart from how
 
@@ -50,6 +53,11 @@ byte-decides = order.byte-decides
 
 pub beginning-first : (x y : List ℕ) (b : ℕ) → (notAfter x (x ++ b ∷ y) ≡ true) × (notAfter (x ++ b ∷ y) x ≡ false)
 beginning-first = order.beginning-first
+
+-- a file that meets the grammar is cut in two behind its last G line: the common part is its lines up to and with that one, each with its CR LF, and the notes are the L lines behind it
+pub parted : (file : List ℕ) (m : Meets seal.Strict file)
+    → (commonPart (linesOf file) ≡ joinLines (sealedPart (m .parts))) × (notesIn (linesOf file) ≡ m .parts .remarks) × Each (λ l. IsLLine l × IsText l) (notesIn (linesOf file))
+parted file m = (copies.sealed-is file m, copies.notes-is file m, copies.notes-are file m)
 
 -- a merge that is not refused makes a file: the output's first bytes, as many as it says
 pub merged-makes : (first second out : List ℕ) (n : ℕ) (after : List ℕ) → FilesMerged first second out (brought.Whole n) after → Makes first second (take n after)
@@ -156,15 +164,27 @@ module _ (f : Flight) (ls : List (List ℕ)) (g : Flight) (ks : List (List ℕ))
 
 -- ---- a file merged with itself is refused by none but 18, and keeps its notes, in order
 
+-- each note stands as often as before, they are in order, and the common part is the same
+pub itself-keeps : (file copy : List ℕ) → Makes file file copy
+    → ((z : List ℕ) → count notAfter z (notesIn (linesOf copy)) ≡ count notAfter z (notesIn (linesOf file)))
+    × Sorted notAfter (notesIn (linesOf copy))
+    × (commonPart (linesOf copy) ≡ commonPart (linesOf file))
+itself-keeps file copy w = (
+  (λ z. omega (arith, merged-keeps file file copy w .0 z)),
+  merged-in-order file file copy w,
+  making.common-again file file copy (making.makes-made file file copy w),
+)
+
 module _ (file out : List ℕ) (r : Brought) (after : List ℕ) (a : Accepted file) (w : FilesMerged file file out r after) where
-  pub merged-with-itself : length file ≤ length out → (r ≡ brought.Whole (length file)) × (after ≡ mergedFile file (inOrder notAfter (notesIn (linesOf file))) ++ drop (length file) out)
-  merged-with-itself = turned.own-good file a out r after w
+  pub merged-with-itself : length file ≤ length out
+      → (r ≡ brought.Whole (length file)) × (copy : List ℕ) × Makes file file copy × (length copy ≡ length file) × (after ≡ copy ++ drop (length file) out)
+  merged-with-itself = turned.own-makes file a out r after w
 
   pub itself-no-room : length out < length file → (mergeTold r ≡ ofNeither (number NoRoom) 0 0) × (after ≡ out)
   itself-no-room = turned.own-short file a out r after w
 
--- ---- 26 exactly where the common parts differ
+-- ---- 26 exactly where both files are accepted and the common parts differ
 
-pub not-same-exactly : (first second out : List ℕ) (r : Brought) (after : List ℕ) → Accepted first → Accepted second → FilesMerged first second out r after
-    → (r ≡ brought.NotSame) ↔ (commonPart (linesOf first) ≡ commonPart (linesOf second) → ⊥)
-not-same-exactly = turned.not-same-exactly
+pub not-same-exactly : (first second out : List ℕ) (r : Brought) (after : List ℕ) → FilesMerged first second out r after
+    → (r ≡ brought.NotSame) ↔ (Accepted first × Accepted second × (commonPart (linesOf first) ≡ commonPart (linesOf second) → ⊥))
+not-same-exactly = not-same.not-same-exactly

@@ -2,5 +2,6 @@
 pub mod Copies
 pub mod Making
 pub mod Turned
+pub mod NotSame
 pub mod Alike
 pub mod Evening

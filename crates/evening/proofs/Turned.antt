@@ -30,6 +30,7 @@ use Rattle.merge.specs.Merge.{Accepted, mergeTold, FilesMerged}
 use Rattle.merge.specs.declared.Brought.{Brought}
 use Rattle.merge.specs.declared.Brought.the-variants as brought
 use Rattle.merge.proofs.Only.{merge-one, only-files-merged}
+use Rattle.evening.specs.Evening.{Makes}
 use Rattle.evening.proofs.Making.{Made, common-again, notes-again}
 
 -- ---- the other order
@@ -172,13 +173,23 @@ module _ (file : List ℕ) (a : Accepted file) where
         let c = copy seal.Strict file (a .0) (a .1) in
         rw notes-own (said-rest file file a a (inOrder notAfter (notesIn (linesOf file))) (length out) ∙ rw (is-same (commonPart (linesOf file)), own-size, le-leb (length file) 16777216 (c .most)))
 
-    pub own-good : length file ≤ length out → (r ≡ brought.Whole (length file)) × (after ≡ inItsOrder ++ drop (length file) out)
+    own-good : length file ≤ length out → (r ≡ brought.Whole (length file)) × (after ≡ inItsOrder ++ drop (length file) out)
     unfolding mergeTold
     own-good h =
         let e : mergeSaid file file (mergedFile file (w .notes)) (length out) ≡ merged (length file) = said-own ∙ rw (le-leb (length file) (length out) h) in (
           merge-one r (brought.Whole (length file)) (w .told ∙ e),
           w .bytes ∙ ap (λ (m : Merged). outMerged m (mergedFile file (w .notes)) out) e ∙ rw (notes-own, own-size),
         )
+
+    -- the copy made is at the output's front, and the rest is as lent
+    pub own-makes : length file ≤ length out
+        → (r ≡ brought.Whole (length file)) × (copied : List ℕ) × Makes file file copied × (length copied ≡ length file) × (after ≡ copied ++ drop (length file) out)
+    own-makes h =
+        let g = own-good h in
+        let copied = inItsOrder in
+        let says : FilesMerged file file out (brought.Whole (length copied)) after = subst (λ (b : Brought). FilesMerged file file out b after) (g .0 ∙ ap brought.Whole (sym own-size)) w in
+        let left : after ≡ copied ++ drop (length copied) out = g .1 ∙ ap (λ (n : ℕ). copied ++ drop n out) (sym own-size) in
+        (g .0, copied, record { out = out; after = after; says = says; left = left }, own-size, g .1)
 
     pub own-short : length out < length file → (mergeTold r ≡ ofNeither (number NoRoom) 0 0) × (after ≡ out)
     own-short h =
@@ -196,10 +207,11 @@ not-so one two file room s = rw s (go (leb (length file) 16777216) (leb (length 
     go true false e = let z : _≡_ {A = ℕ} 26 18 = cc in omega (arith, z)
     go false u e = let z : _≡_ {A = ℕ} 26 2 = cc in omega (arith, z)
 
-pub not-same-exactly : (first second out : List ℕ) (r : Brought) (after : List ℕ) → Accepted first → Accepted second → FilesMerged first second out r after
+-- where both are accepted
+pub not-same-accepted : (first second out : List ℕ) (r : Brought) (after : List ℕ) → Accepted first → Accepted second → FilesMerged first second out r after
     → (r ≡ brought.NotSame) ↔ (commonPart (linesOf first) ≡ commonPart (linesOf second) → ⊥)
 unfolding mergeTold
-not-same-exactly first second out r after a b w = (there, here)
+not-same-accepted first second out r after a b w = (there, here)
   where
     there : r ≡ brought.NotSame → commonPart (linesOf first) ≡ commonPart (linesOf second) → ⊥
     there e s =
