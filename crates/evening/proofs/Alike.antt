@@ -1,20 +1,18 @@
 -- A file that a merge made reads as the first copy does, but for the notes: date, layouts and counts are the same, and so are the lines up to the last G line. Assumes nothing.
 use Prim.Native.Nat.{ℕ, zero, suc, _≤_, _<_}
 use Prim.Native.Char.{code}
-use mathlib.Core.Bool.{Bool, true, false, cond}
-use mathlib.Core.List.{List, [], _∷_, _++_, append-nil}
+use mathlib.Core.Bool.{false}
+use mathlib.Core.List.{List, [], _∷_, _++_}
 use mathlib.Core.Option.{none}
-use mathlib.Core.Path.{_≡_, refl, sym, _∙_, ap, ap₂, subst}
+use mathlib.Core.Path.{_≡_, refl, sym, _∙_, ap, ap₂}
 use native.Mathlib.Omega.{arith}
 use borrow.Author.Tests.{eq-eqb}
-use lib.Dec.{eqb}
 use lib.ListN.{length, getD}
 use Rattle.rules.specs.Choice.{Each}
-use Rattle.rules.specs.Families.{countOf}
 use Rattle.rules.specs.Lines.{kindOf}
 use Rattle.rules.specs.Refusals.{says}
-use Rattle.rules.specs.Roles.{roleOf, isOf}
-use Rattle.rules.specs.Split.{Lines, end, line, linesOf}
+use Rattle.rules.specs.Roles.{isOf}
+use Rattle.rules.specs.Split.{end, linesOf}
 use Rattle.rules.specs.Files.{verdict}
 use Rattle.rules.specs.declared.Family.{Family}
 use Rattle.rules.specs.declared.Flight.{Flight}
@@ -25,7 +23,6 @@ use Rattle.laws.proofs.Splitting.{textsOf}
 use Rattle.laws.proofs.Passing.{roleIn}
 use Rattle.laws.proofs.Counted.{tally, family-counted}
 use Rattle.sound.proofs.Each.{each-map}
-use Rattle.notes.specs.Notes.{joined}
 use Rattle.demands.specs.Grammar.{IsText, IsLLine, Meets, flightOf}
 use Rattle.demands.proofs.Sections.{before}
 use Rattle.demands.proofs.Accepted.{accepted-as}

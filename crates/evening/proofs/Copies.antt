@@ -1,15 +1,14 @@
 -- A copy in the grammar's words: its lines up to the last G line, and then its notes, which are L lines. With other notes it is such a file again. Assumes nothing.
-use Prim.Native.Nat.{ℕ, _+_, _≤_}
+use Prim.Native.Nat.{ℕ, _≤_}
 use Prim.Native.Char.{code}
-use mathlib.Core.Bool.{Bool, true, false, _||_, cond}
-use mathlib.Core.List.{List, [], _∷_, _++_, append-assoc, append-nil}
+use mathlib.Core.Bool.{Bool, true, false, _||_}
+use mathlib.Core.List.{List, [], _∷_, _++_, append-assoc}
 use mathlib.Core.Path.{_≡_, refl, sym, _∙_, ap, subst}
 use native.Mathlib.Omega.{arith}
 use borrow.Author.Tests.{eq-eqb, ne-eqb}
-use lib.Dec.{eqb}
 use lib.ListN.{length, getD, length-append}
 use Rattle.rules.specs.Choice.{Each}
-use Rattle.rules.specs.Split.{Lines, end, broken, line, linesOf}
+use Rattle.rules.specs.Split.{end, line, linesOf}
 use Rattle.rules.specs.declared.Seal.the-variants as seal
 use Rattle.laws.proofs.Splitting.{textsOf}
 use Rattle.sound.proofs.Each.{each-map, each-both, each-join, each-cut}

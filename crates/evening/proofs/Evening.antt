@@ -7,14 +7,14 @@ use mathlib.Core.Bool.{true, false}
 use mathlib.Core.List.{List, [], _∷_, _++_}
 use mathlib.Core.Logic.{_↔_}
 use mathlib.Core.Option.{none}
-use mathlib.Core.Path.{_≡_, sym, _∙_, ap, ap₂, subst}
+use mathlib.Core.Path.{_≡_, sym, _∙_, ap, subst}
 use lib.ListN.{length, getD, take, drop}
 use Rattle.rules.specs.Refusals.{number, says}
 use Rattle.rules.specs.Split.{linesOf}
 use Rattle.rules.specs.Files.{verdict}
 use Rattle.rules.specs.declared.Flight.{Flight}
 use Rattle.rules.specs.declared.Layouts.{Layouts}
-use Rattle.rules.specs.declared.Reason.the-variants.{NoRoom}
+use Rattle.rules.specs.declared.Reason.the-variants.{NoRoom, NotSame}
 use Rattle.rules.specs.declared.Seal.the-variants as seal
 use Rattle.laws.proofs.Splitting.{textsOf}
 use Rattle.sorted.specs.Sorted.{hit, count, Sorted}
@@ -109,5 +109,5 @@ module _ (file out : List ℕ) (r : Brought) (after : List ℕ) (a : Accepted fi
 -- ---- 26 exactly where the common parts differ
 
 pub not-same-exactly : (first second out : List ℕ) (r : Brought) (after : List ℕ) → Accepted first → Accepted second → FilesMerged first second out r after
-    → (r ≡ brought.NotSame) ↔ (commonPart (linesOf first) ≡ commonPart (linesOf second) → ⊥)
+    → (mergeTold r ≡ ofNeither (number NotSame) 0 0) ↔ (commonPart (linesOf first) ≡ commonPart (linesOf second) → ⊥)
 not-same-exactly = turned.not-same-exactly

@@ -1,7 +1,6 @@
 -- `common::same_front` meets its contract: what is left to compare decides as the whole does. Assumes nothing.
 use Prim.Native.Nat.{_-_}
 use mathlib.Core.Path.{_≡_, refl, _∙_}
-use native.Mathlib.Omega.{arith}
 use borrow.Author.Needs.{needs}
 use Rattle.common.proofs.Common.{left, left-first, same-end, same-differ, same-next}
 use Rattle.common.proofs.same_front.Statement.{statement}
