@@ -214,7 +214,8 @@ static void words(void) {
     say_out("name 21, text of 9", hive_name(21, out, 9, answer, HIVE_ANSWER));
     say_out("name 0", hive_name(0, out, sizeof out, answer, HIVE_ANSWER));
     say_out("name 25", hive_name(25, out, sizeof out, answer, HIVE_ANSWER));
-    say_out("name 26, no text", hive_name(26, NULL, 0, answer, HIVE_ANSWER));
+    say_out("name 26", hive_name(26, out, sizeof out, answer, HIVE_ANSWER));
+    say_out("name 27, no text", hive_name(27, NULL, 0, answer, HIVE_ANSWER));
     say_out("name, answer of 15", hive_name(9, out, sizeof out, answer, 15));
     say_text("explain", hive_explain(TEXT(FIVE), 9, 4, 8, text, sizeof text, answer, HIVE_ANSWER));
     say_text("explain, no line", hive_explain(NULL, 0, 1, 0, 0, text, 26, answer, HIVE_ANSWER));
@@ -222,7 +223,8 @@ static void words(void) {
     say_text("explain, no byte", hive_explain(TEXT(FIVE), 7, 5, 0, text, sizeof text, answer, HIVE_ANSWER));
     say_text("explain, past the last line", hive_explain(TEXT(FIVE), 16, 6, 0, text, sizeof text, answer, HIVE_ANSWER));
     say_text("explain, byte 121", hive_explain(TEXT(FIVE), 3, 4, 121, text, sizeof text, answer, HIVE_ANSWER));
-    say_text("explain 26", hive_explain(TEXT(FIVE), 26, 4, 8, text, sizeof text, answer, HIVE_ANSWER));
+    say_text("explain 26", hive_explain(TEXT(FIVE), 26, 0, 0, text, sizeof text, answer, HIVE_ANSWER));
+    say_text("explain 27", hive_explain(TEXT(FIVE), 27, 4, 8, text, sizeof text, answer, HIVE_ANSWER));
     say_text("explain, answer of 15", hive_explain(TEXT(FIVE), 9, 4, 8, text, sizeof text, answer, 15));
 }
 

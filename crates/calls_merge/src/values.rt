@@ -26,13 +26,9 @@ pub(crate) fn brought(b: Brought) -> Numbers
     ensures { λ r. ⌜ r ≡ mergeNumbers (mergeTold b) ⌝ }
 {
     match b {
-        Brought::Whole(size) => accepted(size as u64, 0, 0, 0, 0, 0, 0, 0, 0),
+        Brought::Whole(size) => accepted(&[size as u64]),
         Brought::First(why) => refused_of(why, 1),
         Brought::Second(why) => refused_of(why, 2),
-        Brought::NotSame => Numbers {
-            number: 26,
-            values: [0; 16],
-        },
         Brought::Neither(why) => refused(why),
     }
 }

@@ -81,12 +81,16 @@ seal-first : (t r : List ℕ) → eqb (getD (t ++ 13 ∷ 10 ∷ r) 0 0) 71 ≡ i
 seal-first [] r = refl
 seal-first (b ∷ t) r = refl
 
-seal-at : (f : List ℕ) (at : ℕ) (t : List ℕ) (ls : Lines) → linesOf (drop at f) ≡ line t ls → eqb (getD f at 0) 71 ≡ isSeal t
+pub seal-at : (f : List ℕ) (at : ℕ) (t : List ℕ) (ls : Lines) → linesOf (drop at f) ≡ line t ls → eqb (getD f at 0) 71 ≡ isSeal t
 seal-at f at t ls e =
     let c = cut (drop at f) t ls e in
     let n : at + 0 ≡ at = omega arith in
     let g : getD (drop at f) 0 0 ≡ getD f at 0 = rw n at (getD-drop at f 0 0) in
     rw (← g, c .bytes) (seal-first t (c .rest))
+
+-- a line that was found stands inside the file with its ending
+pub line-fits : (f : List ℕ) (at e : ℕ) → ended.At e ≡ endedAt at (linesOf (drop at f)) → (at < e + 2) × (e + 2 ≤ length f)
+line-fits f at e q = let c = cuts.cut f at e q in (omega (arith, c .start), c .fits)
 
 -- what holds where the lines from `at` on are looked at: they decide as all lines do
 pub record Looking (f : List ℕ) (seen at : ℕ) : Type 0 where
@@ -133,9 +137,6 @@ module _ (f : List ℕ) where
       pub looking-either : {A B : Type 0} (s : ℕ) → (A → getD f at 0 ≡ 71) → (B → (getD f at 0 ≡ 71 → ⊥)) → (A × (s ≡ e + 2)) ⊎ (B × (s ≡ seen)) → Looking f s (e + 2)
       looking-either s f g (inl p) = rw (p .1) (looking-seal (f (p .0)))
       looking-either s f g (inr p) = rw (p .1) (looking-next (g (p .0)))
-
-      pub looking-fits : (at < e + 2) × (e + 2 ≤ length f)
-      looking-fits = let c = cuts.cut f at e q in (omega (arith, c .start), c .fits)
 
 -- ---- two files compared
 

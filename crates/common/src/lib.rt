@@ -1,9 +1,9 @@
-// The part of a file up to the end of its last G line: how long it is, and whether two files have it alike.
+// The part of a file up to the end of its last G line: how long it is, whether two files have it alike, and how many notes stand behind it.
 ghost use mathlib.Core.Path.{_≡_};
 ghost use Prim.Native.Nat.{_≤_};
 ghost use lib.ListN.{length, take};
 ghost use Rattle.notes.specs.Notes.{isSame};
-ghost use Rattle.common.specs.Common.{CommonCounted, CommonFound};
+ghost use Rattle.common.specs.Common.{CommonCounted, CommonFound, NotesCounted};
 use cut::Ended;
 use rules::Found;
 
@@ -19,6 +19,25 @@ pub fn count(file: &[u8]) -> usize
         };
         if file[at] == 71 {
             seen = end + 2;
+        }
+        at = end + 2;
+    }
+    seen
+}
+
+// How many notes a file has: the lines behind its last G line, or all of them where it has none. Lines are looked at up to the first that no CR LF ends.
+pub fn notes(file: &[u8]) -> usize
+    ensures { λ r. ⌜ NotesCounted (now (file .entry)) r ⌝ }
+{
+    let mut at = 0;
+    let mut seen = 0;
+    while at < file.len() {
+        let Ended::At(end) = cut::line_end(file, at) else {
+            return seen;
+        };
+        seen += 1;
+        if file[at] == 71 {
+            seen = 0;
         }
         at = end + 2;
     }

@@ -1,5 +1,5 @@
 -- A copy in the grammar's words: its lines up to the last G line, and then its notes, which are L lines. With other notes it is such a file again. Assumes nothing.
-use Prim.Native.Nat.{ℕ, _+_, _≤_}
+use Prim.Native.Nat.{ℕ, _≤_}
 use Prim.Native.Char.{code}
 use mathlib.Core.Bool.{Bool, true, false, _||_}
 use mathlib.Core.List.{List, [], _∷_, _++_, append-assoc}

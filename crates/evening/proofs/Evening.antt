@@ -20,7 +20,7 @@ use Rattle.rules.specs.Files.{verdict}
 use Rattle.rules.specs.declared.Extra.the-variants as extra
 use Rattle.rules.specs.declared.Flight.{Flight}
 use Rattle.rules.specs.declared.Layouts.{Layouts}
-use Rattle.rules.specs.declared.Reason.the-variants.{NoRoom}
+use Rattle.rules.specs.declared.Reason.the-variants.{NoRoom, NotSame}
 use Rattle.rules.specs.declared.Seal.the-variants as seal
 use Rattle.laws.proofs.Splitting.{textsOf}
 use Rattle.sorted.specs.Sorted.{hit, count, Sorted}
@@ -186,5 +186,5 @@ module _ (file out : List ℕ) (r : Brought) (after : List ℕ) (a : Accepted fi
 -- ---- 26 exactly where both files are accepted and the common parts differ
 
 pub not-same-exactly : (first second out : List ℕ) (r : Brought) (after : List ℕ) → FilesMerged first second out r after
-    → (r ≡ brought.NotSame) ↔ (Accepted first × Accepted second × (commonPart (linesOf first) ≡ commonPart (linesOf second) → ⊥))
+    → (mergeTold r ≡ ofNeither (number NotSame) 0 0) ↔ (Accepted first × Accepted second × (commonPart (linesOf first) ≡ commonPart (linesOf second) → ⊥))
 not-same-exactly = not-same.not-same-exactly

@@ -1,46 +1,28 @@
 -- What a merge that was not refused makes of two copies; and that a file so made is a copy again, with the same common part and the notes of both. Assumes nothing.
-use Prim.Native.Nat.{ℕ, _+_, _≤_}
+use Prim.Native.Nat.{ℕ, _≤_}
 use mathlib.Core.List.{List, _++_}
 use mathlib.Core.Option.{none}
 use mathlib.Core.Path.{_≡_, refl, sym, _∙_, ap, ap₂, subst}
-use native.Mathlib.Omega.{arith}
-use borrow.Author.Tests.{leb-true}
-use lib.Dec.{leb}
 use lib.ListN.{length, take, drop}
 use lib.Seq.{take-append-seam}
 use Rattle.rules.specs.Choice.{Each}
-use Rattle.rules.specs.Refusals.{number, Said, says, refuses}
+use Rattle.rules.specs.Refusals.{says}
 use Rattle.rules.specs.Split.{linesOf}
-use Rattle.rules.specs.Files.{verdict}
-use Rattle.rules.specs.declared.Flight.{Flight}
-use Rattle.rules.specs.declared.Reason.the-variants.{TooLong, NoRoom}
 use Rattle.rules.specs.declared.Seal.the-variants as seal
-use Rattle.rules.proofs.Inverse.{need-inv}
 use Rattle.sorted.specs.Sorted.{Together}
 use Rattle.sorted.proofs.Pairs.{together-turned, together-each}
-use Rattle.notes.specs.Notes.{notAfter, joined, commonPart, notesIn, isSame}
-use Rattle.notes.specs.Merging.{Merged, merged, ofNeither, notSame, acceptFirst, acceptSecond, mergedFile, mergeSaid, outMerged}
+use Rattle.notes.specs.Notes.{notAfter, joined, commonPart, notesIn}
+use Rattle.notes.specs.Merging.{mergedFile}
 use Rattle.notes.proofs.Texts.{texts}
-use Rattle.common.proofs.Common.{same-is}
-use Rattle.merge.specs.Merge.{Accepted, mergeTold, FilesMerged}
+use Rattle.merge.specs.Merge.{Accepted, FilesMerged}
 use Rattle.merge.specs.declared.Brought.the-variants as brought
+use Rattle.merge.proofs.Whole.{whole-said, whole-bytes}
 use Rattle.demands.specs.Grammar.{IsText, IsLLine, Meets, flightOf}
 use Rattle.demands.proofs.Accepted.{accepted-as}
 use Rattle.evening.specs.Evening.{Makes}
 use Rattle.evening.proofs.Copies.{sealedLines, common-is, notes-are, meets, noted-common, noted-notes}
 
 -- ---- a merge that was not refused
-
-first-merged : (s : Said Flight) (more : Flight → Merged) (n : ℕ) → acceptFirst s more ≡ merged n → (f : Flight) × (s ≡ says f) × (more f ≡ merged n)
-first-merged (says f) more n e = (f, refl, e)
-first-merged (refuses k l b) more n e = let z : _≡_ {A = ℕ} 0 1 = cc in absurd (omega arith)
-
-second-merged : (s : Said Flight) (more : Flight → Merged) (n : ℕ) → acceptSecond s more ≡ merged n → (f : Flight) × (s ≡ says f) × (more f ≡ merged n)
-second-merged (says f) more n e = (f, refl, e)
-second-merged (refuses k l b) more n e = let z : _≡_ {A = ℕ} 0 1 = cc in absurd (omega arith)
-
-neither-merged : (k l b n : ℕ) → ofNeither k l b ≡ merged n → ⊥
-neither-merged k l b n e = let z : _≡_ {A = ℕ} 0 1 = cc in omega arith
 
 -- both are accepted and have the same common part, and this file is that part with the notes of both
 pub record Made (first second file : List ℕ) : Type 0 where
@@ -60,32 +42,14 @@ pub record Told (first second out : List ℕ) (n : ℕ) (after : List ℕ) : Typ
   pub bytes : after ≡ file ++ drop (length file) out
 
 pub told : (first second out : List ℕ) (n : ℕ) (after : List ℕ) → FilesMerged first second out (brought.Whole n) after → Told first second out n after
-unfolding mergeTold mergeSaid
 told first second out n after w =
-    let file = mergedFile first (w .notes) in
-    let e : mergeSaid first second file (length out) ≡ merged n = sym (w .told) in
-    let a = first-merged (verdict seal.Strict first none) _ n e in
-    let b = second-merged (verdict seal.Strict second none) _ n (a .2) in
-    let s = need-inv (isSame (commonPart (linesOf first)) (commonPart (linesOf second))) _ (merged n) _ (neither-merged notSame 0 0 n) (b .2) in
-    let l = need-inv (leb (length file) 16777216) _ (merged n) _ (neither-merged (number TooLong) 0 0 n) (s .1) in
-    let r = need-inv (leb (length file) (length out)) _ (merged n) _ (neither-merged (number NoRoom) 0 0 n) (l .1) in
-    let h : merged (length file) ≡ merged n = r .1 in
-    let f : mergeSaid first second file (length out) ≡ merged n = e in
-    let o : after ≡ outMerged (merged n) file out = w .bytes ∙ ap (λ (m : Merged). outMerged m file out) f in
+    let b = whole-said first second out n after w in
     record {
-      file = file;
-      made = record {
-        one = (a .0, a .1);
-        two = (b .0, b .1);
-        same = same-is (commonPart (linesOf first)) (commonPart (linesOf second)) (s .0);
-        notes = w .notes;
-        together = w .together;
-        is = refl;
-        short = leb-true (length file) 16777216 (l .0);
-      };
-      size = cc;
-      fits = leb-true (length file) (length out) (r .0);
-      bytes = o;
+      file = mergedFile first (w .notes);
+      made = record { one = b .one; two = b .two; same = b .same; notes = w .notes; together = w .together; is = refl; short = b .short };
+      size = b .size;
+      fits = b .fits;
+      bytes = whole-bytes first second out n after w;
     }
 
 -- two texts at the front of the same bytes, of one length, are the same

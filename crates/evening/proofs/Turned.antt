@@ -14,7 +14,7 @@ use Rattle.rules.specs.Refusals.{number, Said, says, refuses}
 use Rattle.rules.specs.Split.{linesOf}
 use Rattle.rules.specs.Files.{verdict}
 use Rattle.rules.specs.declared.Flight.{Flight}
-use Rattle.rules.specs.declared.Reason.the-variants.{TooLong, NoRoom}
+use Rattle.rules.specs.declared.Reason.the-variants.{TooLong, NoRoom, NotSame}
 use Rattle.rules.specs.declared.Seal.the-variants as seal
 use Rattle.rules.proofs.Inverse.{false-true}
 use Rattle.sorted.specs.Sorted.{Together}
@@ -22,7 +22,7 @@ use Rattle.sorted.specs.Ways.{insert, into, inOrder}
 use Rattle.sorted.proofs.Sorting.{by}
 use Rattle.sorted.proofs.Pairs.{together-once, together-turned, together-paired, together-self}
 use Rattle.notes.specs.Notes.{notAfter, joined, commonPart, notesIn, isSame}
-use Rattle.notes.specs.Merging.{Merged, merged, ofFirst, ofSecond, ofNeither, notSame, acceptFirst, acceptSecond, mergedFile, mergeSaid, outMerged}
+use Rattle.notes.specs.Merging.{Merged, merged, ofFirst, ofSecond, ofNeither, acceptFirst, acceptSecond, mergedFile, mergeSaid, outMerged}
 use Rattle.notes.proofs.Texts.{texts}
 use Rattle.common.proofs.Common.{same-is, is-same}
 use Rattle.common.proofs.Accepted.{copy}
@@ -46,7 +46,7 @@ same-turned x y false e = go (isSame y x) refl
 -- what both say, where both are accepted
 abbrev Rest : List ℕ → List ℕ → List ℕ → ℕ → Merged
 Rest one two file room =
-    need (isSame one two) (ofNeither notSame 0 0) λ _.
+    need (isSame one two) (ofNeither (number NotSame) 0 0) λ _.
     need (leb (length file) 16777216) (ofNeither (number TooLong) 0 0) λ _.
     need (leb (length file) room) (ofNeither (number NoRoom) 0 0) λ _.
     merged (length file)
@@ -198,30 +198,29 @@ module _ (file : List ℕ) (a : Accepted file) where
 
 -- ---- copies that are not of one file
 
-not-so : (one two file : List ℕ) (room : ℕ) → isSame one two ≡ true → ofNeither notSame 0 0 ≡ Rest one two file room → ⊥
+not-so : (one two file : List ℕ) (room : ℕ) → isSame one two ≡ true → ofNeither (number NotSame) 0 0 ≡ Rest one two file room → ⊥
 unfolding number
 not-so one two file room s = rw s (go (leb (length file) 16777216) (leb (length file) room))
   where
-    go : (t u : Bool) → ofNeither notSame 0 0 ≡ (need t (ofNeither 2 0 0) λ _. need u (ofNeither 18 0 0) λ _. merged (length file)) → ⊥
+    go : (t u : Bool) → ofNeither 26 0 0 ≡ (need t (ofNeither 2 0 0) λ _. need u (ofNeither 18 0 0) λ _. merged (length file)) → ⊥
     go true true e = let z : _≡_ {A = ℕ} 0 1 = cc in omega arith
     go true false e = let z : _≡_ {A = ℕ} 26 18 = cc in omega (arith, z)
     go false u e = let z : _≡_ {A = ℕ} 26 2 = cc in omega (arith, z)
 
 -- where both are accepted
 pub not-same-accepted : (first second out : List ℕ) (r : Brought) (after : List ℕ) → Accepted first → Accepted second → FilesMerged first second out r after
-    → (r ≡ brought.NotSame) ↔ (commonPart (linesOf first) ≡ commonPart (linesOf second) → ⊥)
-unfolding mergeTold
+    → (mergeTold r ≡ ofNeither (number NotSame) 0 0) ↔ (commonPart (linesOf first) ≡ commonPart (linesOf second) → ⊥)
 not-same-accepted first second out r after a b w = (there, here)
   where
-    there : r ≡ brought.NotSame → commonPart (linesOf first) ≡ commonPart (linesOf second) → ⊥
+    there : mergeTold r ≡ ofNeither (number NotSame) 0 0 → commonPart (linesOf first) ≡ commonPart (linesOf second) → ⊥
     there e s =
         not-so (commonPart (linesOf first)) (commonPart (linesOf second)) (mergedFile first (w .notes)) (length out)
         (ap (isSame (commonPart (linesOf first))) (sym s) ∙ is-same (commonPart (linesOf first)))
-        (ap mergeTold (sym e) ∙ w .told ∙ said-rest first second a b (w .notes) (length out))
+        (sym e ∙ w .told ∙ said-rest first second a b (w .notes) (length out))
 
-    here : (commonPart (linesOf first) ≡ commonPart (linesOf second) → ⊥) → r ≡ brought.NotSame
+    here : (commonPart (linesOf first) ≡ commonPart (linesOf second) → ⊥) → mergeTold r ≡ ofNeither (number NotSame) 0 0
     here n = go (isSame (commonPart (linesOf first)) (commonPart (linesOf second))) refl
       where
-        go : (t : Bool) → isSame (commonPart (linesOf first)) (commonPart (linesOf second)) ≡ t → r ≡ brought.NotSame
+        go : (t : Bool) → isSame (commonPart (linesOf first)) (commonPart (linesOf second)) ≡ t → mergeTold r ≡ ofNeither (number NotSame) 0 0
         go true e = absurd (n (same-is (commonPart (linesOf first)) (commonPart (linesOf second)) e))
-        go false e = merge-one r brought.NotSame (w .told ∙ said-rest first second a b (w .notes) (length out) ∙ rw e)
+        go false e = w .told ∙ said-rest first second a b (w .notes) (length out) ∙ rw e

@@ -20,7 +20,7 @@ use Rattle.rules.specs.declared.Found.{Found}
 use Rattle.rules.specs.declared.Found.the-variants as found
 use Rattle.rules.specs.declared.Outcome.{Outcome}
 use Rattle.rules.specs.declared.Outcome.the-variants as outcomes
-use Rattle.rules.specs.declared.Reason.the-variants.{TooLong, NoRoom}
+use Rattle.rules.specs.declared.Reason.the-variants.{TooLong, NoRoom, NotSame}
 use Rattle.rules.specs.declared.Refusal.{Refusal}
 use Rattle.rules.specs.declared.Seal.the-variants as seal
 use Rattle.rules.proofs.Inverse.{refuses-says, none-some, need-inv}
@@ -155,13 +155,13 @@ module _ (first second out : List ℕ) (a : Accepted first) (b : Accepted second
   abbrev found-is : Found → Type 0
   found-is r = foundTold r ≡ cond (isSame one two) (some (length one)) none
 
-  pub not-same : (r : Found) → found-is r → r ≡ found.Nothing → FilesMerged first second out brought.NotSame out
+  pub not-same : (r : Found) (u : Refusal) → found-is r → r ≡ found.Nothing → u ≡ record { reason = NotSame; line = 0; byte = 0 } → FilesMerged first second out (brought.Neither u) out
   unfolding foundTold mergeSaid mergeTold
-  not-same r e g = go (isSame one two) refl (rw g at e)
+  not-same r u e g v = go (isSame one two) refl (rw g at e)
     where
-      go : (t : Bool) → isSame one two ≡ t → none ≡ cond t (some (length one)) none → FilesMerged first second out brought.NotSame out
+      go : (t : Bool) → isSame one two ≡ t → none ≡ cond t (some (length one)) none → FilesMerged first second out (brought.Neither u) out
       go true h k = absurd (none-some k)
-      go false h k = made first second out brought.NotSame out (rw (a .1, b .1, h)) (rw (a .1, b .1, h))
+      go false h k = made first second out (brought.Neither u) out (rw (v, a .1, b .1, h)) (rw (a .1, b .1, h))
 
   pub found-same : (r : Found) (n : ℕ) → found-is r → r ≡ found.At n → (isSame one two ≡ true) × (n ≡ length one)
   unfolding foundTold

@@ -11,7 +11,7 @@ use Rattle.rules.specs.declared.Flight.{Flight}
 use Rattle.rules.specs.declared.Seal.the-variants as seal
 use Rattle.sorted.specs.Sorted.{Together}
 use Rattle.notes.specs.Notes.{notAfter, notesIn}
-use Rattle.notes.specs.Merging.{Merged, merged, ofFirst, ofSecond, ofNeither, notSame, mergedFile, mergeSaid, outMerged}
+use Rattle.notes.specs.Merging.{Merged, merged, ofFirst, ofSecond, ofNeither, mergedFile, mergeSaid, outMerged}
 use Rattle.merge.specs.declared.Brought.{Brought}
 use Rattle.merge.specs.declared.Brought.the-variants as brought
 
@@ -24,7 +24,6 @@ unfoldable pub mergeTold : Brought → Merged
 mergeTold (brought.Whole n) = merged n
 mergeTold (brought.First r) = ofFirst (number (r .reason)) (r .line) (r .byte)
 mergeTold (brought.Second r) = ofSecond (number (r .reason)) (r .line) (r .byte)
-mergeTold brought.NotSame = ofNeither notSame 0 0
 mergeTold (brought.Neither r) = ofNeither (number (r .reason)) (r .line) (r .byte)
 
 -- "that common part, then the L lines after it, each kept as often as it occurs in whichever copy has it more often, in ascending byte order": of these notes the answer and the output

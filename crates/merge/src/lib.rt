@@ -11,12 +11,11 @@ use rules::Refusal;
 use rules::Seal;
 use weave::Woven;
 
-// How many bytes the merged file has; or a refusal: of the first file, of the second, that they are not copies of one file (26), or of neither.
+// How many bytes the merged file has; or a refusal: of the first file, of the second, or of neither.
 pub enum Brought {
     Whole(usize),
     First(Refusal),
     Second(Refusal),
-    NotSame,
     Neither(Refusal),
 }
 
@@ -48,7 +47,7 @@ fn bring(first: &[u8], second: &[u8], out: &mut [u8]) -> Brought
     ensures { λ r. ⌜ FilesMerged (now (first .entry)) (now (second .entry)) (now (out .entry)) r (now (out .exit)) ⌝ }
 {
     let Found::At(n) = common::alike(first, second) else {
-        return Brought::NotSame;
+        return Brought::Neither(cut::unplaced(Reason::NotSame));
     };
     let one = behind(first, n);
     let two = behind(second, n);

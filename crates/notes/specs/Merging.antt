@@ -8,7 +8,7 @@ use Rattle.rules.specs.Choice.{need}
 use Rattle.rules.specs.Refusals.{number, Said, says, refuses}
 use Rattle.rules.specs.Split.{linesOf}
 use Rattle.rules.specs.Files.{verdict}
-use Rattle.rules.specs.declared.Reason.the-variants.{TooLong, NoRoom}
+use Rattle.rules.specs.declared.Reason.the-variants.{TooLong, NoRoom, NotSame}
 use Rattle.rules.specs.declared.Flight.{Flight}
 use Rattle.rules.specs.declared.Seal.the-variants as seal
 use Rattle.notes.specs.Notes.{joined, commonPart, isSame}
@@ -30,10 +30,6 @@ abbrev pub acceptSecond : Said Flight → (Flight → Merged) → Merged
 acceptSecond (says f) more = more f
 acceptSecond (refuses n l b) more = ofSecond n l b
 
--- "26 NOT_SAME"
-abbrev pub notSame : ℕ
-notSame = 26
-
 -- "make one: that common part, then the L lines after it"
 abbrev pub mergedFile : List ℕ → List (List ℕ) → List ℕ
 mergedFile first notes = commonPart (linesOf first) ++ joined notes
@@ -44,7 +40,7 @@ unfoldable pub mergeSaid : List ℕ → List ℕ → List ℕ → ℕ → Merged
 mergeSaid first second result room =
     acceptFirst (verdict seal.Strict first none) λ _.
     acceptSecond (verdict seal.Strict second none) λ _.
-    need (isSame (commonPart (linesOf first)) (commonPart (linesOf second))) (ofNeither notSame 0 0) λ _.
+    need (isSame (commonPart (linesOf first)) (commonPart (linesOf second))) (ofNeither (number NotSame) 0 0) λ _.
     need (leb (length result) 16777216) (ofNeither (number TooLong) 0 0) λ _.
     need (leb (length result) room) (ofNeither (number NoRoom) 0 0) λ _.
     merged (length result)

@@ -4,7 +4,7 @@ use mathlib.Core.Path.{sym, _∙_}
 use native.Mathlib.Omega.{arith}
 use borrow.Author.Needs.{needs}
 use lib.ListN.{length}
-use Rattle.common.proofs.Common.{Looking, looking-first, looking-end, looking-torn, looking-either, looking-fits}
+use Rattle.common.proofs.Common.{Looking, looking-first, looking-end, looking-torn, looking-either, line-fits}
 use Rattle.common.proofs.count.Statement.{statement}
 use Rattle.common.proofs.count.Tie as tie
 
@@ -19,17 +19,17 @@ returns c = looking-torn _ _ _ (c .before .before .before .before .loop .inv) _ 
 
 add-seen : tie.Need-add-seen Inv-loop μ-loop
 add-seen c =
-    let h = looking-fits _ _ _ (c .before .before .before .before .before .before .before .loop .inv) _ (sym (c .before .before .before .end .given .1) ∙ c .before .before .before .before .before .line-end .ensures) in
+    let h = line-fits _ _ _ (sym (c .before .before .before .end .given .1) ∙ c .before .before .before .before .before .line-end .ensures) in
     omega (arith, h .1)
 
 add-at : tie.Need-add-at Inv-loop μ-loop
 add-at c =
-    let h = looking-fits _ _ _ (c .before .before .before .before .before .before .before .loop .inv) _ (sym (c .before .before .before .end .given .1) ∙ c .before .before .before .before .before .line-end .ensures) in
+    let h = line-fits _ _ _ (sym (c .before .before .before .end .given .1) ∙ c .before .before .before .before .before .line-end .ensures) in
     omega (arith, h .1)
 
 loop-less : tie.Need-loop-less Inv-loop μ-loop
 loop-less c =
-    let h = looking-fits _ _ _ (c .before .before .before .before .before .before .before .loop .inv) _ (sym (c .before .before .before .end .given .1) ∙ c .before .before .before .before .before .line-end .ensures) in
+    let h = line-fits _ _ _ (sym (c .before .before .before .end .given .1) ∙ c .before .before .before .before .before .line-end .ensures) in
     omega (arith, h .0, h .1)
 
 loop-again : tie.Need-loop-again Inv-loop μ-loop

@@ -10,16 +10,15 @@ brought-spec =
     tie.close
     (tie.spec
     (λ c. search needs)
-    (λ c κs. search needs)
     (λ c. search needs)
     (λ c κs. search needs)
     (λ c. search needs)
     (λ c κs. search needs)
     (λ c. search needs)
+    (λ c κs. search needs)
     (λ c. search needs)
     (λ c κs. search needs)
-    (λ c. rw (c .before .before .b .given .1) (c .accepted .ensures))
+    (λ c. rw (c .before .before .before .b .given .1) (c .accepted .ensures))
     (λ c. rw (c .before .before .b2 .given .1) (c .refused-of .ensures))
     (λ c. rw (c .before .before .b3 .given .1) (c .refused-of2 .ensures))
-    (λ c. rw (c .enum-told .given .1))
     (λ c. rw (c .before .before .b4 .given .1) (c .refused .ensures)))
