@@ -12,7 +12,7 @@ use Rattle.rules.specs.Files.{verdict}
 use Rattle.rules.specs.declared.Flight.{Flight}
 use Rattle.rules.specs.declared.Seal.the-variants as seal
 use Rattle.notes.specs.Notes.{commonPart}
-use Rattle.notes.specs.Merging.{Merged, ofFirst, ofSecond, ofNeither, notSame, acceptFirst, acceptSecond, mergedFile, mergeSaid}
+use Rattle.notes.specs.Merging.{Merged, ofNeither, notSame, acceptFirst, acceptSecond, mergedFile, mergeSaid}
 use Rattle.merge.specs.Merge.{Accepted, mergeTold, FilesMerged}
 use Rattle.merge.specs.declared.Brought.{Brought}
 use Rattle.merge.specs.declared.Brought.the-variants as brought
