@@ -3,7 +3,7 @@ ghost use mathlib.Core.Path.{_≡_};
 ghost use Rattle.notes.specs.Places.{textAt};
 ghost use Rattle.compare.specs.Letters.{letter, TextsCompared, PlacesCompared, TextGoesOn};
 
-// Whether the text goes on there.
+// Whether a byte of text stands behind i bytes: there is one, and it is not CR.
 pub fn in_text(s: &[u8], i: usize) -> bool
     ensures { λ r. ⌜ TextGoesOn (now (s .entry)) i r ⌝ }
 {

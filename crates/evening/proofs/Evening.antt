@@ -34,12 +34,13 @@ use Rattle.merge.specs.declared.Brought.{Brought}
 use Rattle.merge.specs.declared.Brought.the-variants as brought
 use Rattle.demands.specs.Coming.{those}
 use Rattle.demands.specs.Grammar.{IsText, IsLLine, joinLines, Meets}
-use Rattle.evening.specs.Evening.{Makes, ReadAlike, SameColumn, sealedPart}
+use Rattle.evening.specs.Evening.{Makes, ReadAlike, SameColumn, sealedPart, numberIn}
 use Rattle.evening.proofs.Making as making
 use Rattle.evening.proofs.Turned as turned
 use Rattle.evening.proofs.Alike as alike
 use Rattle.evening.proofs.Copies as copies
 use Rattle.evening.proofs.NotSame as not-same
+use Rattle.evening.proofs.NeverFull as full
 
 -- ---- what the words mean, apart from how
 
@@ -188,3 +189,8 @@ module _ (file out : List ℕ) (r : Brought) (after : List ℕ) (a : Accepted fi
 pub not-same-exactly : (first second out : List ℕ) (r : Brought) (after : List ℕ) → FilesMerged first second out r after
     → (mergeTold r ≡ ofNeither (number NotSame) 0 0) ↔ (Accepted first × Accepted second × (commonPart (linesOf first) ≡ commonPart (linesOf second) → ⊥))
 not-same-exactly = not-same.not-same-exactly
+
+-- ---- "No table is lent here .., so 15 isn't met there."
+
+pub never-full : (first second out : List ℕ) (r : Brought) (after : List ℕ) → FilesMerged first second out r after → numberIn (mergeTold r) ≡ 15 → ⊥
+never-full = full.never-full

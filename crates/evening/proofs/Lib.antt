@@ -3,5 +3,6 @@ pub mod Copies
 pub mod Making
 pub mod Turned
 pub mod NotSame
+pub mod NeverFull
 pub mod Alike
 pub mod Evening

@@ -13,7 +13,7 @@ use Rattle.rules.specs.declared.Flight.{Flight}
 use Rattle.rules.specs.declared.Reason.the-variants.{NotSame}
 use Rattle.rules.specs.declared.Seal.the-variants as seal
 use Rattle.notes.specs.Notes.{commonPart}
-use Rattle.notes.specs.Merging.{Merged, ofFirst, ofSecond, ofNeither, acceptFirst, acceptSecond, mergedFile, mergeSaid}
+use Rattle.notes.specs.Merging.{Merged, ofNeither, acceptFirst, acceptSecond, mergedFile, mergeSaid}
 use Rattle.merge.specs.Merge.{Accepted, mergeTold, FilesMerged}
 use Rattle.merge.specs.declared.Brought.{Brought}
 use Rattle.evening.proofs.Turned.{not-same-accepted}

@@ -12,6 +12,7 @@ use Rattle.rules.specs.Reads.{columnSaid, columnTextSaid, numberSaid}
 use Rattle.rules.specs.declared.Family.{Family}
 use Rattle.rules.specs.declared.Flight.{Flight}
 use Rattle.rules.specs.declared.Layout.{Layout}
+use Rattle.notes.specs.Merging.{Merged, merged, ofFirst, ofSecond, ofNeither}
 use Rattle.merge.specs.Merge.{FilesMerged}
 use Rattle.merge.specs.declared.Brought.the-variants as brought
 use Rattle.demands.specs.Grammar.{IsLLine, Parts, toldIn}
@@ -23,6 +24,13 @@ pub record Makes (first second file : List ℕ) : Type 0 where
   pub after : List ℕ
   pub says : FilesMerged first second out (brought.Whole (length file)) after
   pub left : after ≡ file ++ drop (length file) out
+
+-- the number of what is said, 0 where it is no refusal
+unfoldable pub numberIn : Merged → ℕ
+numberIn (merged n) = 0
+numberIn (ofFirst k l b) = k
+numberIn (ofSecond k l b) = k
+numberIn (ofNeither k l b) = k
 
 -- "up to the end of the last G line": the lines of a file, as the grammar parts them, without the L lines behind the G lines
 abbrev pub sealedPart : Parts → List (List ℕ)

@@ -12,11 +12,12 @@ abbrev pub upToCR : List ℕ → List ℕ
 upToCR [] = []
 upToCR (b ∷ l) = cond (eqb b 13) [] (b ∷ upToCR l)
 
--- a note's text: not empty, and without CR
+-- without CR
 abbrev pub Plain : List ℕ → Type 0
 Plain [] = Unit {0}
 Plain (b ∷ t) = (eqb b 13 ≡ false) × Plain t
 
+-- a note's text: not empty, and without CR
 abbrev pub Note : List ℕ → Type 0
 Note [] = ⊥
 Note (b ∷ t) = Plain (b ∷ t)

@@ -1,4 +1,5 @@
-// A run of notes: the places of the first notes that come after one, in order, found by one look at each note. A note starts at a place of the bytes and goes up to CR LF.
+// A run of notes: the places of the first notes that come after one, in order, found by one look at each note. A note starts at a place of the bytes and
+// goes up to the first CR; the next one starts two bytes behind that.
 ghost use mathlib.Core.Path.{_≡_};
 ghost use mathlib.Core.Bool.{true};
 ghost use Prim.Native.Nat.{_≤_, _<_};
@@ -7,7 +8,7 @@ ghost use Rattle.sorted.specs.Sorted.{Sorted};
 ghost use Rattle.notes.specs.Places.{earlier};
 ghost use Rattle.runs.specs.Runs.{LineAfter, PastLast, Found, pushed, Kept, Refilled};
 
-// The place after the line there.
+// Where the next note starts: two bytes past the first CR from there on, or past the end.
 fn line_after(s: &[u8], i: usize) -> usize
     requires { ⌜ i < length (now s) ⌝ }
     ensures { λ r. ⌜ LineAfter (now (s .entry)) i r ⌝ }
@@ -19,7 +20,7 @@ fn line_after(s: &[u8], i: usize) -> usize
     x + 2
 }
 
-// Whether all of the first n places come before x, as far as the last of them says.
+// Whether the last of the first n places comes before x; no where n is 0.
 fn past_last(s: &[u8], heads: &[usize], n: usize, x: usize) -> bool
     requires { ⌜ n ≤ length (now heads) ⌝ }
     ensures { λ r. ⌜ (r ≡ true → PastLast (now (s .entry)) (now (heads .entry)) n x) ⌝ }
@@ -66,7 +67,7 @@ fn push(heads: &mut [usize], p: usize, m: usize, x: usize)
     }
 }
 
-// One more note looked at.
+// One more note looked at; how many places the run then has.
 fn keep_one(s: &[u8], last: usize, heads: &mut [usize], n: usize, x: usize) -> usize
     requires { ⌜ (n ≤ length (now heads)) × Sorted (earlier (now s)) (take n (now heads)) ⌝ }
     ensures { λ r. ⌜ Kept (now (s .entry)) last (now (heads .entry)) n x (now (heads .exit)) r ⌝ }

@@ -51,7 +51,7 @@ fn byte(out: &mut [u8], at: usize, b: u8)
     out[at] = b;
 }
 
-// A note with CR LF put into the output, where it has room.
+// A note with CR LF put into the output, where it has room. No place is past 562950037307392: that is 16,777,216 bytes, and 33,554,432 notes of up to 16,777,218 bytes each.
 fn emit(s: &[u8], i: usize, out: &mut [u8], at: usize) -> usize
     requires { ⌜ (length (now s) ≤ 16777216) × (at ≤ 562950037307392) ⌝ }
     ensures { λ r. ⌜ Emitted (now (s .entry)) i (now (out .entry)) at (now (out .exit)) r ⌝ }
@@ -184,7 +184,7 @@ pub enum Woven {
 }
 
 // The notes of two slices woven into one and put into the output behind `front` bytes: in order, each as often as in the slice that has it more often. The output stays as it is
-// where the slices or the whole are over 16,777,216 bytes, and where it has no room.
+// where a slice or the whole is over 16,777,216 bytes, and where it has no room.
 pub fn weave(front: usize, a: &[u8], b: &[u8], out: &mut [u8]) -> Woven
     ensures { λ r. ⌜ NotesWoven front (now (a .entry)) (now (b .entry)) (now (out .entry)) r (now (out .exit)) ⌝ }
 {
@@ -197,6 +197,7 @@ pub fn weave(front: usize, a: &[u8], b: &[u8], out: &mut [u8]) -> Woven
     if 16777216 < front {
         return Woven::TooLong;
     }
+    // each slice may lack the CR LF of its last note: 4 bytes more
     let most = front + a.len() + b.len() + 4;
     if has_room(most, out.len()) {
         return Woven::Put(walk(a, b, front, out));
