@@ -17,14 +17,14 @@ use Rattle.rules.specs.declared.Entry.{Entry}
 use Rattle.rules.specs.declared.Family.{Family}
 use Rattle.rules.specs.declared.Family.the-variants as family
 use Rattle.rules.specs.declared.Flight.{Flight}
-use Rattle.rules.specs.declared.Reason.the-variants.{TooLong, NoRoom}
+use Rattle.rules.specs.declared.Reason.the-variants.{TooLong, NoRoom, NotSame}
 use Rattle.rules.specs.declared.Role.{Role}
 use Rattle.rules.specs.declared.Role.the-variants as role
 use Rattle.rules.specs.declared.Seal.{Seal}
 use Rattle.rules.specs.declared.Seal.the-variants as seal
 use Rattle.rules.proofs.Inverse.{false-true}
 use Rattle.notes.specs.Notes.{commonPart, isSame}
-use Rattle.notes.specs.Merging.{Merged, merged, ofNeither, notSame, acceptFirst, acceptSecond, mergedFile, mergeSaid}
+use Rattle.notes.specs.Merging.{Merged, merged, ofNeither, acceptFirst, acceptSecond, mergedFile, mergeSaid}
 use Rattle.merge.specs.Merge.{mergeTold, FilesMerged}
 use Rattle.merge.specs.declared.Brought.{Brought}
 use Rattle.demands.specs.Checks.{Check, oneEach, shapeChecks, columnChecks, pairChecks, entryChecks, dateChecks, headerChecks, headChecks, pointChecks, fieldChecks, roleChecks, checksOf, FailsFirst}
@@ -138,20 +138,20 @@ said-never-full : (first second file : List ℕ) (room : ℕ) → Never (mergeSa
 unfolding mergeSaid number numberIn
 said-never-full first second file room = one (verdict seal.Strict first none) refl
   where
-    rest : Never (need (isSame (commonPart (linesOf first)) (commonPart (linesOf second))) (ofNeither notSame 0 0) λ _.
+    rest : Never (need (isSame (commonPart (linesOf first)) (commonPart (linesOf second))) (ofNeither (number NotSame) 0 0) λ _.
         need (leb (length file) 16777216) (ofNeither (number TooLong) 0 0) λ _. need (leb (length file) room) (ofNeither (number NoRoom) 0 0) λ _. merged (length file))
     rest =
         never-need (isSame (commonPart (linesOf first)) (commonPart (linesOf second))) _ _ (λ e. omega (arith, e))
         (never-need (leb (length file) 16777216) _ _ (λ e. omega (arith, e)) (never-need (leb (length file) room) _ _ (λ e. omega (arith, e)) (λ e. omega (arith, e))))
 
     two : (s : Said Flight) → verdict seal.Strict second none ≡ s → Never (acceptSecond s λ _.
-        need (isSame (commonPart (linesOf first)) (commonPart (linesOf second))) (ofNeither notSame 0 0) λ _.
+        need (isSame (commonPart (linesOf first)) (commonPart (linesOf second))) (ofNeither (number NotSame) 0 0) λ _.
         need (leb (length file) 16777216) (ofNeither (number TooLong) 0 0) λ _. need (leb (length file) room) (ofNeither (number NoRoom) 0 0) λ _. merged (length file))
     two (says f) e = rest
     two (refuses n l b) e = unlike n (check-never-full seal.Strict second n l b e)
 
     one : (s : Said Flight) → verdict seal.Strict first none ≡ s → Never (acceptFirst s λ _. acceptSecond (verdict seal.Strict second none) λ _.
-        need (isSame (commonPart (linesOf first)) (commonPart (linesOf second))) (ofNeither notSame 0 0) λ _.
+        need (isSame (commonPart (linesOf first)) (commonPart (linesOf second))) (ofNeither (number NotSame) 0 0) λ _.
         need (leb (length file) 16777216) (ofNeither (number TooLong) 0 0) λ _. need (leb (length file) room) (ofNeither (number NoRoom) 0 0) λ _. merged (length file))
     one (says f) e = two (verdict seal.Strict second none) refl
     one (refuses n l b) e = unlike n (check-never-full seal.Strict first n l b e)
