@@ -6,7 +6,8 @@ use mathlib.Core.Path.{_≡_, refl, sym, _∙_, ap}
 use native.Mathlib.Omega.{arith}
 use borrow.Author.Tests.{leb-true}
 use lib.Dec.{leb}
-use lib.ListN.{length, drop, length-append}
+use lib.ListN.{length, take, drop, length-append}
+use lib.Seq.{length-take-le}
 use Rattle.rules.specs.Refusals.{number, Said, says, refuses}
 use Rattle.rules.specs.Split.{linesOf}
 use Rattle.rules.specs.Files.{verdict}
@@ -71,9 +72,12 @@ module _ (first second out : List ℕ) (n : ℕ) (after : List ℕ) (w : FilesMe
   unfolding mergeTold
   whole-bytes = w .bytes ∙ ap (λ (m : Merged). outMerged m (mergedFile first (w .notes)) out) (sym (w .told))
 
--- `&out[..n]` is there
+-- `&out[..n]` is there, and has n bytes
 pub whole-fits : (first second out : List ℕ) (r : Brought) (n : ℕ) (after : List ℕ) → FilesMerged first second out r after → r ≡ brought.Whole n → n ≤ length after
 whole-fits first second out r n after v e =
     let w : FilesMerged first second out (brought.Whole n) after = rw e at v in
     let file = mergedFile first (w .notes) in
     omega (arith, whole-said first second out n after w .size, ap length (whole-bytes first second out n after w), length-append file (drop (length file) out))
+
+pub whole-counts : (first second out : List ℕ) (r : Brought) (n : ℕ) (after : List ℕ) → FilesMerged first second out r after → r ≡ brought.Whole n → n ≡ length (take n after)
+whole-counts first second out r n after v e = sym (length-take-le n after (whole-fits first second out r n after v e))

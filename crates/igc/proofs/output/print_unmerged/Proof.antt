@@ -12,5 +12,6 @@ print-unmerged-spec =
     (λ c κs. search needs)
     (λ c. search (piece-fits, needs))
     (λ c. search (piece-counts, needs))
+    (λ c. search needs)
     (λ c κs. search needs)
     (λ c. search needs))
