@@ -193,13 +193,29 @@ static void writers(void) {
     say_out("write point", hive_write_point(3090000, 'N', 15000, 'W', TEXT("HOME"), 1, out, sizeof out, answer, HIVE_ANSWER));
 }
 
+/* A file of three lines, 28 bytes, with notes behind its G line. */
+#define SHORT "AXYZ001\r\nHFDTE150724\r\nGABC\r\n"
+static const char DAY[] = SHORT "LB\r\nLA\r\n";
+static const char EVENING[] = SHORT "LA\r\nLA\r\nLAB\r\n";
+
+static void merging(void) {
+    say_out("merge", hive_merge(TEXT(DAY), TEXT(EVENING), out, sizeof out, answer, HIVE_ANSWER));
+    say_out("merge, the other way round", hive_merge(TEXT(EVENING), TEXT(DAY), out, 45, answer, HIVE_ANSWER));
+    say_out("merge, no room", hive_merge(TEXT(DAY), TEXT(EVENING), out, 44, answer, HIVE_ANSWER));
+    say_out("merge, other flights", hive_merge(TEXT(DAY), TEXT(FIVE), out, sizeof out, answer, HIVE_ANSWER));
+    say_out("merge, the first refused", hive_merge(TEXT("XYZ"), NULL, 0, out, sizeof out, answer, HIVE_ANSWER));
+    say_out("merge, the second refused", hive_merge(TEXT(DAY), TEXT("XYZ"), out, sizeof out, answer, HIVE_ANSWER));
+    say_out("merge, answer of 15", hive_merge(TEXT(DAY), TEXT(EVENING), out, sizeof out, answer, 15));
+}
+
 static void words(void) {
     say_out("name 9", hive_name(9, out, sizeof out, answer, HIVE_ANSWER));
     say_out("name 21, text of 10", hive_name(21, out, 10, answer, HIVE_ANSWER));
     say_out("name 21, text of 9", hive_name(21, out, 9, answer, HIVE_ANSWER));
     say_out("name 0", hive_name(0, out, sizeof out, answer, HIVE_ANSWER));
     say_out("name 25", hive_name(25, out, sizeof out, answer, HIVE_ANSWER));
-    say_out("name 26, no text", hive_name(26, NULL, 0, answer, HIVE_ANSWER));
+    say_out("name 26", hive_name(26, out, sizeof out, answer, HIVE_ANSWER));
+    say_out("name 27, no text", hive_name(27, NULL, 0, answer, HIVE_ANSWER));
     say_out("name, answer of 15", hive_name(9, out, sizeof out, answer, 15));
     say_text("explain", hive_explain(TEXT(FIVE), 9, 4, 8, text, sizeof text, answer, HIVE_ANSWER));
     say_text("explain, no line", hive_explain(NULL, 0, 1, 0, 0, text, 26, answer, HIVE_ANSWER));
@@ -207,7 +223,8 @@ static void words(void) {
     say_text("explain, no byte", hive_explain(TEXT(FIVE), 7, 5, 0, text, sizeof text, answer, HIVE_ANSWER));
     say_text("explain, past the last line", hive_explain(TEXT(FIVE), 16, 6, 0, text, sizeof text, answer, HIVE_ANSWER));
     say_text("explain, byte 121", hive_explain(TEXT(FIVE), 3, 4, 121, text, sizeof text, answer, HIVE_ANSWER));
-    say_text("explain 26", hive_explain(TEXT(FIVE), 26, 4, 8, text, sizeof text, answer, HIVE_ANSWER));
+    say_text("explain 26", hive_explain(TEXT(FIVE), 26, 0, 0, text, sizeof text, answer, HIVE_ANSWER));
+    say_text("explain 27", hive_explain(TEXT(FIVE), 27, 4, 8, text, sizeof text, answer, HIVE_ANSWER));
     say_text("explain, answer of 15", hive_explain(TEXT(FIVE), 9, 4, 8, text, sizeof text, answer, 15));
 }
 
@@ -217,6 +234,7 @@ int main(void) {
     lines();
     others();
     writers();
+    merging();
     words();
     return 0;
 }

@@ -63,7 +63,8 @@ enum {
     HIVE_TIME = 22,
     HIVE_POSITION = 23,
     HIVE_ALTITUDE = 24,
-    HIVE_DATE = 25
+    HIVE_DATE = 25,
+    HIVE_NOT_SAME = 26
 };
 
 /* Places in every answer. */
@@ -106,6 +107,17 @@ enum { HIVE_NEXT_PLACE = 4, HIVE_FOUND = 5 };
 uint32_t hive_step(const uint8_t *file, size_t file_length,
                    size_t place,
                    uint64_t *answer, size_t answer_length);
+
+/* Two copies of a file merged into an output: everything up to the end of the last G line, which both must have in common, then the L lines behind it in ascending byte
+   order, each as often as in the copy that has it more often. The order of the copies changes no byte. Refused with what hive_check refuses of the first file, then of the
+   second (without 15), with line and byte; then HIVE_NOT_SAME where the bytes up to the end of the last G lines differ, HIVE_TOO_LONG where the merged file is, and
+   HIVE_NO_ROOM where the output is shorter. out is unchanged where refused; its bytes behind the merged file stay.
+       2 length of the merged file  3 whose the refusal is, told where refused: 1 the first file's, 2 the second's, 0 of neither */
+enum { HIVE_MERGED_LENGTH = 2, HIVE_WHOSE = 3 };
+uint32_t hive_merge(const uint8_t *first, size_t first_length,
+                    const uint8_t *second, size_t second_length,
+                    uint8_t *out, size_t out_length,
+                    uint64_t *answer, size_t answer_length);
 
 /* ---- a line: 17 for another kind of line or a layout that is not allowed, then with the byte 7, 8, a field's (9, 22 to 24), 13 */
 

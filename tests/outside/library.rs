@@ -14,6 +14,10 @@ pub const K_LENGTH: usize = 9;
 pub const N_LINES: usize = 10;
 pub const N_LENGTH: usize = 11;
 
+/// Places in the answer of hive_merge: the result's length; where a copy is refused, 1 for the first and 2 for the second.
+pub const MERGED_LENGTH: usize = 2;
+pub const REFUSED_COPY: usize = 3;
+
 /// What stands in lent memory before a call, so that an entry left unset shows.
 pub const BEFORE: u64 = 0x5A5A_5A5A_5A5A_5A5A;
 
@@ -117,6 +121,7 @@ mod c {
             a: *mut u64,
             al: usize,
         ) -> u32;
+        pub fn hive_merge(f: *const u8, fl: usize, s: *const u8, sl: usize, o: *mut u8, ol: usize, a: *mut u64, al: usize) -> u32;
         pub fn hive_name(number: u32, t: *mut u8, tl: usize, a: *mut u64, al: usize) -> u32;
         pub fn hive_explain(
             f: *const u8,
@@ -251,6 +256,12 @@ pub fn point(line: &[u8]) -> Told {
     told(|a, al| unsafe { c::hive_point(line.as_ptr(), line.len(), a, al) })
 }
 
+/// Two copies of a file brought together, at the start of an output.
+pub fn merge(first: &[u8], second: &[u8], out: &mut [u8]) -> Told {
+    let (o, ol) = (out.as_mut_ptr(), out.len());
+    told(|a, al| unsafe { c::hive_merge(first.as_ptr(), first.len(), second.as_ptr(), second.len(), o, ol, a, al) })
+}
+
 /// The name of a number, at the start of a text.
 pub fn name(number: u32, text: &mut [u8]) -> Told {
     told(|a, al| unsafe { c::hive_name(number, text.as_mut_ptr(), text.len(), a, al) })
@@ -375,7 +386,7 @@ pub fn write_point(latitude: (u64, u8), longitude: (u64, u8), text: &[u8], place
 }
 
 /// Every operation that a run must have asked.
-pub const OPERATIONS: [&str; 22] = [
+pub const OPERATIONS: [&str; 23] = [
     "hive_check",
     "hive_line",
     "hive_step",
@@ -396,6 +407,7 @@ pub const OPERATIONS: [&str; 22] = [
     "hive_point",
     "hive_write_head",
     "hive_write_point",
+    "hive_merge",
     "hive_name",
     "hive_explain",
 ];

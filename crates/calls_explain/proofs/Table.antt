@@ -7,7 +7,7 @@ use borrow.Author.Tests.{eqb-true}
 use lib.Dec.{eqb}
 use Rattle.rules.specs.Refusals.{number}
 use Rattle.rules.specs.declared.Reason.{Reason}
-use Rattle.rules.specs.declared.Reason.the-variants.{Empty, TooLong, LineEnd, EmptyLine, Kind, Order, Length, Character, Form, Tile, Twice, Width, Column, Back, TableFull, EndsEarly, BadValue, NoRoom, Absent, NotNumber, InputOver, Time, Position, Altitude, Date}
+use Rattle.rules.specs.declared.Reason.the-variants.{Empty, TooLong, LineEnd, EmptyLine, Kind, Order, Length, Character, Form, Tile, Twice, Width, Column, Back, TableFull, EndsEarly, BadValue, NoRoom, Absent, NotNumber, InputOver, Time, Position, Altitude, Date, NotSame}
 use Rattle.rules.proofs.Inverse.{none-some}
 use Rattle.calls_explain.specs.Reasons.{reasonNumbered}
 
@@ -38,6 +38,7 @@ reason-of-number Time = refl
 reason-of-number Position = refl
 reason-of-number Altitude = refl
 reason-of-number Date = refl
+reason-of-number NotSame = refl
 
 -- a number that no refusal has, has no reason
 module _ (n : ℕ) (r : Reason) where
@@ -72,4 +73,5 @@ module _ (n : ℕ) (r : Reason) where
       (step (eqb n 22) Time _ (λ e. sym (eqb-true n 22 e))
       (step (eqb n 23) Position _ (λ e. sym (eqb-true n 23 e))
       (step (eqb n 24) Altitude _ (λ e. sym (eqb-true n 24 e))
-      (step (eqb n 25) Date none (λ e. sym (eqb-true n 25 e)) (λ e. absurd (none-some e))))))))))))))))))))))))))
+      (step (eqb n 25) Date _ (λ e. sym (eqb-true n 25 e))
+      (step (eqb n 26) NotSame none (λ e. sym (eqb-true n 26 e)) (λ e. absurd (none-some e)))))))))))))))))))))))))))

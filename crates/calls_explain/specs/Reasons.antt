@@ -4,7 +4,7 @@ use mathlib.Core.Bool.{cond}
 use mathlib.Core.Option.{Option, none, some}
 use lib.Dec.{eqb}
 use Rattle.rules.specs.declared.Reason.{Reason}
-use Rattle.rules.specs.declared.Reason.the-variants.{Empty, TooLong, LineEnd, EmptyLine, Kind, Order, Length, Character, Form, Tile, Twice, Width, Column, Back, TableFull, EndsEarly, BadValue, NoRoom, Absent, NotNumber, InputOver, Time, Position, Altitude, Date}
+use Rattle.rules.specs.declared.Reason.the-variants.{Empty, TooLong, LineEnd, EmptyLine, Kind, Order, Length, Character, Form, Tile, Twice, Width, Column, Back, TableFull, EndsEarly, BadValue, NoRoom, Absent, NotNumber, InputOver, Time, Position, Altitude, Date, NotSame}
 use Rattle.calls_explain.specs.declared.Numbered.{Numbered}
 use Rattle.calls_explain.specs.declared.Numbered.the-variants as numbered
 
@@ -35,7 +35,8 @@ reasonNumbered n =
     (cond (eqb n 22) (some Time)
     (cond (eqb n 23) (some Position)
     (cond (eqb n 24) (some Altitude)
-    (cond (eqb n 25) (some Date) none))))))))))))))))))))))))
+    (cond (eqb n 25) (some Date)
+    (cond (eqb n 26) (some NotSame) none)))))))))))))))))))))))))
 
 -- the answer, in the paper's terms
 unfoldable pub numberedTold : Numbered → Option Reason

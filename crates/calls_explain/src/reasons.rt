@@ -33,6 +33,7 @@ pub(crate) fn reason_of(number: u32) -> Numbered
         23 => Numbered::Is(Reason::Position),
         24 => Numbered::Is(Reason::Altitude),
         25 => Numbered::Is(Reason::Date),
+        26 => Numbered::Is(Reason::NotSame),
         _ => Numbered::NoReason,
     }
 }

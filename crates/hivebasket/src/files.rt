@@ -1,6 +1,7 @@
-// A file: its check, a line by its number, a reading place over its lines.
+// A file: its check, a line by its number, a reading place over its lines; two files merged.
 ghost use Rattle.calls_file.specs.Calls.{CheckAnswered};
 ghost use Rattle.calls_place.specs.Calls.{LineAnswered, StepAnswered};
+ghost use Rattle.calls_merge.specs.Calls.{MergeAnswered};
 
 // The check of a whole file, with the table of its lines' offsets.
 #[no_mangle]
@@ -24,4 +25,12 @@ pub extern "C" fn hive_step(file: &[u8], place: usize, answer: &mut [u64]) -> u3
     ensures { λ r. ⌜ StepAnswered (now (file .entry)) place (now (answer .entry)) r (now (answer .exit)) ⌝ }
 {
     calls_place::step(file, place, answer)
+}
+
+// Two files merged into an output.
+#[no_mangle]
+pub extern "C" fn hive_merge(first: &[u8], second: &[u8], out: &mut [u8], answer: &mut [u64]) -> u32
+    ensures { λ r. ⌜ MergeAnswered (now (first .entry)) (now (second .entry)) (now (out .entry)) (now (answer .entry)) r (now (out .exit)) (now (answer .exit)) ⌝ }
+{
+    calls_merge::merge(first, second, out, answer)
 }

@@ -12,9 +12,9 @@ use rules::Seal;
 use verbs::Fate;
 
 // How many bytes of the input are the file's, and whether they are all that it has.
-struct Got {
-    count: usize,
-    whole: bool,
+pub struct Got {
+    pub count: usize,
+    pub whole: bool,
 }
 
 // Whether a file of which so many bytes were read has no more. Of one that is too long this is not asked: it is refused as such.
@@ -34,7 +34,8 @@ fn read_open(fd: i32, input: &mut [u8]) -> Got
     Got { count, whole }
 }
 
-fn read_named(name: &[u8], input: &mut [u8]) -> Got
+// A file read into the input. What cannot be opened or read to its end is said.
+pub(crate) fn read_named(name: &[u8], input: &mut [u8]) -> Got
     ensures { λ r. ⌜ Counts (r .count) (now (input .exit)) ⌝ }
 {
     let fd = os::open_read(name);

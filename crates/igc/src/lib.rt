@@ -1,6 +1,7 @@
-// Checks or lists the IGC files that its words name: igc check FILE..., igc list FILE...
+// Checks, lists or merges the IGC files that its words name: igc check FILE..., igc list FILE..., igc merge FIRST SECOND NEW
 // It is one exported function: C's `main` lends the memory and returns the status (c/igc.c).
 mod files;
+mod merging;
 mod output;
 
 ghost use Prim.Native.Nat.{_≤_};
@@ -8,6 +9,7 @@ use files::check_named;
 use files::list_named;
 use libc::STDERR_FILENO;
 use libc::STDOUT_FILENO;
+use merging::merge_named;
 use output::fate_of;
 use output::print_usage;
 use verbs::Fate;
@@ -134,10 +136,63 @@ fn on_files(verb: Verb, first: usize, n: usize, input: &mut [u8], table: &mut [u
     on_each(verb, first, n, dashes, 1 < n - names, input, table)
 }
 
-// Runs the program on the arguments that it was started with, a verb and the names of files. `input` takes one file, and has one byte more than the most that a file may
-// have; `table` has an entry for each of its lines. The answer is the exit status: 0 all accepted, 1 some file refused, 2 not all was read or written, or wrong words.
+// The place of a word that names a file, of those from the verb on: one further where `--` stands before it.
+fn place_of(i: usize, dashes: usize) -> usize
+    requires { ⌜ i ≤ 4 ⌝ }
+{
+    if i < dashes {
+        return i;
+    }
+    i + 1
+}
+
+// The two files that two words name, merged into the one that a third names.
+fn merge_at(
+    i: usize,
+    j: usize,
+    k: usize,
+    input: &mut [u8],
+    other: &mut [u8],
+    out: &mut [u8],
+) -> Fate {
+    let mut first = io::buffer();
+    let a = os::arg(i, &mut first);
+    let mut second = io::buffer();
+    let b = os::arg(j, &mut second);
+    let mut new = io::buffer();
+    let c = os::arg(k, &mut new);
+    merge_named(&first[..a], &second[..b], &new[..c], input, other, out)
+}
+
+// The verb merge, where there are just three names behind it.
+fn on_three(n: usize, input: &mut [u8], other: &mut [u8], out: &mut [u8]) -> u32 {
+    let dashes = first_option(2, n);
+    let mut words = 5;
+    if dashes < n {
+        if !begins_names_at(dashes) {
+            return refuse_words();
+        }
+        words += 1;
+    }
+    if n != words {
+        return refuse_words();
+    }
+    let i = place_of(2, dashes);
+    let j = place_of(3, dashes);
+    let k = place_of(4, dashes);
+    verbs::status_of(merge_at(i, j, k, input, other, out))
+}
+
+// Runs the program on the arguments that it was started with, a verb and the names of files. `input` takes one file and `other` a second one: each has one byte more than
+// the most that a file may have. `out` has as many as that for a merged file, and `table` an entry for each line of a file. The answer is the exit status: 0 all accepted,
+// 1 some file refused, 2 not all was read or written, or wrong words.
 #[no_mangle]
-pub extern "C" fn igc_run(input: &mut [u8], table: &mut [u32]) -> u32 {
+pub extern "C" fn igc_run(
+    input: &mut [u8],
+    other: &mut [u8],
+    out: &mut [u8],
+    table: &mut [u32],
+) -> u32 {
     let n = os::arg_count();
     if n < 2 {
         return refuse_words();
@@ -146,6 +201,7 @@ pub extern "C" fn igc_run(input: &mut [u8], table: &mut [u32]) -> u32 {
     match verb {
         Verb::List => on_files(verb, 2, n, input, table),
         Verb::Check => on_files(verb, 2, n, input, table),
+        Verb::Merge => on_three(n, input, other, out),
         Verb::Help => tell(false, n),
         Verb::Version => tell(true, n),
         Verb::NoVerb => on_files(Verb::List, 1, n, input, table),

@@ -5,10 +5,11 @@ use rules::Flight;
 use rules::Refusal;
 use verbs::Fate;
 
-const USAGE: [u8; 352] = *b"\
-    usage: igc [list] FILE...\n       igc check FILE...\n       igc help | version\n\
+const USAGE: [u8; 475] = *b"\
+    usage: igc [list] FILE...\n       igc check FILE...\n       igc merge FIRST SECOND NEW\n       igc help | version\n\
     list   each file's OK, FIX and COL lines, or why it is refused\n\
     check  one line a file: accepted, with its date and counts, or why it is refused\n\
+    merge  two copies of a file into NEW, with the evening notes of both; NEW must not exist\n\
     Behind -- every word is a file's name.\n\
     Status: 0 all accepted, 1 some file refused, 2 not all was read or written, or wrong words.\n\
 ";
@@ -46,9 +47,23 @@ pub(crate) fn print_refusal(file: &[u8], why: Refusal) -> bool {
     write(&out[..n])
 }
 
+// There is room for two names.
 pub(crate) fn print_refused(name: &[u8], file: &[u8], why: Refusal) -> bool {
-    let mut out = [0u8; 4608];
+    let mut out = [0u8; 9216];
     let n = notice::refused(name, file, why, &mut out);
+    write(&out[..n])
+}
+
+// Why two files are not merged, where that is of neither: it names no line.
+pub(crate) fn print_unmerged(first: &[u8], second: &[u8], why: Refusal) -> bool {
+    let mut names = [0u8; 8704];
+    let n = notice::both(first, second, &mut names);
+    print_refused(&names[..n], b"", why)
+}
+
+pub(crate) fn print_noted(name: &[u8], notes: usize) -> bool {
+    let mut out = [0u8; 4608];
+    let n = notice::noted(name, notes, &mut out);
     write(&out[..n])
 }
 
@@ -59,11 +74,27 @@ pub(crate) fn print_accepted(name: &[u8], flight: Flight) -> bool {
     write(&out[..n])
 }
 
-// With what the system says of it.
-pub(crate) fn say_unopened(name: &[u8]) {
+// What failed, with what the system says of it.
+fn say_failed(name: &[u8], what: &[u8]) {
     let mut out = [0u8; 4608];
-    let n = notice::failed(name, b"cannot be opened", &mut out);
+    let n = notice::failed(name, what, &mut out);
     os::fail(&out[..n]);
+}
+
+pub(crate) fn say_unopened(name: &[u8]) {
+    say_failed(name, b"cannot be opened");
+}
+
+pub(crate) fn say_unmade(name: &[u8]) {
+    say_failed(name, b"cannot be made");
+}
+
+pub(crate) fn say_unfilled(name: &[u8]) {
+    say_failed(name, b"cannot be written whole");
+}
+
+pub(crate) fn say_left(name: &[u8]) {
+    say_failed(name, b"what was written of it cannot be removed");
 }
 
 pub(crate) fn say_unread(name: &[u8]) {

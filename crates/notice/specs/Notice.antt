@@ -55,3 +55,11 @@ RefusedPut name file why out r after = PiecePut out 0 (nameShown name ++ (bytes 
 
 abbrev pub FailedPut : List ℕ → List ℕ → List ℕ → ℕ → List ℕ → Type 0
 FailedPut name why out r after = PiecePut out 0 (nameShown name ++ (bytes ": " ++ why)) r after
+
+-- the names of two files
+abbrev pub BothPut : List ℕ → List ℕ → List ℕ → ℕ → List ℕ → Type 0
+BothPut first second out r after = PiecePut out 0 (nameShown first ++ (bytes " and " ++ nameShown second)) r after
+
+-- a file's notes, counted
+abbrev pub NotedPut : List ℕ → ℕ → List ℕ → ℕ → List ℕ → Type 0
+NotedPut name notes out r after = PiecePut out 0 (nameShown name ++ (bytes ": notes" ++ (shown notes ++ lf))) r after

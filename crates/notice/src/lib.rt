@@ -1,7 +1,7 @@
-// What igc says of a file by its name: the heading of its listing, the line of its check, its refusal explained, why it was not read. Each is put at the start of a lent
-// buffer, and the answer is how many bytes that is; a full buffer takes no more.
+// What igc says of a file by its name: the heading of its listing, the line of its check, its refusal explained, its notes counted, why it was not read. Each is put at the
+// start of a lent buffer, and the answer is how many bytes that is; a full buffer takes no more.
 ghost use Rattle.pieces.specs.Buffer.{PiecePut};
-ghost use Rattle.notice.specs.Notice.{nameShown, counted, countsShown, extrasShown, signedShown, acceptedShown, HeadingPut, AcceptedPut, RefusedPut, FailedPut};
+ghost use Rattle.notice.specs.Notice.{nameShown, counted, countsShown, extrasShown, signedShown, acceptedShown, HeadingPut, AcceptedPut, RefusedPut, FailedPut, BothPut, NotedPut};
 use dates::put_date;
 use pieces::put_byte;
 use pieces::put_shown;
@@ -96,4 +96,23 @@ pub fn failed(name: &[u8], why: &[u8], out: &mut [u8]) -> usize
     let a = put_name(out, 0, name);
     let b = put_text(out, a, b": ");
     put_text(out, b, why)
+}
+
+// The names of two files, for what is said of both.
+pub fn both(first: &[u8], second: &[u8], out: &mut [u8]) -> usize
+    ensures { λ r. ⌜ BothPut (now (first .entry)) (now (second .entry)) (now (out .entry)) r (now (out .exit)) ⌝ }
+{
+    let a = put_name(out, 0, first);
+    let b = put_text(out, a, b" and ");
+    put_name(out, b, second)
+}
+
+// A file's name, and behind it how many notes it has.
+pub fn noted(name: &[u8], notes: usize, out: &mut [u8]) -> usize
+    ensures { λ r. ⌜ NotedPut (now (name .entry)) notes (now (out .entry)) r (now (out .exit)) ⌝ }
+{
+    let a = put_name(out, 0, name);
+    let b = put_text(out, a, b": notes");
+    let c = put_shown(out, b, notes as u64);
+    put_byte(out, c, b'\n')
 }

@@ -45,6 +45,8 @@ rows =
     ∷ row "POSITION" "latitude or longitude against its rule"
     ∷ row "ALTITUDE" "altitude against its rule"
     ∷ row "DATE" "date against its rule"
+    -- "Given two accepted files equal in every byte up to the end of the last G line"; "26 NOT_SAME"
+    ∷ row "NOT_SAME" "files differ before the end of the last G line"
     ∷ []
 
 unfoldable pub names : List (List ℕ)

@@ -5,7 +5,7 @@ use pieces::put_text;
 use rules::Reason;
 
 // The names, that of number 1 first; where the first begins, and where each ends.
-const NAMES: [u8; 169] = *b"\
+const NAMES: [u8; 177] = *b"\
     EMPTY\
     TOO_LONG\
     LINE_END\
@@ -31,9 +31,10 @@ const NAMES: [u8; 169] = *b"\
     POSITION\
     ALTITUDE\
     DATE\
+    NOT_SAME\
 ";
 
-const NAME_ENDS: [usize; 26] = [
+const NAME_ENDS: [usize; 27] = [
     0,
     5,
     13,
@@ -60,10 +61,11 @@ const NAME_ENDS: [usize; 26] = [
     157,
     165,
     169,
+    177,
 ];
 
 // When each number is given, in the same way.
-const MEANINGS: [u8; 624] = *b"\
+const MEANINGS: [u8; 670] = *b"\
     no bytes\
     over the limit\
     first CR or LF is not CR LF, or none comes\
@@ -89,9 +91,10 @@ const MEANINGS: [u8; 624] = *b"\
     latitude or longitude against its rule\
     altitude against its rule\
     date against its rule\
+    files differ before the end of the last G line\
 ";
 
-const MEANING_ENDS: [usize; 26] = [
+const MEANING_ENDS: [usize; 27] = [
     0,
     8,
     22,
@@ -118,6 +121,7 @@ const MEANING_ENDS: [usize; 26] = [
     578,
     603,
     624,
+    670,
 ];
 
 // The number of a refusal, by the table.
@@ -150,6 +154,7 @@ pub fn number(reason: Reason) -> u8
         Reason::Position => 23,
         Reason::Altitude => 24,
         Reason::Date => 25,
+        Reason::NotSame => 26,
     }
 }
 

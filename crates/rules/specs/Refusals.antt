@@ -3,7 +3,7 @@ use Prim.Native.Nat.{ℕ}
 use Rattle.rules.specs.declared.Class.{Class}
 use Rattle.rules.specs.declared.Class.the-variants as class
 use Rattle.rules.specs.declared.Reason.{Reason}
-use Rattle.rules.specs.declared.Reason.the-variants.{Empty, TooLong, LineEnd, EmptyLine, Kind, Order, Length, Character, Form, Tile, Twice, Width, Column, Back, TableFull, EndsEarly, BadValue, NoRoom, Absent, NotNumber, InputOver, Time, Position, Altitude, Date}
+use Rattle.rules.specs.declared.Reason.the-variants.{Empty, TooLong, LineEnd, EmptyLine, Kind, Order, Length, Character, Form, Tile, Twice, Width, Column, Back, TableFull, EndsEarly, BadValue, NoRoom, Absent, NotNumber, InputOver, Time, Position, Altitude, Date, NotSame}
 use Rattle.rules.specs.declared.Refusal.{Refusal}
 use Rattle.rules.specs.declared.Outcome.{Outcome}
 use Rattle.rules.specs.declared.Outcome.the-variants.{Accepted, Refused}
@@ -36,6 +36,8 @@ number Time = 22
 number Position = 23
 number Altitude = 24
 number Date = 25
+-- "26 NOT_SAME"
+number NotSame = 26
 
 -- what an answer says: a value, or the number, line and byte of a refusal
 pub data Said (A : Type 0) : Type 0 where

@@ -27,6 +27,7 @@ pub enum Reason {
     Position,
     Altitude,
     Date,
+    NotSame,
 }
 
 // The classes of fields, by which a field that breaks its rule is refused.

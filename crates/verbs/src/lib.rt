@@ -1,12 +1,13 @@
 // What the words of the program igc mean, and with which status it ends.
 ghost use mathlib.Core.Path.{_≡_};
-ghost use Rattle.verbs.specs.Words.{same, VerbGiven, OptionTest, NamesTest};
+ghost use Rattle.verbs.specs.Words.{same, aboutOf, VerbGiven, OptionTest, NamesTest};
 ghost use Rattle.verbs.specs.Status.{StatusGiven, WorseGiven};
 
 // What is asked of the program; `NoVerb` where the word is none.
 pub enum Verb {
     List,
     Check,
+    Merge,
     Help,
     Version,
     NoVerb,
@@ -38,16 +39,10 @@ fn is_same(a: &[u8], b: &[u8]) -> bool
     true
 }
 
-// The verb that a word is.
-pub fn verb_of(word: &[u8]) -> Verb
-    ensures { λ r. ⌜ VerbGiven (now (word .entry)) r ⌝ }
+// The verb that a word is, of those that are about the program itself.
+fn about(word: &[u8]) -> Verb
+    ensures { λ r. ⌜ r ≡ aboutOf (now (word .entry)) ⌝ }
 {
-    if is_same(word, b"list") {
-        return Verb::List;
-    }
-    if is_same(word, b"check") {
-        return Verb::Check;
-    }
     if is_same(word, b"help") {
         return Verb::Help;
     }
@@ -61,6 +56,22 @@ pub fn verb_of(word: &[u8]) -> Verb
         return Verb::Version;
     }
     Verb::NoVerb
+}
+
+// The verb that a word is.
+pub fn verb_of(word: &[u8]) -> Verb
+    ensures { λ r. ⌜ VerbGiven (now (word .entry)) r ⌝ }
+{
+    if is_same(word, b"list") {
+        return Verb::List;
+    }
+    if is_same(word, b"check") {
+        return Verb::Check;
+    }
+    if is_same(word, b"merge") {
+        return Verb::Merge;
+    }
+    about(word)
 }
 
 // Whether a word begins with a dash, as no file's name does before `--`.

@@ -19,7 +19,7 @@ pub struct Tally {
 }
 
 impl Tally {
-    fn same<T: PartialEq + Debug>(&mut self, operation: &'static str, asked: &dyn Debug, number: u32, ours: T, theirs: T) -> Held<()> {
+    pub fn same<T: PartialEq + Debug>(&mut self, operation: &'static str, asked: &dyn Debug, number: u32, ours: T, theirs: T) -> Held<()> {
         *self.answers.entry(operation).or_default() += 1;
         *self.refusals.entry((operation, number)).or_default() += 1;
         if ours == theirs {
@@ -119,7 +119,7 @@ fn put(words: Option<&str>, size: usize) -> (Told, Vec<u8>) {
 /// The file's refusal in words, and another one, which the check did not give: into a text that has room, one that has just room, and one that is a byte short.
 pub fn in_words(tally: &mut Tally, random: &mut Random, file: &[u8], answer: &Answer<reading::Accepted>) -> Held<()> {
     let met = answer.as_ref().err().copied().unwrap_or(Refusal::of(16));
-    let other = Refusal { number: random.below(24) as u32, line: random.below(9) as u64, byte: random.below(300) as u64 };
+    let other = Refusal { number: random.below(30) as u32, line: random.below(9) as u64, byte: random.below(300) as u64 };
     for r in [met, other] {
         let words = reading::explained(file, &r);
         let length = words.as_deref().map_or(0, str::len);

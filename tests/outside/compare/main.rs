@@ -1,25 +1,29 @@
 //! Holds the library against the independent reading of documents 01 and 02 on generated files, valid and damaged:
 //!     compare [--seed N] [--files N] [--out FILE]
-//! Stops at the first difference, with that file's bytes in FILE. Fails too where some refusal of a file was never met, or some field that a refusal names, or some operation
+//! Stops at the first difference, with that file's bytes, or both copies', in FILE. Fails too where some refusal of a file was never met, or some field that a refusal names, or some operation
 //! never asked.
 
 mod hold;
 #[path = "../library.rs"]
 mod library;
+mod pairs;
 
 use hold::{Held, Tally};
-use outside::files::generate::{self, Line, Sample};
+use outside::files::filled::filled;
+use outside::files::pairs::{Pair, at_limit, many, pair};
 use outside::files::random::Random;
 use outside::files::reached::Reached;
+use outside::files::reached_pairs;
 use outside::files::{Known, Run, examples};
 use outside::options::Options;
-use outside::reading::{LIMIT, Refusal, Role};
+use outside::reading::{LIMIT, Refusal};
 
 /// What was met in a run.
 #[derive(Default)]
 struct Met {
     tally: Tally,
     reached: Reached,
+    pairs: reached_pairs::Reached,
     lines: u64,
     aimed: u64,
 }
@@ -56,25 +60,6 @@ fn wrong_answers(met: &mut Met, file: &[u8]) -> Held<()> {
     Ok(())
 }
 
-/// A valid file of exactly `size` bytes: L lines before its first G fill it up.
-fn filled(random: &mut Random, size: usize) -> Sample {
-    let mut sample = generate::sample(random, size / 90);
-    let mut missing = size - sample.bytes().len();
-    let seal = sample.first(Role::Seal).unwrap();
-    let mut filling = Vec::new();
-    while missing > 0 {
-        let whole = match missing {
-            ..=101 => missing,
-            102..=104 => 50,
-            _ => 101,
-        };
-        filling.push(Line { role: Role::Remark, text: vec![b'L'; whole - 2] });
-        missing -= whole;
-    }
-    sample.lines.splice(seal..seal, filling);
-    sample
-}
-
 /// The listing's file, source document 000's M and N lines, the marked lines, the empty file, a few long ones, one at the limit and one a byte over it.
 fn ends(met: &mut Met, seed: u64, out: &str) {
     let mut random = Random::new(seed ^ 0xE4D5);
@@ -101,6 +86,24 @@ fn ends(met: &mut Met, seed: u64, out: &str) {
     stop_at(held, &over, out);
 }
 
+/// Copies of a file, a quarter as many pairs as there are files; then some with many notes, and some at the size limit.
+fn copies(met: &mut Met, options: &Options) {
+    let mut hold = |pair: &Pair, told: &str| {
+        let held = pairs::pair(&mut met.tally, &mut met.pairs, pair);
+        let both = [&*pair.first, b"== AND ==", &*pair.second].concat();
+        stop_at(held.map_err(|d| format!("pair {told} of seed {}: {d}", options.seed)), &both, &options.out);
+    };
+    for n in 0..options.files / 4 {
+        let mut random = Random::new(options.seed.wrapping_mul(1_000_033).wrapping_add(n));
+        hold(&pair(&mut random, 20, n), &n.to_string());
+    }
+    let mut random = Random::new(options.seed ^ 0x107E5);
+    for count in [200, 700, 1_500, 4_000] {
+        many(&mut random, count).iter().for_each(|pair| hold(pair, &format!("of {count} notes")));
+    }
+    at_limit(&mut random).iter().for_each(|pair| hold(pair, "at the limit"));
+}
+
 /// Ends the run at a difference, with the file kept.
 fn stop_at(held: Held<()>, file: &[u8], out: &str) {
     if let Err(difference) = held {
@@ -122,6 +125,7 @@ fn main() {
         let held = held.and_then(|()| wrong_answers(&mut met, &made.file));
         stop_at(held.map_err(|d| format!("file {n} of seed {}: {d}", options.seed)), &made.file, &options.out);
     }
+    copies(&mut met, &options);
     summary(&met, &options);
 }
 
@@ -137,13 +141,15 @@ fn summary(met: &Met, options: &Options) {
     println!("outside: refusals by number: {}", met.reached.by_number());
     println!("outside: fields that a refusal names, by number, kind of line and byte: {}", met.reached.by_field());
     println!("outside: branches of the rules on layouts: {}", met.reached.by_branch());
+    println!("outside: {} pairs of copies brought together, {} refused: {}", met.pairs.merged, met.pairs.refused, met.pairs.told());
     for (operation, count) in &met.tally.answers {
         let numbers: Vec<String> =
             met.tally.refusals.iter().filter(|((o, _), _)| o == operation).map(|((_, n), c)| format!("{n}: {c}")).collect();
         println!("outside: {operation}: {count} answers held ({})", numbers.join(", "));
     }
     let unasked: Vec<&str> = library::OPERATIONS.into_iter().filter(|o| !met.tally.answers.contains_key(o)).collect();
-    let (never, strange) = (met.reached.never(&[]), met.reached.strange());
+    let (mut never, strange) = (met.reached.never(&[]), met.reached.strange());
+    never.extend(met.pairs.never(true).into_iter().map(str::to_string));
     if !never.is_empty() || !strange.is_empty() || !unasked.is_empty() || accepted == 0 {
         println!("outside: FAILED: accepted {accepted} files, never met {never:?}, met {strange:?}, never asked {unasked:?}");
         std::process::exit(1);

@@ -3,10 +3,13 @@
 mod branches;
 pub mod damage;
 pub mod examples;
+pub mod filled;
 pub mod generate;
 pub mod limits;
+pub mod pairs;
 pub mod random;
 pub mod reached;
+pub mod reached_pairs;
 mod rules;
 
 use crate::reading::layouts::FAMILIES;

@@ -11,6 +11,7 @@ pub mod given;
 pub mod layouts;
 pub mod lines;
 pub mod listing;
+pub mod merge;
 pub mod places;
 pub mod readers;
 pub mod refusals;
@@ -19,10 +20,11 @@ pub mod writers;
 pub use degrees::degrees;
 pub use explained::{explained, name};
 pub use fields::{Date, Position};
-pub use file::{Accepted, LIMIT, check};
+pub use file::{Accepted, LIMIT, check, check_alone};
 pub use given::{column_given, layout_given, write_extra_given, write_layout_given};
 pub use layouts::{Entry, Family, LISTED, Layout, Layouts, Listed};
 pub use lines::{Fix, Head, Point, Role};
+pub use merge::{Unmerged, Which, merge, merge_into};
 pub use places::{line, step};
 pub use readers::{
     read_column, read_date, read_event, read_extra, read_fix, read_head, read_layout, read_number, read_point, read_satellites,

@@ -34,6 +34,7 @@ refusals! {
     23 POSITION "latitude or longitude against its rule"
     24 ALTITUDE "altitude against its rule"
     25 DATE "date against its rule"
+    26 NOT_SAME "files differ before the end of the last G line"
 }
 
 #[derive(Clone, Copy, PartialEq, Eq, Debug)]

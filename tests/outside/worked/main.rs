@@ -7,6 +7,7 @@ mod layouts;
 mod lines;
 mod made;
 mod marked;
+mod merged;
 mod places;
 mod programs;
 mod readers;

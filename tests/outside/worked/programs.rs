@@ -32,11 +32,11 @@ fn listings() {
 #[test]
 fn explanations() {
     assert_eq!(
-        [0, 1, 9, 21, 22, 25, 26].map(name),
-        [None, Some("EMPTY"), Some("FORM"), Some("INPUT_OVER"), Some("TIME"), Some("DATE"), None]
+        [0, 1, 9, 21, 22, 25, 26, 27].map(name),
+        [None, Some("EMPTY"), Some("FORM"), Some("INPUT_OVER"), Some("TIME"), Some("DATE"), Some("NOT_SAME"), None]
     );
     let of = |file: &[u8], number, line, byte| explained(file, &Refusal { number, line, byte });
-    assert_eq!(of(b"", 26, 0, 0), None);
+    assert_eq!(of(b"", 27, 0, 0), None);
     assert_eq!(of(b"", 1, 0, 0).unwrap(), "REFUSED 1 EMPTY: no bytes\n");
     let data = b"AB\r\nC\x00D\nE\r\nF";
     assert_eq!(of(data, 7, 1, 0).unwrap(), "REFUSED 7 LENGTH, line 1: outside its limits\nAB\n");

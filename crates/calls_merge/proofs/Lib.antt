@@ -1,0 +1,3 @@
+-- The call that merges two files; and that its promise has one answer.
+pub mod Laws
+pub mod Only

@@ -1,0 +1,2 @@
+-- What the call that merges two files answers.
+pub mod Calls

@@ -1,0 +1,3 @@
+-- Texts byte by byte.
+pub mod Letters
+pub mod Only

@@ -1,0 +1,2 @@
+-- A text byte by byte.
+pub mod Letters

@@ -1,0 +1,196 @@
+-- Bring evening notes together, what is claimed. Each claim is a line from the room that proves it; its words stand in specs/Evening, in notes (Notes, Merging)
+-- and in sorted (Sorted). Assumes nothing.
+--
+-- The claims are about every answer that the contract of `merge::merge` allows (promise FilesMerged), and by `only-files-merged` that is one. It is told by `mergeSaid`: the first file's
+-- refusal, the second's, 26, 2, 18, in this order, or how many bytes the merged file has.
+use Prim.Native.Nat.{ℕ, _≤_, _<_, max}
+use Prim.Native.Char.{code}
+use mathlib.Core.Bool.{true, false}
+use mathlib.Core.List.{List, [], _∷_, _++_}
+use mathlib.Core.Logic.{_↔_}
+use mathlib.Core.Option.{none}
+use mathlib.Core.Path.{_≡_, sym, _∙_, ap, subst}
+use native.Mathlib.Omega.{arith}
+use lib.ListN.{length, getD, take, drop}
+use Rattle.rules.specs.Refusals.{number, says}
+use Rattle.rules.specs.Choice.{Each}
+use Rattle.rules.specs.Reads.{fixSaid, extraSaid, eventSaid, satellitesSaid, headSaid, pointSaid, columnSaid, columnTextSaid, numberSaid}
+use Rattle.rules.specs.Split.{linesOf}
+use Rattle.rules.specs.Files.{verdict}
+use Rattle.rules.specs.declared.Extra.the-variants as extra
+use Rattle.rules.specs.declared.Flight.{Flight}
+use Rattle.rules.specs.declared.Layouts.{Layouts}
+use Rattle.rules.specs.declared.Reason.the-variants.{NoRoom, NotSame}
+use Rattle.rules.specs.declared.Seal.the-variants as seal
+use Rattle.laws.proofs.Splitting.{textsOf}
+use Rattle.sorted.specs.Sorted.{hit, count, Sorted}
+use Rattle.sorted.proofs.Sorting.{hit-exactly}
+use Rattle.notes.specs.Notes.{notAfter, joined, commonPart, notesIn}
+use Rattle.notes.specs.Merging.{ofNeither}
+use Rattle.notes.proofs.Texts.{texts}
+use Rattle.notes.proofs.Texts as order
+use Rattle.merge.specs.Merge.{Accepted, mergeTold, FilesMerged}
+use Rattle.merge.specs.declared.Brought.{Brought}
+use Rattle.merge.specs.declared.Brought.the-variants as brought
+use Rattle.demands.specs.Coming.{those}
+use Rattle.demands.specs.Grammar.{IsText, IsLLine, joinLines, Meets}
+use Rattle.evening.specs.Evening.{Makes, ReadAlike, SameColumn, sealedPart, numberIn}
+use Rattle.evening.proofs.Making as making
+use Rattle.evening.proofs.Turned as turned
+use Rattle.evening.proofs.Alike as alike
+use Rattle.evening.proofs.Copies as copies
+use Rattle.evening.proofs.NotSame as not-same
+use Rattle.evening.proofs.NeverFull as full
+
+-- ---- what the words mean, apart from how
+
+-- a note is counted where it stands, and nowhere else
+pub counted-exactly : (z x : List ℕ) → (hit notAfter z x ≡ 1) ↔ (z ≡ x)
+counted-exactly = hit-exactly texts
+
+-- "ascending byte order": the first byte that differs decides; "a line that begins another coming first"
+pub byte-decides : (x y z : List ℕ) (a b : ℕ) → a < b → (notAfter (x ++ a ∷ y) (x ++ b ∷ z) ≡ true) × (notAfter (x ++ b ∷ z) (x ++ a ∷ y) ≡ false)
+byte-decides = order.byte-decides
+
+pub beginning-first : (x y : List ℕ) (b : ℕ) → (notAfter x (x ++ b ∷ y) ≡ true) × (notAfter (x ++ b ∷ y) x ≡ false)
+beginning-first = order.beginning-first
+
+-- a file that meets the grammar is cut in two behind its last G line: the common part is its lines up to and with that one, each with its CR LF, and the notes are the L lines behind it
+pub parted : (file : List ℕ) (m : Meets seal.Strict file)
+    → (commonPart (linesOf file) ≡ joinLines (sealedPart (m .parts))) × (notesIn (linesOf file) ≡ m .parts .remarks) × Each (λ l. IsLLine l × IsText l) (notesIn (linesOf file))
+parted file m = (copies.sealed-is file m, copies.notes-is file m, copies.notes-are file m)
+
+-- a merge that is not refused makes a file: the output's first bytes, as many as it says
+pub merged-makes : (first second out : List ℕ) (n : ℕ) (after : List ℕ) → FilesMerged first second out (brought.Whole n) after → Makes first second (take n after)
+merged-makes = making.told-makes
+
+-- "a refusal leaves the output unchanged"
+pub refused-leaves : (first second out : List ℕ) (r : Brought) (after : List ℕ) → FilesMerged first second out r after → ((n : ℕ) → r ≡ brought.Whole n → ⊥) → after ≡ out
+refused-leaves = turned.refused-leaves
+
+-- ---- "The order of the two copies changes no byte, nor does the pairing of three where no step is refused, and no note is lost."
+
+-- the output is the same either way; and where both files are accepted, so is the answer
+pub merged-either-way : (first second out : List ℕ) (r r′ : Brought) (after after′ : List ℕ) → FilesMerged first second out r after → FilesMerged second first out r′ after′
+    → (after ≡ after′) × (Accepted first → Accepted second → r ≡ r′)
+merged-either-way = turned.either-way
+
+pub merged-in-any-pairing : (a b c ab bc abc abc′ : List ℕ) → Makes a b ab → Makes ab c abc → Makes b c bc → Makes a bc abc′ → abc ≡ abc′
+merged-in-any-pairing a b c ab bc abc abc′ p q u v =
+    turned.pairing a b c ab bc abc abc′ (making.makes-made a b ab p) (making.makes-made ab c abc q) (making.makes-made b c bc u) (making.makes-made a bc abc′ v)
+
+module _ (first second file : List ℕ) (w : Makes first second file) where
+  made : making.Made first second file
+  made = making.makes-made first second file w
+
+  -- each note stands as often as in the copy that has it more often; and nothing else stands behind the common part
+  pub merged-keeps : ((z : List ℕ) → count notAfter z (notesIn (linesOf file)) ≡ max (count notAfter z (notesIn (linesOf first))) (count notAfter z (notesIn (linesOf second))))
+      × (file ≡ commonPart (linesOf first) ++ joined (notesIn (linesOf file)))
+  merged-keeps =
+      let n = making.notes-again first second file made in
+      ((λ z. ap (count notAfter z) n ∙ made .together .kept z), made .is ∙ ap (λ (ns : List (List ℕ)). commonPart (linesOf first) ++ joined ns) (sym n))
+
+  -- "in ascending byte order"
+  pub merged-in-order : Sorted notAfter (notesIn (linesOf file))
+  merged-in-order = subst (Sorted notAfter) (sym (making.notes-again first second file made)) (made .together .sorted)
+
+  -- ---- "Demands 2 and 3 read as before."
+
+  -- the merged file is accepted
+  pub merged-accepted : Accepted file
+  merged-accepted = making.accepted-again first second file made
+
+  -- and reads as each copy does, but for the notes
+  pub merged-reads : (f g : Flight) → verdict seal.Strict first none ≡ says f → verdict seal.Strict file none ≡ says g → ReadAlike f (textsOf (linesOf first)) g (textsOf (linesOf file))
+  merged-reads = alike.alike first second file made
+
+  pub merged-reads-second : (f g : Flight) → verdict seal.Strict second none ≡ says f → verdict seal.Strict file none ≡ says g → ReadAlike f (textsOf (linesOf second)) g (textsOf (linesOf file))
+  merged-reads-second = alike.alike second first file (making.made-turned first second file made)
+
+-- whatever is read, with the layouts, of a line that is no note at the end is the same: a fix and its columns, a K line, an event, a line of the declaration
+pub read-alike : {A : Type 0} (f : Flight) (ls : List (List ℕ)) (g : Flight) (ks : List (List ℕ)) (w : ReadAlike f ls g ks) (reader : Layouts → List ℕ → A) (n : ℕ)
+    → n < length (w .common) → reader (g .layouts) (getD ks n []) ≡ reader (f .layouts) (getD ls n [])
+read-alike = alike.read-alike
+
+-- and of the nth line of each kind other than L
+pub nth-alike : {A : Type 0} (f : Flight) (ls : List (List ℕ)) (g : Flight) (ks : List (List ℕ)) (w : ReadAlike f ls g ks) (reader : Layouts → List ℕ → A) (letter : ℕ)
+    → (letter ≡ code "L" → ⊥) → (n : ℕ) → reader (g .layouts) (getD (those letter ks) n []) ≡ reader (f .layouts) (getD (those letter ls) n [])
+nth-alike = alike.nth-alike
+
+-- by name, with the readings of the rules: the nth fix, the nth K line and the nth N line, each with its layout
+module _ (f : Flight) (ls : List (List ℕ)) (g : Flight) (ks : List (List ℕ)) (w : ReadAlike f ls g ks) (n : ℕ) where
+  pub fixes-alike : fixSaid (getD (those (code "B") ks) n []) (g .layouts .b) ≡ fixSaid (getD (those (code "B") ls) n []) (f .layouts .b)
+  fixes-alike = nth-alike f ls g ks w (λ by l. fixSaid l (by .b)) (code "B") (λ e. omega (arith, e)) n
+
+  pub k-lines-alike : extraSaid extra.K (getD (those (code "K") ks) n []) (g .layouts .k) ≡ extraSaid extra.K (getD (those (code "K") ls) n []) (f .layouts .k)
+  k-lines-alike = nth-alike f ls g ks w (λ by l. extraSaid extra.K l (by .k)) (code "K") (λ e. omega (arith, e)) n
+
+  pub n-lines-alike : extraSaid extra.N (getD (those (code "N") ks) n []) (g .layouts .n) ≡ extraSaid extra.N (getD (those (code "N") ls) n []) (f .layouts .n)
+  n-lines-alike = nth-alike f ls g ks w (λ by l. extraSaid extra.N l (by .n)) (code "N") (λ e. omega (arith, e)) n
+
+  -- their columns: where each stands, its text, and its number
+  pub fix-columns-alike : (name : List ℕ) → SameColumn name (getD (those (code "B") ks) n []) (g .layouts .b) (getD (those (code "B") ls) n []) (f .layouts .b)
+  fix-columns-alike name = (
+    nth-alike f ls g ks w (λ by l. columnSaid l (by .b) name) (code "B") (λ e. omega (arith, e)) n,
+    nth-alike f ls g ks w (λ by l. columnTextSaid l (columnSaid l (by .b) name)) (code "B") (λ e. omega (arith, e)) n,
+    nth-alike f ls g ks w (λ by l. numberSaid l (by .b) name) (code "B") (λ e. omega (arith, e)) n,
+  )
+
+  pub k-columns-alike : (name : List ℕ) → SameColumn name (getD (those (code "K") ks) n []) (g .layouts .k) (getD (those (code "K") ls) n []) (f .layouts .k)
+  k-columns-alike name = (
+    nth-alike f ls g ks w (λ by l. columnSaid l (by .k) name) (code "K") (λ e. omega (arith, e)) n,
+    nth-alike f ls g ks w (λ by l. columnTextSaid l (columnSaid l (by .k) name)) (code "K") (λ e. omega (arith, e)) n,
+    nth-alike f ls g ks w (λ by l. numberSaid l (by .k) name) (code "K") (λ e. omega (arith, e)) n,
+  )
+
+  pub n-columns-alike : (name : List ℕ) → SameColumn name (getD (those (code "N") ks) n []) (g .layouts .n) (getD (those (code "N") ls) n []) (f .layouts .n)
+  n-columns-alike name = (
+    nth-alike f ls g ks w (λ by l. columnSaid l (by .n) name) (code "N") (λ e. omega (arith, e)) n,
+    nth-alike f ls g ks w (λ by l. columnTextSaid l (columnSaid l (by .n) name)) (code "N") (λ e. omega (arith, e)) n,
+    nth-alike f ls g ks w (λ by l. numberSaid l (by .n) name) (code "N") (λ e. omega (arith, e)) n,
+  )
+
+  -- the nth event, the nth line of satellites, and the nth line of the declaration, read as its head and as a point
+  pub events-alike : eventSaid (getD (those (code "E") ks) n []) ≡ eventSaid (getD (those (code "E") ls) n [])
+  events-alike = nth-alike f ls g ks w (λ _ l. eventSaid l) (code "E") (λ e. omega (arith, e)) n
+
+  pub satellites-alike : satellitesSaid (getD (those (code "F") ks) n []) ≡ satellitesSaid (getD (those (code "F") ls) n [])
+  satellites-alike = nth-alike f ls g ks w (λ _ l. satellitesSaid l) (code "F") (λ e. omega (arith, e)) n
+
+  pub heads-alike : headSaid (getD (those (code "C") ks) n []) ≡ headSaid (getD (those (code "C") ls) n [])
+  heads-alike = nth-alike f ls g ks w (λ _ l. headSaid l) (code "C") (λ e. omega (arith, e)) n
+
+  pub points-alike : pointSaid (getD (those (code "C") ks) n []) ≡ pointSaid (getD (those (code "C") ls) n [])
+  points-alike = nth-alike f ls g ks w (λ _ l. pointSaid l) (code "C") (λ e. omega (arith, e)) n
+
+-- ---- a file merged with itself is refused by none but 18, and keeps its notes, in order
+
+-- each note stands as often as before, they are in order, and the common part is the same
+pub itself-keeps : (file copy : List ℕ) → Makes file file copy
+    → ((z : List ℕ) → count notAfter z (notesIn (linesOf copy)) ≡ count notAfter z (notesIn (linesOf file)))
+    × Sorted notAfter (notesIn (linesOf copy))
+    × (commonPart (linesOf copy) ≡ commonPart (linesOf file))
+itself-keeps file copy w = (
+  (λ z. omega (arith, merged-keeps file file copy w .0 z)),
+  merged-in-order file file copy w,
+  making.common-again file file copy (making.makes-made file file copy w),
+)
+
+module _ (file out : List ℕ) (r : Brought) (after : List ℕ) (a : Accepted file) (w : FilesMerged file file out r after) where
+  pub merged-with-itself : length file ≤ length out
+      → (r ≡ brought.Whole (length file)) × (copy : List ℕ) × Makes file file copy × (length copy ≡ length file) × (after ≡ copy ++ drop (length file) out)
+  merged-with-itself = turned.own-makes file a out r after w
+
+  pub itself-no-room : length out < length file → (mergeTold r ≡ ofNeither (number NoRoom) 0 0) × (after ≡ out)
+  itself-no-room = turned.own-short file a out r after w
+
+-- ---- 26 exactly where both files are accepted and the common parts differ
+
+pub not-same-exactly : (first second out : List ℕ) (r : Brought) (after : List ℕ) → FilesMerged first second out r after
+    → (mergeTold r ≡ ofNeither (number NotSame) 0 0) ↔ (Accepted first × Accepted second × (commonPart (linesOf first) ≡ commonPart (linesOf second) → ⊥))
+not-same-exactly = not-same.not-same-exactly
+
+-- ---- "No table is lent here .., so 15 isn't met there."
+
+pub never-full : (first second out : List ℕ) (r : Brought) (after : List ℕ) → FilesMerged first second out r after → numberIn (mergeTold r) ≡ 15 → ⊥
+never-full = full.never-full

@@ -1,0 +1,68 @@
+-- Document 02, 'Bring evening notes together': the words of what is demanded of the merge of two files.
+use Prim.Native.Nat.{ℕ}
+use Prim.Native.Char.{code}
+use mathlib.Core.Bool.{cond}
+use mathlib.Core.List.{List, [], _∷_, _++_}
+use mathlib.Core.Path.{_≡_}
+use lib.Dec.{eqb}
+use lib.ListN.{length, getD, drop}
+use Rattle.rules.specs.Choice.{Each}
+use Rattle.rules.specs.Families.{countOf}
+use Rattle.rules.specs.Reads.{columnSaid, columnTextSaid, numberSaid}
+use Rattle.rules.specs.declared.Family.{Family}
+use Rattle.rules.specs.declared.Flight.{Flight}
+use Rattle.rules.specs.declared.Layout.{Layout}
+use Rattle.notes.specs.Merging.{Merged, merged, ofFirst, ofSecond, ofNeither}
+use Rattle.merge.specs.Merge.{FilesMerged}
+use Rattle.merge.specs.declared.Brought.the-variants as brought
+use Rattle.demands.specs.Grammar.{IsLLine, Parts, toldIn}
+use Rattle.demands.specs.Coming.{those}
+
+-- "make one": a merge of the two, into some output, was not refused, and left this file at the output's front
+pub record Makes (first second file : List ℕ) : Type 0 where
+  pub out : List ℕ
+  pub after : List ℕ
+  pub says : FilesMerged first second out (brought.Whole (length file)) after
+  pub left : after ≡ file ++ drop (length file) out
+
+-- the number of what is said, 0 where it is no refusal
+unfoldable pub numberIn : Merged → ℕ
+numberIn (merged n) = 0
+numberIn (ofFirst k l b) = k
+numberIn (ofSecond k l b) = k
+numberIn (ofNeither k l b) = k
+
+-- "up to the end of the last G line": the lines of a file, as the grammar parts them, without the L lines behind the G lines
+abbrev pub sealedPart : Parts → List (List ℕ)
+sealedPart p = p .recorder ∷ p .day ∷ (p .headers ++ (toldIn p ++ (p .body ++ p .seals)))
+
+-- the lines other than L lines
+unfoldable pub withoutL : List (List ℕ) → List (List ℕ)
+withoutL [] = []
+withoutL (l ∷ ls) = cond (eqb (getD l 0 0) (code "L")) (withoutL ls) (l ∷ withoutL ls)
+
+-- two files, of which their checks say f and g and which have these lines, read alike but for the L lines at their ends
+pub record ReadAlike (f : Flight) (ls : List (List ℕ)) (g : Flight) (ks : List (List ℕ)) : Type 0 where
+  -- "the date, the I and J layouts, the count .. of B lines and of K lines", and of N lines
+  pub date : g .date ≡ f .date
+  pub layouts : g .layouts ≡ f .layouts
+  pub counts : (family : Family) → countOf family (g .counts) ≡ countOf family (f .counts)
+  -- the same lines at the front, and L lines behind them
+  pub common : List (List ℕ)
+  pub notes : List (List ℕ)
+  pub others : List (List ℕ)
+  pub lines : ls ≡ common ++ notes
+  pub also : ks ≡ common ++ others
+  pub remarks : Each IsLLine notes
+  pub remarks-too : Each IsLLine others
+  -- so the lines other than L lines are the same in the same order
+  pub unnoted : withoutL ks ≡ withoutL ls
+  -- and those of each kind: the nth B line, K line, N line, E line, F line, the lines of the declaration
+  pub kinds : (letter : ℕ) → (letter ≡ code "L" → ⊥) → those letter ks ≡ those letter ls
+
+-- the column of that code is the same in two lines, each with its layout: where it stands, its text, and its number
+abbrev pub SameColumn : List ℕ → List ℕ → Layout → List ℕ → Layout → Type 0
+SameColumn name k p l q =
+    (columnSaid k p name ≡ columnSaid l q name)
+    × (columnTextSaid k (columnSaid k p name) ≡ columnTextSaid l (columnSaid l q name))
+    × (numberSaid k p name ≡ numberSaid l q name)

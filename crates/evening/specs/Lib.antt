@@ -1,0 +1,2 @@
+-- The words of what is demanded of the merge.
+pub mod Evening

@@ -1,0 +1,105 @@
+// Two copies of a file by their names: merged into a new file, which takes no other file's place.
+use crate::files::read_named;
+use crate::output::fate_of;
+use crate::output::print_noted;
+use crate::output::print_refused;
+use crate::output::print_unmerged;
+use crate::output::say_left;
+use crate::output::say_unfilled;
+use crate::output::say_unmade;
+use merge::Brought;
+use verbs::Fate;
+
+// Whether all of the bytes were written, and have reached the file's device.
+fn is_kept(fd: i32, made: &[u8]) -> bool {
+    if !io::write_all(fd, made) {
+        return false;
+    }
+    libc::fsync(fd) == 0
+}
+
+// The bytes put into a file that is open. What failed is said before the file is closed, while the system still tells it.
+fn fill(name: &[u8], fd: i32, made: &[u8]) -> bool {
+    let kept = is_kept(fd, made);
+    if !kept {
+        say_unfilled(name);
+    }
+    libc::close(fd);
+    kept
+}
+
+// A new file of these bytes; where there is one by that name, it stays as it is. One that cannot be written whole is removed again: cut off behind a note, it would pass for a
+// file that has no more.
+fn make(name: &[u8], made: &[u8]) -> bool {
+    let fd = os::create(name);
+    if fd < 0 {
+        say_unmade(name);
+        return false;
+    }
+    if fill(name, fd, made) {
+        return true;
+    }
+    if os::unlink(name) < 0 {
+        say_left(name);
+    }
+    false
+}
+
+// How many notes each copy has, and the new file.
+fn print_notes(
+    first: &[u8],
+    second: &[u8],
+    new: &[u8],
+    one: &[u8],
+    two: &[u8],
+    made: &[u8],
+) -> bool {
+    if !print_noted(first, common::notes(one)) {
+        return false;
+    }
+    if !print_noted(second, common::notes(two)) {
+        return false;
+    }
+    print_noted(new, common::notes(made))
+}
+
+fn keep(first: &[u8], second: &[u8], new: &[u8], one: &[u8], two: &[u8], made: &[u8]) -> Fate {
+    if !make(new, made) {
+        return Fate::Unwritten;
+    }
+    fate_of(
+        print_notes(first, second, new, one, two, made),
+        Fate::Accepted,
+    )
+}
+
+fn bring(first: &[u8], second: &[u8], new: &[u8], one: &[u8], two: &[u8], out: &mut [u8]) -> Fate {
+    match merge::merge(one, two, out) {
+        Brought::Whole(size) => keep(first, second, new, one, two, &out[..size]),
+        Brought::First(why) => fate_of(print_refused(first, one, why), Fate::Refused),
+        Brought::Second(why) => fate_of(print_refused(second, two, why), Fate::Refused),
+        Brought::Neither(why) => fate_of(print_unmerged(first, second, why), Fate::Refused),
+    }
+}
+
+// The verb merge: the new file is made, and the notes of all three are counted; or why one of the two is refused, or both together, and then no file is made.
+pub(crate) fn merge_named(
+    first: &[u8],
+    second: &[u8],
+    new: &[u8],
+    input: &mut [u8],
+    other: &mut [u8],
+    out: &mut [u8],
+) -> Fate {
+    let one = read_named(first, input);
+    if !one.whole {
+        return Fate::Unread;
+    }
+    let two = read_named(second, other);
+    if !two.whole {
+        return Fate::Unread;
+    }
+    let n = one.count;
+    let k = two.count;
+    bring(first, second, new, &input[..n], &other[..k], out)
+}

@@ -1,0 +1,2 @@
+-- Two files merged.
+pub mod Merge

@@ -1,0 +1,3 @@
+-- The laws of notes.
+pub mod Texts
+pub mod Places

@@ -1,0 +1,3 @@
+-- Runs of notes.
+pub mod Runs
+pub mod Only

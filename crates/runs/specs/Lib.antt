@@ -1,0 +1,2 @@
+-- A run of notes.
+pub mod Runs

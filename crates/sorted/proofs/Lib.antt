@@ -1,0 +1,4 @@
+-- The laws of lists in order.
+pub mod Sorting
+pub mod Pairs
+pub mod Streams

@@ -1,0 +1,3 @@
+-- Lists in order, and how such lists are made.
+pub mod Sorted
+pub mod Ways

@@ -1,0 +1,2 @@
+-- The notes of two slices woven into one.
+pub mod Weave

@@ -1,0 +1,30 @@
+//! Valid files of an exact size.
+
+use super::generate::{self, Line, Sample};
+use super::random::Random;
+use crate::reading::Role;
+
+/// A valid file of exactly `size` bytes: L lines before its first G fill it up.
+pub fn filled(random: &mut Random, size: usize) -> Sample {
+    let mut sample = generate::sample(random, size / 90);
+    let missing = size - sample.bytes().len();
+    let seal = sample.first(Role::Seal).unwrap();
+    sample.lines.splice(seal..seal, remarks(missing));
+    sample
+}
+
+/// L lines that have so many bytes with their CR LF, which are not 1 or 2.
+pub fn remarks(bytes: usize) -> Vec<Line> {
+    let mut missing = bytes;
+    let mut lines = Vec::new();
+    while missing > 0 {
+        let whole = match missing {
+            ..=101 => missing,
+            102..=104 => 50,
+            _ => 101,
+        };
+        lines.push(Line { role: Role::Remark, text: vec![b'L'; whole - 2] });
+        missing -= whole;
+    }
+    lines
+}
