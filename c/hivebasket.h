@@ -16,7 +16,7 @@
 
    THE ANSWER is HIVE_ANSWER numbers, of every function but hive_degrees:
        answer[0], answer[1]   line and byte of a refusal, counted from 1; 0 where none is told, and where the call is good
-       answer[2] and on       the values, named with each function; all 0 where refused; 0 where no value is named
+       answer[2] and on       the values, named with each function; all 0 where refused, but for HIVE_WHOSE of hive_merge; 0 where no value is named
    An answer of another length (or heights, a number or degrees of another length than is said) is refused with 17 at once, and then nothing that is lent is changed.
 
    PLACES that lead into memory are told by how many bytes stand before them: text + answer[HIVE_START]. Bytes of refusals and of layouts count from 1.
@@ -109,9 +109,10 @@ uint32_t hive_step(const uint8_t *file, size_t file_length,
                    uint64_t *answer, size_t answer_length);
 
 /* Two copies of a file merged into an output: everything up to the end of the last G line, which both must have in common, then the L lines behind it in ascending byte
-   order, each as often as in the copy that has it more often. The order of the copies changes no byte. Refused with what hive_check refuses of the first file, then of the
-   second (without 15), with line and byte; then HIVE_NOT_SAME where the bytes up to the end of the last G lines differ, HIVE_TOO_LONG where the merged file is, and
-   HIVE_NO_ROOM where the output is shorter. out is unchanged where refused; its bytes behind the merged file stay.
+   order, a line that begins another first, each as often as in the copy that has it more often. The order of the copies changes no byte. Refused with what hive_check
+   refuses of the first file, then of the second (without 15), with line and byte; then HIVE_NOT_SAME where the bytes up to the end of the last G lines differ, HIVE_TOO_LONG
+   where the merged file would be over 16,777,216 bytes (HIVE_WHOSE tells it from that of a file), and HIVE_NO_ROOM where out is shorter than it, these three with line 0 and
+   byte 0. out is unchanged where refused; its bytes behind the merged file stay.
        2 length of the merged file  3 whose the refusal is, told where refused: 1 the first file's, 2 the second's, 0 of neither */
 enum { HIVE_MERGED_LENGTH = 2, HIVE_WHOSE = 3 };
 uint32_t hive_merge(const uint8_t *first, size_t first_length,

@@ -27,7 +27,7 @@ pub extern "C" fn hive_step(file: &[u8], place: usize, answer: &mut [u64]) -> u3
     calls_place::step(file, place, answer)
 }
 
-// Two files merged into an output.
+// Two files merged into an output: the length, or the refusal and whose it is (1, 2, or 0 for neither). 17 where the answer has another length; then nothing is changed.
 #[no_mangle]
 pub extern "C" fn hive_merge(first: &[u8], second: &[u8], out: &mut [u8], answer: &mut [u64]) -> u32
     ensures { λ r. ⌜ MergeAnswered (now (first .entry)) (now (second .entry)) (now (out .entry)) (now (answer .entry)) r (now (out .exit)) (now (answer .exit)) ⌝ }

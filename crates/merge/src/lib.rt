@@ -11,7 +11,7 @@ use rules::Refusal;
 use rules::Seal;
 use weave::Woven;
 
-// How many bytes the merged file has; or a refusal: of the first file, of the second, or of neither.
+// How many bytes the merged file has; or a refusal: of the first file, of the second, or of neither (26, 2 or 18, with line 0 and byte 0).
 pub enum Brought {
     Whole(usize),
     First(Refusal),
@@ -61,8 +61,9 @@ fn bring(first: &[u8], second: &[u8], out: &mut [u8]) -> Brought
     }
 }
 
-// Two copies of a file merged: everything up to the end of the last G line, then the L lines behind it in ascending order, each as often as in the copy that has it more often. Both are
-// checked first. The output is unchanged where refused; bytes past the merged file stay.
+// Two copies of a file merged: everything up to the end of the last G line, then the L lines behind it in ascending byte order, a line that begins another first, each as
+// often as in the copy that has it more often; how many bytes these are. Refused with the first file's refusal, then the second's, 26 where the bytes up to the end of the
+// last G lines differ, 2 where the merged file is over 16,777,216 bytes, 18 where the output is shorter. The output is unchanged where refused; bytes past the merged file stay.
 pub fn merge(first: &[u8], second: &[u8], out: &mut [u8]) -> Brought
     ensures { λ r. ⌜ FilesMerged (now (first .entry)) (now (second .entry)) (now (out .entry)) r (now (out .exit)) ⌝ }
 {
