@@ -8,10 +8,15 @@
 #define TEXT(s) (const uint8_t *)(s), strlen(s)
 
 static const char FIVE[] = "AXYZ001\r\nHFDTE150724\r\nI023638FXA3940SIU\r\nB1200005130000N00015000WA001000012001208\r\nGABC\r\n";
+/* An M line and an N line beside them; the column is an unlisted one. */
+static const char SEVEN[] =
+    "AXYZ001\r\nHFDTE150724\r\nI023638FXA3940SIU\r\nM010811HRT\r\nB1200005130000N00015000WA001000012001208\r\nN1200050072\r\nGABC\r\n";
 static const char I[] = "I023638FXA3940SIU";
 static const char J[] = "J010810HDT";
+static const char M[] = "M010811HRT";
 static const char B[] = "B1200005130000N00015000WA001000012001208";
 static const char K[] = "K120005123";
+static const char N[] = "N1200050072";
 
 /* Filled with 9 before each call, so that what a call leaves is seen. */
 static uint64_t answer[HIVE_ANSWER];
@@ -85,6 +90,8 @@ static void files(void) {
         printf(i < 5 ? "%u " : "%u\n", (unsigned)table[i]);
     say("check, table of 2", hive_check(TEXT(FIVE), table, 2, answer, HIVE_ANSWER));
     say("check, nothing", hive_check(NULL, 0, NULL, 0, answer, HIVE_ANSWER));
+    uint32_t more[7];
+    say("check, with an N line", hive_check(TEXT(SEVEN), more, 7, answer, HIVE_ANSWER));
     say("line 4", hive_line(TEXT(FIVE), table, 5, 4, answer, HIVE_ANSWER));
     say("line 0", hive_line(TEXT(FIVE), table, 5, 0, answer, HIVE_ANSWER));
     say("line 6 of 5", hive_line(TEXT(FIVE), table, 5, 6, answer, HIVE_ANSWER));
@@ -109,16 +116,25 @@ static void lines(void) {
     say("extra at 60 minutes", hive_extra(TEXT("K126000123"), TEXT(J), answer, HIVE_ANSWER));
     say("extra by an I line", hive_extra(TEXT(K), TEXT(I), answer, HIVE_ANSWER));
     say("extra, a B line", hive_extra(TEXT(B), TEXT(J), answer, HIVE_ANSWER));
+    say("extra, an E line", hive_extra(TEXT("E120000ABC"), TEXT(J), answer, HIVE_ANSWER));
+    say("extra, an N line", hive_extra(TEXT(N), TEXT(M), answer, HIVE_ANSWER));
+    say("extra, an N line with no M line", hive_extra(TEXT(N), NULL, 0, answer, HIVE_ANSWER));
+    say("extra, an N line by a J line", hive_extra(TEXT("N120005123"), TEXT(J), answer, HIVE_ANSWER));
+    say("extra, a K line by an M line", hive_extra(TEXT("K1200050072"), TEXT(M), answer, HIVE_ANSWER));
     say("column SIU", hive_column(TEXT(B), TEXT(I), 'S', 'I', 'U', answer, HIVE_ANSWER));
     say("column HDT", hive_column(TEXT(K), TEXT(J), 'H', 'D', 'T', answer, HIVE_ANSWER));
+    say("column HRT", hive_column(TEXT(N), TEXT(M), 'H', 'R', 'T', answer, HIVE_ANSWER));
     say("column ENL", hive_column(TEXT(B), TEXT(I), 'E', 'N', 'L', answer, HIVE_ANSWER));
     say_number("number FXA", hive_column_number(TEXT(B), TEXT(I), 'F', 'X', 'A', answer, HIVE_ANSWER, number, HIVE_NUMBER));
+    say_number("number HRT", hive_column_number(TEXT(N), TEXT(M), 'H', 'R', 'T', answer, HIVE_ANSWER, number, HIVE_NUMBER));
     say_number("number -05", hive_column_number(TEXT("B1200005130000N00015000WA0010000120-05"), TEXT("I013638ZZZ"), 'Z', 'Z', 'Z', answer, HIVE_ANSWER, number, HIVE_NUMBER));
     say_number("number AB1", hive_column_number(TEXT("B1200005130000N00015000WA0010000120AB1"), TEXT("I013638ZZZ"), 'Z', 'Z', 'Z', answer, HIVE_ANSWER, number, HIVE_NUMBER));
     say_number("number, 2 of them", hive_column_number(TEXT(B), TEXT(I), 'F', 'X', 'A', answer, HIVE_ANSWER, number, 2));
     say("column at 2", hive_column_at(TEXT(I), 2, answer, HIVE_ANSWER));
     say("column at 3", hive_column_at(TEXT(I), 3, answer, HIVE_ANSWER));
     say("column at 0", hive_column_at(TEXT(J), 0, answer, HIVE_ANSWER));
+    say("column at 1 of an M line", hive_column_at(TEXT(M), 1, answer, HIVE_ANSWER));
+    say("column of an M line from 36", hive_column_at(TEXT("M013638HRT"), 1, answer, HIVE_ANSWER));
     say("column of a bad line", hive_column_at(TEXT("I023638FXA4041SIU"), 1, answer, HIVE_ANSWER));
     say("column 13 of a bad line", hive_column_at(TEXT("I023638FXA4041SIU"), 13, answer, HIVE_ANSWER));
     say("column 14 of a bad line", hive_column_at(TEXT("I023638FXA4041SIU"), 14, answer, HIVE_ANSWER));
@@ -126,6 +142,7 @@ static void lines(void) {
     say("presence", hive_presence(TEXT(I), answer, HIVE_ANSWER));
     say("presence of none", hive_presence(NULL, 0, answer, HIVE_ANSWER));
     say("presence of a J line", hive_presence(TEXT(J), answer, HIVE_ANSWER));
+    say("presence of an M line", hive_presence(TEXT(M), answer, HIVE_ANSWER));
     say_degrees("degrees", hive_degrees(3090000, 'N', 15000, 'W', degrees, HIVE_DEGREES));
     say_degrees("degrees, 0 S", hive_degrees(0, 'S', 10800000, 'E', degrees, HIVE_DEGREES));
     say_degrees("degrees, too many", hive_degrees(5400001, 'N', 15000, 'W', degrees, HIVE_DEGREES));
@@ -157,9 +174,16 @@ static void writers(void) {
     say_out("write fix, no validity", hive_write_fix(43200, 3090000, 'N', 15000, 'W', 'X', -12, 120, TEXT("01208"), TEXT(I), 3, out, 44, answer, HIVE_ANSWER));
     say_out("write fix by a J line", hive_write_fix(43200, 3090000, 'N', 15000, 'W', 'A', -12, 120, TEXT("01208"), TEXT(J), 3, out, sizeof out, answer, HIVE_ANSWER));
     say_out("write fix, answer of 15", hive_write_fix(43200, 3090000, 'N', 15000, 'W', 'A', -12, 120, TEXT("01208"), TEXT(I), 3, out, sizeof out, answer, 15));
-    say_out("write extra", hive_write_extra(43205, TEXT("123"), TEXT(J), 0, out, sizeof out, answer, HIVE_ANSWER));
-    say_out("write extra, its column too short", hive_write_extra(43205, TEXT("12"), TEXT(J), 0, out, sizeof out, answer, HIVE_ANSWER));
+    say_out("write extra", hive_write_extra('K', 43205, TEXT("123"), TEXT(J), 0, out, sizeof out, answer, HIVE_ANSWER));
+    say_out("write extra, its column too short", hive_write_extra('K', 43205, TEXT("12"), TEXT(J), 0, out, sizeof out, answer, HIVE_ANSWER));
+    say_out("write extra, an N line", hive_write_extra('N', 43205, TEXT("0072"), TEXT(M), 1, out, sizeof out, answer, HIVE_ANSWER));
+    say_out("write extra, an N line by a J line", hive_write_extra('N', 43205, TEXT("123"), TEXT(J), 0, out, sizeof out, answer, HIVE_ANSWER));
+    say_out("write extra, a B line", hive_write_extra('B', 43205, TEXT("123"), TEXT(J), 0, out, sizeof out, answer, HIVE_ANSWER));
+    say_out("write extra, an L line", hive_write_extra('L', 43205, NULL, 0, NULL, 0, 0, out, sizeof out, answer, HIVE_ANSWER));
+    say_out("write extra, answer of 15", hive_write_extra('N', 43205, TEXT("0072"), TEXT(M), 1, out, sizeof out, answer, 15));
     say_out("write layout", hive_write_layout(TEXT(I), 2, out, sizeof out, answer, HIVE_ANSWER));
+    say_out("write layout, an M line", hive_write_layout(TEXT(M), 2, out, sizeof out, answer, HIVE_ANSWER));
+    say_out("write layout, an M line from 36", hive_write_layout(TEXT("M013638HRT"), 2, out, sizeof out, answer, HIVE_ANSWER));
     say_out("write layout, no room", hive_write_layout(TEXT(J), 37, out, sizeof out, answer, HIVE_ANSWER));
     say_out("write layout, a gap", hive_write_layout(TEXT("I023638FXA4041SIU"), 60, out, sizeof out, answer, HIVE_ANSWER));
     say_out("write layout, a B line", hive_write_layout(TEXT(B), 0, out, sizeof out, answer, HIVE_ANSWER));

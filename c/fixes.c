@@ -44,9 +44,10 @@ static void print_file(const uint8_t *file, size_t length, uint32_t *table, size
                (unsigned long long)answer[HIVE_REFUSED_BYTE]);
         return;
     }
-    printf("OK %llu %llu %llu %llu %llu\n", (unsigned long long)answer[HIVE_LINES], (unsigned long long)answer[HIVE_B_LINES],
+    printf("OK %llu %llu %llu %llu %llu %llu %llu\n", (unsigned long long)answer[HIVE_LINES], (unsigned long long)answer[HIVE_B_LINES],
            (unsigned long long)answer[HIVE_K_LINES], (unsigned long long)answer[HIVE_B_LENGTH],
-           (unsigned long long)answer[HIVE_K_LENGTH]);
+           (unsigned long long)answer[HIVE_K_LENGTH], (unsigned long long)answer[HIVE_N_LINES],
+           (unsigned long long)answer[HIVE_N_LENGTH]);
     struct text layout = {file, 0};
     uint64_t count = answer[HIVE_LINES];
     for (uint64_t n = 1; n <= count; n++) {

@@ -21,8 +21,8 @@
 
    PLACES that lead into memory are told by how many bytes stand before them: text + answer[HIVE_START]. Bytes of refusals and of layouts count from 1.
 
-   A LINE is given without its CR LF. A LAYOUT is given as the text of the file's own I line, for B lines, or J line, for K lines; length 0 says that the file has no such
-   line. One that is of the other kind, or breaks a rule, is 17. (hive_column_at and hive_write_layout take that line itself: length 0 is 17 there, and hive_column_at
+   A LINE is given without its CR LF. A LAYOUT is given as the text of the file's own I line, for B lines, J line, for K lines, or M line, for N lines; length 0 says that
+   the file has no such line. One that is of another kind, or breaks a rule, is 17. (hive_column_at and hive_write_layout take that line itself: length 0 is 17 there, and hive_column_at
    tells what the line is refused for.) */
 #ifndef HIVEBASKET_H
 #define HIVEBASKET_H
@@ -73,7 +73,7 @@ enum { HIVE_REFUSED_LINE = 0, HIVE_REFUSED_BYTE = 1 };
 
 /* The check of a whole file, with the table of its lines' offsets. Refused with 1 to 16 or 22 to 25. The table's first entries are set for the lines before the faulty
    one (16 or good: for all lines); the others stay.
-       2 day  3 month  4 year  5 lines  6 B lines  7 K lines  8 bytes of a B line  9 bytes of a K line */
+       2 day  3 month  4 year  5 lines  6 B lines  7 K lines  8 bytes of a B line  9 bytes of a K line  10 N lines  11 bytes of an N line */
 enum {
     HIVE_DAY = 2,
     HIVE_MONTH = 3,
@@ -82,7 +82,9 @@ enum {
     HIVE_B_LINES = 6,
     HIVE_K_LINES = 7,
     HIVE_B_LENGTH = 8,
-    HIVE_K_LENGTH = 9
+    HIVE_K_LENGTH = 9,
+    HIVE_N_LINES = 10,
+    HIVE_N_LENGTH = 11
 };
 uint32_t hive_check(const uint8_t *file, size_t file_length,
                     uint32_t *table, size_t table_length,
@@ -125,13 +127,13 @@ uint32_t hive_fix(const uint8_t *line, size_t line_length,
                   uint64_t *answer, size_t answer_length,
                   int32_t *heights, size_t heights_length);
 
-/* The time of a K line.
+/* The time of a K line by a J line, or of an N line by an M line: which of the two is told by the line's first byte.
        2 seconds of the day */
 uint32_t hive_extra(const uint8_t *line, size_t line_length,
                    const uint8_t *layout, size_t layout_length,
                    uint64_t *answer, size_t answer_length);
 
-/* Where the column of a code, any three bytes, stands in a B or K line. After the line's refusals, 19.
+/* Where the column of a code, any three bytes, stands in a B, K or N line. After the line's refusals, 19.
        2 start  3 length */
 enum { HIVE_COLUMN_LENGTH = 3 };
 uint32_t hive_column(const uint8_t *line, size_t line_length,
@@ -147,8 +149,8 @@ uint32_t hive_column_number(const uint8_t *line, size_t line_length,
                             uint64_t *answer, size_t answer_length,
                             int64_t *number, size_t number_length);
 
-/* Column n, counted from 1, of an I or J line. 17 where n is 0 or over 13, and for another kind; then 7 to 12 with the byte; then 17 where n is past the line's columns.
-       2, 3, 4 the code  5 first byte  6 last byte, in a B or K line, counted from 1 */
+/* Column n, counted from 1, of an I, J or M line. 17 where n is 0 or over 13, and for another kind; then 7 to 12 with the byte; then 17 where n is past the line's columns.
+       2, 3, 4 the code  5 first byte  6 last byte, in a B, K or N line, counted from 1 */
 enum { HIVE_CODE = 2, HIVE_FIRST = 5, HIVE_LAST = 6 };
 uint32_t hive_column_at(const uint8_t *layout, size_t layout_length,
                         size_t n,
@@ -182,15 +184,16 @@ uint32_t hive_write_fix(uint32_t seconds,
                         uint8_t *out, size_t out_length,
                         uint64_t *answer, size_t answer_length);
 
-/* A K line; columns is all that stands behind its first 7 bytes. */
-uint32_t hive_write_extra(uint32_t seconds,
+/* A K or an N line; columns is all that stands behind its first 7 bytes. The kind is the line's letter, 'K' or 'N', and any other is 17. */
+uint32_t hive_write_extra(uint8_t kind,
+                         uint32_t seconds,
                          const uint8_t *columns, size_t columns_length,
                          const uint8_t *layout, size_t layout_length,
                          size_t place,
                          uint8_t *out, size_t out_length,
                          uint64_t *answer, size_t answer_length);
 
-/* An I or J line, given as its text: the line and its CR LF, where it tells a layout. */
+/* An I, J or M line, given as its text: the line and its CR LF, where it tells a layout. */
 uint32_t hive_write_layout(const uint8_t *layout, size_t layout_length,
                            size_t place,
                            uint8_t *out, size_t out_length,

@@ -46,7 +46,7 @@ pub fn refused_at(reason: Reason, byte: u32) -> Judged
 fn timed_at(t: u32, st: State) -> Judged
     ensures { λ r. ⌜ JudgedTold (timed t st) r ⌝ }
 {
-    if order::is_back(st.clock, t) {
+    if clock::is_back(st.clock, t) {
         return refused_at(Reason::Back, 2);
     }
     passed(state::clocked_to(t, st))

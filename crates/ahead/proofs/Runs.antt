@@ -16,14 +16,14 @@ use Rattle.rules.specs.Roles.{afterH, inBody}
 use Rattle.rules.specs.declared.Seal.{Seal}
 use Rattle.rules.specs.declared.State.{State}
 use Rattle.rules.proofs.Inverse.{and-inv}
-use Rattle.state.specs.Turns.{Passed, entry, EntryPut, Here}
-use Rattle.state.proofs.Counts.{lines-counted}
-use Rattle.state.proofs.Turns.{put-so, put-fits, put-long, here-next}
+use Rattle.enter.specs.Turns.{Passed, entry, EntryPut, Here}
+use Rattle.enter.proofs.Counts.{lines-counted}
+use Rattle.enter.proofs.Turns.{put-so, put-fits, put-long, here-next}
 use Rattle.sure.specs.Sure.{patternOf}
+use Rattle.clock.specs.declared.Pace.{Pace}
+use Rattle.clock.specs.declared.Taken.{Taken}
+use Rattle.clock.specs.declared.Taken.the-variants as taken
 use Rattle.pace.specs.Paces.{paced, Going, Takes, TakenAs}
-use Rattle.pace.specs.declared.Pace.{Pace}
-use Rattle.pace.specs.declared.Taken.{Taken}
-use Rattle.pace.specs.declared.Taken.the-variants as taken
 use Rattle.ahead.specs.Runs.{Ran}
 use Rattle.ahead.specs.declared.Ahead.{Ahead}
 

@@ -14,7 +14,7 @@ use Rattle.rules.specs.declared.Layout.{Layout}
 use Rattle.rules.specs.declared.Seal.{Seal}
 use Rattle.rules.specs.declared.State.{State}
 use Rattle.state.specs.States.{Few}
-use Rattle.state.specs.Turns.{Here}
+use Rattle.enter.specs.Turns.{Here}
 use Rattle.sure.specs.Sure.{patternOf}
 use Rattle.ahead.specs.declared.Ahead.{Ahead}
 use Rattle.ahead.specs.declared.Gauge.{Gauge}

@@ -11,8 +11,8 @@ ghost use Rattle.rules.specs.declared.Family.the-variants as family;
 ghost use Rattle.state.specs.States.{Few};
 ghost use Rattle.pace.specs.Paces.{paced, Known};
 ghost use Rattle.ahead.specs.Runs.{MayRun, AllAllowed, Gauged, Ran};
-use pace::Pace;
-use pace::Taken;
+use clock::Pace;
+use clock::Taken;
 use rules::Extra;
 use rules::Family;
 use rules::Layout;
@@ -77,7 +77,7 @@ fn run_lines(
         let Taken::Next(next) = pace::take_line(file, p, b, fixes, k, extras, n, unsigned) else {
             return ahead_at(p, st);
         };
-        if !state::put_entry(lent, table, p.lines as usize, p.at as u32) {
+        if !enter::put_entry(lent, table, p.lines, p.at as u32) {
             return ahead_at(p, st);
         }
         p = next;

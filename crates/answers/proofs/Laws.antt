@@ -1,15 +1,15 @@
 -- An answer that is given, or is of another length; what stands beside it; and numbers stored one after the other. Assumes nothing.
-use Prim.Native.Nat.{ℕ, _+_, _≤_, _<_}
+use Prim.Native.Nat.{ℕ, zero, suc, _+_, _-_, _≤_, _<_}
 use native.Mathlib.Numerals.{add-one}
 use native.Mathlib.Omega.{arith}
 use mathlib.Core.Bool.{Bool, true, false, _&&_}
 use mathlib.Core.List.{List, [], _∷_}
-use mathlib.Core.Path.{_≡_, refl, sym, _∙_}
+use mathlib.Core.Path.{_≡_, refl, sym, _∙_, ap}
 use lib.ListN.{length, take, set, getD}
 use lib.Seq.{take-suc, take-suc-set, take-all}
 use borrow.Author.Tests.{eq-eqb, ne-eqb}
 use Rattle.rules.specs.Refusals.{Said}
-use Rattle.answers.specs.Answers.{size, inNumbers, hasRoom, Answered, AnswerGiven}
+use Rattle.answers.specs.Answers.{size, filled, accepting, inNumbers, hasRoom, Answered, AnswerGiven}
 use Rattle.answers.specs.declared.Numbers.{Numbers}
 
 -- ---- numbers stored one after the other
@@ -21,6 +21,34 @@ one-more l vs i e h k = rw (add-one, take-suc-set l i (getD vs i 0) h, take-suc 
 -- all are
 pub all-stored : (l vs : List ℕ) (n i : ℕ) → take i l ≡ take i vs → length l ≡ n → length vs ≡ n → n ≤ i → l ≡ vs
 all-stored l vs n i e h k g = sym (take-all i l (omega arith)) ∙ e ∙ take-all i vs (omega arith)
+
+-- ---- values stored behind the first two numbers
+
+filled-more : (n : ℕ) (l : List ℕ) (i : ℕ) → i < n → i < length l → set (filled n (take i l)) i (getD l i 0) ≡ filled n (take (suc i) l)
+filled-more zero l i h k = absurd (omega arith)
+filled-more (suc n) [] i h k = absurd (omega arith)
+filled-more (suc n) (v ∷ l) zero h k = refl
+filled-more (suc n) (v ∷ l) (suc i) h k = ap (λ (m : List ℕ). v ∷ m) (filled-more n l i (omega arith) (omega arith))
+
+filled-enough : (n : ℕ) (l : List ℕ) (i : ℕ) → n ≤ i → filled n (take i l) ≡ filled n l
+filled-enough zero l i h = refl
+filled-enough (suc n) l zero h = absurd (omega arith)
+filled-enough (suc n) [] (suc i) h = refl
+filled-enough (suc n) (v ∷ l) (suc i) h = ap (λ (m : List ℕ). v ∷ m) (filled-enough n l i (omega arith))
+
+module _ (all values : List ℕ) (i : ℕ) (e : all ≡ filled size (0 ∷ 0 ∷ take i values)) where
+  -- one value more
+  pub value-more : i < size - 2 → i < length values → set all (i + 2) (getD values i 0) ≡ filled size (0 ∷ 0 ∷ take (i + 1) values)
+  value-more h k =
+      let m : i + 2 ≡ suc (suc i) = omega arith in
+      rw (e, m, add-one) (ap (λ (m : List ℕ). 0 ∷ 0 ∷ m) (filled-more (size - 2) values i h k))
+
+  -- all of them, or as many as there is room for
+  pub values-all : length values ≤ i → record { number = 0; values = all } ≡ accepting values
+  values-all h = rw (e, take-all i values h)
+
+  pub values-most : size - 2 ≤ i → record { number = 0; values = all } ≡ accepting values
+  values-most h = rw (e, filled-enough (size - 2) values i h)
 
 -- ---- an answer given, or of another length
 

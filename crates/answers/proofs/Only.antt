@@ -3,9 +3,10 @@ use Prim.Native.Nat.{ℕ}
 use mathlib.Core.Bool.{Bool}
 use mathlib.Core.List.{List}
 use mathlib.Core.Path.{_≡_, sym, _∙_}
+use Rattle.rules.specs.declared.PresenceRead.{PresenceRead}
 use Rattle.rules.specs.declared.Refusal.{Refusal}
 use Rattle.rules.specs.declared.TimeRead.{TimeRead}
-use Rattle.answers.specs.Answers.{Answered, AnswerGiven, RefusalNumber, RefusalNumbers, ValueNumbers, TimeNumbers, BytesBetween}
+use Rattle.answers.specs.Answers.{Answered, AnswerGiven, RefusalNumber, RefusalNumbers, ValueNumbers, TimeNumbers, PresenceNumbers, BytesBetween}
 use Rattle.answers.specs.declared.Numbers.{Numbers}
 
 module _ (answer : List ℕ) (r r′ : ℕ) (after after′ : List ℕ) where
@@ -26,6 +27,9 @@ only-value-numbers values r r′ e e′ = e ∙ sym e′
 
 pub only-time-numbers : (read : TimeRead) (r r′ : Numbers) → TimeNumbers read r → TimeNumbers read r′ → r ≡ r′
 only-time-numbers read r r′ e e′ = e ∙ sym e′
+
+pub only-presence-numbers : (read : PresenceRead) (r r′ : Numbers) → PresenceNumbers read r → PresenceNumbers read r′ → r ≡ r′
+only-presence-numbers read r r′ e e′ = e ∙ sym e′
 
 pub only-bytes-between : (from to r r′ : ℕ) → BytesBetween from to r → BytesBetween from to r′ → r ≡ r′
 only-bytes-between from to r r′ e e′ = e ∙ sym e′

@@ -6,9 +6,12 @@ use mathlib.Core.Path.{_≡_}
 use lib.Dec.{eqb}
 use lib.ListN.{length}
 use Rattle.rules.specs.Refusals.{Said, says, refuses, number}
+use Rattle.rules.specs.Layouts.{presenceTold}
 use Rattle.rules.specs.Reads.{timeReadTold}
 use Rattle.rules.specs.declared.Outcome.{Outcome}
 use Rattle.rules.specs.declared.Outcome.the-variants as outcome
+use Rattle.rules.specs.declared.Presence.{Presence}
+use Rattle.rules.specs.declared.PresenceRead.{PresenceRead}
 use Rattle.rules.specs.declared.Refusal.{Refusal}
 use Rattle.rules.specs.declared.TimeRead.{TimeRead}
 use Rattle.answers.specs.declared.Numbers.{Numbers}
@@ -62,6 +65,10 @@ pub record Answered (fits : Bool) (answer : List ℕ) (n : Numbers) (r : ℕ) (a
 abbrev pub timeNumbers : ℕ → List ℕ
 timeNumbers t = t ∷ []
 
+-- the presence word and its count
+abbrev pub presenceNumbers : Presence → List ℕ
+presenceNumbers p = p .word ∷ p .count ∷ []
+
 -- ---- the promises of this crate's functions
 
 abbrev pub AnswerGiven : List ℕ → Numbers → ℕ → List ℕ → Type 0
@@ -78,6 +85,9 @@ ValueNumbers values r = r ≡ accepting values
 
 abbrev pub TimeNumbers : TimeRead → Numbers → Type 0
 TimeNumbers read r = r ≡ inNumbers timeNumbers (timeReadTold read)
+
+abbrev pub PresenceNumbers : PresenceRead → Numbers → Type 0
+PresenceNumbers read r = r ≡ inNumbers presenceNumbers (presenceTold read)
 
 abbrev pub BytesBetween : ℕ → ℕ → ℕ → Type 0
 BytesBetween from to r = r ≡ to - from

@@ -1,13 +1,16 @@
 // The lent answer of a call from C: its numbers, of which the first two tell a refusal's line and byte and the others the values.
 ghost use mathlib.Core.Path.{_≡_};
-ghost use mathlib.Core.List.{_∷_, []};
 ghost use lib.ListN.{length};
-ghost use Rattle.answers.specs.Answers.{size, RefusalNumber, RefusalNumbers, ValueNumbers, TimeNumbers, AnswerGiven, BytesBetween};
+ghost use Rattle.answers.specs.Answers.{size, RefusalNumber, RefusalNumbers, ValueNumbers, TimeNumbers, PresenceNumbers, AnswerGiven, BytesBetween};
+use rules::PresenceRead;
 use rules::Refusal;
 use rules::TimeRead;
 
 // How many numbers an answer has.
 pub const SIZE: usize = 16;
+
+// How many of them are values: behind the line and the byte of a refusal.
+const VALUES: usize = 14;
 
 // The number that a call returns, and the numbers of its answer.
 pub struct Numbers {
@@ -60,13 +63,25 @@ pub fn refused(why: Refusal) -> Numbers
     }
 }
 
-// Up to nine values in numbers, 0 behind the last.
-pub fn accepted(a: u64, b: u64, c: u64, d: u64, e: u64, f: u64, g: u64, h: u64, i: u64) -> Numbers
-    ensures { λ r. ⌜ ValueNumbers (a ∷ b ∷ c ∷ d ∷ e ∷ f ∷ g ∷ h ∷ i ∷ []) r ⌝ }
+// Values in numbers, as many as an answer has room for; 0 behind the last.
+pub fn accepted(values: &[u64]) -> Numbers
+    ensures { λ r. ⌜ ValueNumbers (now (values .entry)) r ⌝ }
 {
+    let mut all = [0; SIZE];
+    let mut i = 0;
+    while i < VALUES {
+        if values.len() <= i {
+            return Numbers {
+                number: 0,
+                values: all,
+            };
+        }
+        all[i + 2] = values[i];
+        i += 1;
+    }
     Numbers {
         number: 0,
-        values: [0, 0, a, b, c, d, e, f, g, h, i, 0, 0, 0, 0, 0],
+        values: all,
     }
 }
 
@@ -75,8 +90,18 @@ pub fn time(read: TimeRead) -> Numbers
     ensures { λ r. ⌜ TimeNumbers read r ⌝ }
 {
     match read {
-        TimeRead::Secs(t) => accepted(t as u64, 0, 0, 0, 0, 0, 0, 0, 0),
+        TimeRead::Secs(t) => accepted(&[t as u64]),
         TimeRead::Refused(why) => refused(why),
+    }
+}
+
+// Which listed codes a layout carries, in numbers: the word, and how many columns.
+pub fn presence(read: PresenceRead) -> Numbers
+    ensures { λ r. ⌜ PresenceNumbers read r ⌝ }
+{
+    match read {
+        PresenceRead::Carries(p) => accepted(&[p.word as u64, p.count as u64]),
+        PresenceRead::Refused(why) => refused(why),
     }
 }
 

@@ -4,11 +4,11 @@ use mathlib.Core.Bool.{_&&_, cond}
 use mathlib.Core.List.{List}
 use mathlib.Core.Path.{_≡_}
 use lib.IntN.{ℤ}
-use Rattle.answers.specs.Answers.{size, inNumbers, timeNumbers, hasRoom, Answered, AnswerGiven}
+use Rattle.answers.specs.Answers.{size, inNumbers, timeNumbers, presenceNumbers, hasRoom, Answered, AnswerGiven}
 use Rattle.given.specs.Given.{extraBy, columnBy, numberBy, entryBy, presenceBy}
-use Rattle.calls_column.specs.Values.{spanNumbers, signedNumbers, entryNumbers, presenceNumbers, integersOf}
+use Rattle.calls_column.specs.Values.{spanNumbers, signedNumbers, entryNumbers, integersOf}
 
--- the time of a K line
+-- the time of a K or an N line
 abbrev pub ExtraAnswered : List ℕ → List ℕ → List ℕ → ℕ → List ℕ → Type 0
 ExtraAnswered line l answer r after = AnswerGiven answer (inNumbers timeNumbers (extraBy line l)) r after
 
@@ -21,7 +21,7 @@ pub record NumberAnswered (line l name answer : List ℕ) (number : List ℤ) (r
   pub told : Answered (hasRoom size answer && hasRoom 1 number) answer (inNumbers signedNumbers (numberBy line l name)) r answerNow
   pub value : numberNow ≡ cond (hasRoom size answer && hasRoom 1 number) (integersOf (numberBy line l name)) number
 
--- a column of an I or J line
+-- a column of an I, a J or an M line
 abbrev pub EntryAnswered : List ℕ → ℕ → List ℕ → ℕ → List ℕ → Type 0
 EntryAnswered l n answer r after = AnswerGiven answer (inNumbers entryNumbers (entryBy l n)) r after
 

@@ -6,7 +6,6 @@ use Rattle.rules.specs.Choice.{byte}
 use Rattle.rules.specs.Layouts.{Span}
 use Rattle.rules.specs.Refusals.{Said, says, refuses}
 use Rattle.rules.specs.declared.Entry.{Entry}
-use Rattle.rules.specs.declared.Presence.{Presence}
 use Rattle.rules.specs.declared.Signed.{Signed}
 
 -- a column's text: how many bytes stand before it, and its length
@@ -20,10 +19,6 @@ signedNumbers z = []
 -- a column of a layout: the three characters of its code, its first and its last byte
 abbrev pub entryNumbers : Entry → List ℕ
 entryNumbers e = (e .code / 65536) ∷ (e .code / 256 % 256) ∷ (e .code % 256) ∷ e .first ∷ e .last ∷ []
-
--- the presence word and its count
-abbrev pub presenceNumbers : Presence → List ℕ
-presenceNumbers p = p .word ∷ p .count ∷ []
 
 -- ---- what stands beside the answer
 

@@ -1,4 +1,4 @@
-// The calls from C on a K line and on the columns of a line, with a layout that is given as the text of its own line; and on that layout.
+// The calls from C on a K or an N line and on the columns of a line, with a layout that is given as the text of its own line; and on that layout.
 ghost use mathlib.Core.List.{_∷_, []};
 ghost use mathlib.Core.Path.{_≡_};
 ghost use lib.ListN.{length};
@@ -10,14 +10,14 @@ use rules::NumberRead;
 
 mod values;
 
-// The time of a K line.
+// The time of a K or an N line.
 pub fn extra(line: &[u8], layout: &[u8], answer: &mut [u64]) -> u32
     ensures { λ r. ⌜ ExtraAnswered (now (line .entry)) (now (layout .entry)) (now (answer .entry)) r (now (answer .exit)) ⌝ }
 {
     answers::give(answer, answers::time(given::extra(line, layout)))
 }
 
-// Where the column of a code stands in a B or a K line.
+// Where the column of a code stands in a B, a K or an N line.
 pub fn column(
     line: &[u8],
     layout: &[u8],
@@ -70,7 +70,7 @@ pub fn number(
     answers::give(answer, values::signed(read))
 }
 
-// Column n of an I or a J line, counted from 1.
+// Column n of an I, a J or an M line, counted from 1.
 pub fn entry(layout: &[u8], n: usize, answer: &mut [u64]) -> u32
     ensures { λ r. ⌜ EntryAnswered (now (layout .entry)) n (now (answer .entry)) r (now (answer .exit)) ⌝ }
 {
@@ -81,5 +81,5 @@ pub fn entry(layout: &[u8], n: usize, answer: &mut [u64]) -> u32
 pub fn presence(layout: &[u8], answer: &mut [u64]) -> u32
     ensures { λ r. ⌜ PresenceAnswered (now (layout .entry)) (now (answer .entry)) r (now (answer .exit)) ⌝ }
 {
-    answers::give(answer, values::presence(given::presence(layout)))
+    answers::give(answer, answers::presence(given::presence(layout)))
 }

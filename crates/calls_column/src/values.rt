@@ -1,10 +1,10 @@
 // What a line says by its layout, and the layout itself, in the numbers of an answer.
 ghost use mathlib.Core.Path.{_≡_};
-ghost use Rattle.rules.specs.Layouts.{columnTold, presenceTold};
+ghost use Rattle.rules.specs.Layouts.{columnTold};
 ghost use Rattle.rules.specs.Reads.{numberReadTold};
 ghost use Rattle.answers.specs.Answers.{accepting, inNumbers};
 ghost use Rattle.given.specs.Given.{columnAtTold};
-ghost use Rattle.calls_column.specs.Values.{spanNumbers, signedNumbers, entryNumbers, presenceNumbers};
+ghost use Rattle.calls_column.specs.Values.{spanNumbers, signedNumbers, entryNumbers};
 use answers::Numbers;
 use answers::accepted;
 use answers::between;
@@ -13,7 +13,6 @@ use given::ColumnAt;
 use rules::ColumnRead;
 use rules::Entry;
 use rules::NumberRead;
-use rules::PresenceRead;
 
 // Where a column's text stands, of the places of its first and last byte.
 fn span(first: usize, last: usize) -> Numbers
@@ -21,7 +20,7 @@ fn span(first: usize, last: usize) -> Numbers
 {
     let start = between(1, first);
     let length = between(start as usize, last);
-    accepted(start, length, 0, 0, 0, 0, 0, 0, 0)
+    accepted(&[start, length])
 }
 
 pub(crate) fn column(read: ColumnRead) -> Numbers
@@ -38,7 +37,7 @@ pub(crate) fn signed(read: NumberRead) -> Numbers
     ensures { λ r. ⌜ r ≡ inNumbers signedNumbers (numberReadTold read) ⌝ }
 {
     match read {
-        NumberRead::Is(_) => accepted(0, 0, 0, 0, 0, 0, 0, 0, 0),
+        NumberRead::Is(_) => accepted(&[]),
         NumberRead::Refused(why) => refused(why),
     }
 }
@@ -50,17 +49,7 @@ fn entry_values(e: Entry) -> Numbers
     let code = e.code as u64;
     let first = e.first as u64;
     let last = e.last as u64;
-    accepted(
-        code / 65536,
-        code / 256 % 256,
-        code % 256,
-        first,
-        last,
-        0,
-        0,
-        0,
-        0,
-    )
+    accepted(&[code / 65536, code / 256 % 256, code % 256, first, last])
 }
 
 pub(crate) fn entry(read: ColumnAt) -> Numbers
@@ -69,15 +58,5 @@ pub(crate) fn entry(read: ColumnAt) -> Numbers
     match read {
         ColumnAt::Is(e) => entry_values(e),
         ColumnAt::Refused(why) => refused(why),
-    }
-}
-
-// Which listed codes a layout carries.
-pub(crate) fn presence(read: PresenceRead) -> Numbers
-    ensures { λ r. ⌜ r ≡ inNumbers presenceNumbers (presenceTold read) ⌝ }
-{
-    match read {
-        PresenceRead::Carries(p) => accepted(p.word as u64, p.count as u64, 0, 0, 0, 0, 0, 0, 0),
-        PresenceRead::Refused(why) => refused(why),
     }
 }

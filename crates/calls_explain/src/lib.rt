@@ -25,7 +25,7 @@ fn numbers(wrote: Wrote) -> Numbers
     ensures { λ r. ⌜ r ≡ inNumbers lengthNumbers (wroteTold wrote) ⌝ }
 {
     match wrote {
-        Wrote::Next(n) => answers::accepted(n as u64, 0, 0, 0, 0, 0, 0, 0, 0),
+        Wrote::Next(n) => answers::accepted(&[n as u64]),
         Wrote::Refused(why) => answers::refused(why),
     }
 }

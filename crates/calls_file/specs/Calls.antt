@@ -9,16 +9,17 @@ use Rattle.rules.specs.Families.{firstStart}
 use Rattle.rules.specs.Files.{verdict, tableAfter}
 use Rattle.rules.specs.Layouts.{lineLength}
 use Rattle.rules.specs.declared.Checked.{Checked}
+use Rattle.rules.specs.declared.Extra.the-variants as extra
 use Rattle.rules.specs.declared.Family.the-variants as family
 use Rattle.rules.specs.declared.Flight.{Flight}
 use Rattle.rules.specs.declared.Seal.the-variants as seal
 use Rattle.answers.specs.Answers.{size, inNumbers, outcomeNumbers, hasRoom, AnswerGiven}
 use Rattle.answers.specs.declared.Numbers.{Numbers}
 
--- "the date, the I and J layouts, the count of lines, of B lines and of K lines": the layouts by the lengths of their lines
+-- "the date, the I and J layouts, the count of lines, of B lines and of K lines": the layouts by the lengths of their lines; then of N lines the count and the length
 abbrev pub flightNumbers : Flight → List ℕ
 flightNumbers f =
-    f .date .day ∷ f .date .month ∷ f .date .year ∷ f .lines ∷ f .counts .b ∷ f .counts .k ∷ lineLength (firstStart family.B) (f .layouts .b) ∷ lineLength (firstStart family.K) (f .layouts .k) ∷ []
+    f .date .day ∷ f .date .month ∷ f .date .year ∷ f .lines ∷ f .counts .b ∷ f .counts .k ∷ lineLength (firstStart family.B) (f .layouts .b) ∷ lineLength (firstStart (family.Extra extra.K)) (f .layouts .k) ∷ f .counts .n ∷ lineLength (firstStart (family.Extra extra.N)) (f .layouts .n) ∷ []
 
 -- the answer on a file
 unfoldable pub checkedNumbers : Checked → Numbers

@@ -7,6 +7,7 @@ use answers::SIZE;
 use answers::accepted;
 use answers::refused;
 use rules::Checked;
+use rules::Extra;
 use rules::Family;
 use rules::Flight;
 use rules::Outcome;
@@ -20,21 +21,25 @@ fn flight(f: Flight) -> Numbers
     let layouts = f.layouts;
     let counts = f.counts;
     let b = layout::line_length(Family::B, layouts.b) as u64;
-    let k = layout::line_length(Family::K, layouts.k) as u64;
+    let k = layout::line_length(Family::Extra(Extra::K), layouts.k) as u64;
+    let n = layout::line_length(Family::Extra(Extra::N), layouts.n) as u64;
     let day = date.day as u64;
     let month = date.month as u64;
     let year = date.year as u64;
     let lines = f.lines as u64;
     accepted(
-        day,
-        month,
-        year,
-        lines,
-        counts.b as u64,
-        counts.k as u64,
-        b,
-        k,
-        0,
+        &[
+            day,
+            month,
+            year,
+            lines,
+            counts.b as u64,
+            counts.k as u64,
+            b,
+            k,
+            counts.n as u64,
+            n,
+        ],
     )
 }
 

@@ -47,7 +47,7 @@ fn fix_values(f: Fix) -> Numbers
     let longitude = lon.count;
     let e_or_w = lon.letter as u64;
     let validity = f.validity as u64;
-    accepted(time, latitude, n_or_s, longitude, e_or_w, validity, 0, 0, 0)
+    accepted(&[time, latitude, n_or_s, longitude, e_or_w, validity])
 }
 
 fn numbers(read: FixRead) -> Numbers

@@ -19,17 +19,7 @@ pub(crate) fn date(read: DateRead) -> Numbers
     ensures { λ r. ⌜ r ≡ inNumbers dateNumbers (dateReadTold read) ⌝ }
 {
     match read {
-        DateRead::On(d) => accepted(
-            d.day as u64,
-            d.month as u64,
-            d.year as u64,
-            0,
-            0,
-            0,
-            0,
-            0,
-            0,
-        ),
+        DateRead::On(d) => accepted(&[d.day as u64, d.month as u64, d.year as u64]),
         DateRead::Refused(why) => refused(why),
     }
 }
@@ -61,15 +51,17 @@ fn head_values(h: Head) -> Numbers
     let task = h.task as u64;
     let turns = h.turns as u64;
     accepted(
-        day,
-        month,
-        year,
-        time,
-        f.day as u64,
-        f.month as u64,
-        f.year as u64,
-        task,
-        turns,
+        &[
+            day,
+            month,
+            year,
+            time,
+            f.day as u64,
+            f.month as u64,
+            f.year as u64,
+            task,
+            turns,
+        ],
     )
 }
 
@@ -90,7 +82,7 @@ fn point_values(p: Point) -> Numbers
     let lon = p.lon;
     let n_or_s = lat.letter as u64;
     let e_or_w = lon.letter as u64;
-    accepted(0, lat.count, n_or_s, lon.count, e_or_w, 0, 0, 0, 0)
+    accepted(&[0, lat.count, n_or_s, lon.count, e_or_w])
 }
 
 pub(crate) fn point(read: PointRead) -> Numbers

@@ -16,9 +16,7 @@ pub(crate) fn line(read: LineRead) -> Numbers
     ensures { λ r. ⌜ r ≡ inNumbers boundsNumbers (lineTold read) ⌝ }
 {
     match read {
-        LineRead::Part(start, end) => {
-            accepted(start as u64, between(start, end), 0, 0, 0, 0, 0, 0, 0)
-        }
+        LineRead::Part(start, end) => { accepted(&[start as u64, between(start, end)]) }
         LineRead::Refused(why) => refused(why),
     }
 }
@@ -30,11 +28,11 @@ pub(crate) fn step(s: Step) -> Numbers
     match s {
         Step::Line { start, end, next } => {
             let place = next.at as u64;
-            accepted(start as u64, between(start, end), place, 1, 0, 0, 0, 0, 0)
+            accepted(&[start as u64, between(start, end), place, 1])
         }
         Step::Done { next } => {
             let stays = next.at as u64;
-            accepted(0, 0, stays, 0, 0, 0, 0, 0, 0)
+            accepted(&[0, 0, stays])
         }
         Step::Refused(why) => refused(why),
     }

@@ -16,8 +16,8 @@ module _ (answer : List ℕ) (r r′ : ℕ) (after after′ : List ℕ) where
   pub only-write-fix-answered : (f : Fix) (columns l : List ℕ) (place : ℕ) (out now now′ : List ℕ) → WriteFixAnswered f columns l place out answer r now after → WriteFixAnswered f columns l place out answer r′ now′ after′ → (r ≡ r′) × (now ≡ now′) × (after ≡ after′)
   only-write-fix-answered f columns l place out now now′ = only-write-answered out now now′
 
-  pub only-write-extra-answered : (t : ℕ) (columns l : List ℕ) (place : ℕ) (out now now′ : List ℕ) → WriteExtraAnswered t columns l place out answer r now after → WriteExtraAnswered t columns l place out answer r′ now′ after′ → (r ≡ r′) × (now ≡ now′) × (after ≡ after′)
-  only-write-extra-answered t columns l place out now now′ = only-write-answered out now now′
+  pub only-write-extra-answered : (kind t : ℕ) (columns l : List ℕ) (place : ℕ) (out now now′ : List ℕ) → WriteExtraAnswered kind t columns l place out answer r now after → WriteExtraAnswered kind t columns l place out answer r′ now′ after′ → (r ≡ r′) × (now ≡ now′) × (after ≡ after′)
+  only-write-extra-answered kind t columns l place out now now′ = only-write-answered out now now′
 
   pub only-write-layout-answered : (l : List ℕ) (place : ℕ) (out now now′ : List ℕ) → WriteLayoutAnswered l place out answer r now after → WriteLayoutAnswered l place out answer r′ now′ after′ → (r ≡ r′) × (now ≡ now′) × (after ≡ after′)
   only-write-layout-answered l place out now now′ = only-write-answered out now now′

@@ -1,8 +1,14 @@
 // The calls from C that write a line into a lent output from a place on.
+ghost use Rattle.given_write.specs.Written.{SaidWritten};
 ghost use Rattle.calls_write.specs.Values.{fixFrom, headOf, pointOf};
-ghost use Rattle.calls_write.specs.Calls.{WriteFixAnswered, WriteExtraAnswered, WriteLayoutAnswered, WriteHeadAnswered, WritePointAnswered};
+ghost use Rattle.calls_write.specs.Calls.{kindWritten, kindText, WriteFixAnswered, WriteExtraAnswered, WriteLayoutAnswered, WriteHeadAnswered, WritePointAnswered};
 use answers::SIZE;
+use families::FamilyRead;
 use rules::Date;
+use rules::Family;
+use rules::Reason;
+use rules::Refusal;
+use rules::Wrote;
 
 mod values;
 
@@ -41,8 +47,37 @@ pub fn fix(
     answers::give(answer, values::wrote(wrote))
 }
 
-// A K line of a time, into an output from a place on.
+// A K or an N line, by its letter. BAD_VALUE for any other letter.
+fn put_extra(
+    kind: u8,
+    seconds: u32,
+    columns: &[u8],
+    layout: &[u8],
+    out: &mut [u8],
+    place: usize,
+) -> Wrote
+    ensures { λ r. ⌜ SaidWritten (kindWritten kind seconds (now (columns .entry)) (now (layout .entry)) place (now (out .entry))) (kindText kind seconds (now (columns .entry))) place (now (out .entry)) r (now (out .exit)) ⌝ }
+{
+    let FamilyRead::Of(f) = families::family(&[kind]) else {
+        return Wrote::Refused(Refusal {
+            reason: Reason::BadValue,
+            line: 0,
+            byte: 0,
+        });
+    };
+    let Family::Extra(which) = f else {
+        return Wrote::Refused(Refusal {
+            reason: Reason::BadValue,
+            line: 0,
+            byte: 0,
+        });
+    };
+    given_write::extra(which, seconds, columns, layout, out, place)
+}
+
+// A K or an N line of a time, by its letter, into an output from a place on.
 pub fn extra(
+    kind: u8,
     seconds: u32,
     columns: &[u8],
     layout: &[u8],
@@ -50,16 +85,16 @@ pub fn extra(
     out: &mut [u8],
     answer: &mut [u64],
 ) -> u32
-    ensures { λ r. ⌜ WriteExtraAnswered seconds (now (columns .entry)) (now (layout .entry)) place (now (out .entry)) (now (answer .entry)) r (now (out .exit)) (now (answer .exit)) ⌝ }
+    ensures { λ r. ⌜ WriteExtraAnswered kind seconds (now (columns .entry)) (now (layout .entry)) place (now (out .entry)) (now (answer .entry)) r (now (out .exit)) (now (answer .exit)) ⌝ }
 {
     if answer.len() != SIZE {
         return 17;
     }
-    let wrote = given_write::extra(seconds, columns, layout, out, place);
+    let wrote = put_extra(kind, seconds, columns, layout, out, place);
     answers::give(answer, values::wrote(wrote))
 }
 
-// An I or a J line, into an output from a place on.
+// An I, a J or an M line, into an output from a place on.
 pub fn layout(layout: &[u8], place: usize, out: &mut [u8], answer: &mut [u64]) -> u32
     ensures { λ r. ⌜ WriteLayoutAnswered (now (layout .entry)) place (now (out .entry)) (now (answer .entry)) r (now (out .exit)) (now (answer .exit)) ⌝ }
 {

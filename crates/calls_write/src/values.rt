@@ -97,7 +97,7 @@ pub(crate) fn wrote(w: Wrote) -> Numbers
     ensures { λ r. ⌜ r ≡ inNumbers placeNumbers (wroteTold w) ⌝ }
 {
     match w {
-        Wrote::Next(n) => accepted(n as u64, 0, 0, 0, 0, 0, 0, 0, 0),
+        Wrote::Next(n) => accepted(&[n as u64]),
         Wrote::Refused(why) => refused(why),
     }
 }

@@ -1,4 +1,4 @@
-// The columns of a B or a K line: the text of a column, and each listed column by its rule. Every layout value has an answer.
+// The columns of a B, a K or an N line: the text of a column, and each listed column by its rule. Every layout value has an answer.
 ghost use mathlib.Core.Path.{_≡_};
 ghost use Rattle.rules.specs.Choice.{byte};
 ghost use Rattle.rules.specs.Layouts.{spanOf, columnText};

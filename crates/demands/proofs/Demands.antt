@@ -14,7 +14,7 @@ use mathlib.Core.Option.{Option, none, some}
 use mathlib.Core.Path.{_≡_, refl, sym, _∙_, ap}
 use lib.ListN.{length, getD}
 use Rattle.rules.specs.Choice.{Each}
-use Rattle.rules.specs.Families.{firstStart, layoutOf, countOf}
+use Rattle.rules.specs.Families.{firstStart, layoutOf, countOf, withLayout}
 use Rattle.rules.specs.Refusals.{says, refuses}
 use Rattle.rules.specs.Files.{verdict}
 use Rattle.rules.specs.Chars.{isValid, isCode}
@@ -140,6 +140,13 @@ pub answers-exactly : (layouts : Layouts) (counts : Counts)
     × ((layoutOf (family.Extra extra.K) layouts ≡ layouts .k) × (countOf (family.Extra extra.K) counts ≡ counts .k))
     × ((layoutOf (family.Extra extra.N) layouts ≡ layouts .n) × (countOf (family.Extra extra.N) counts ≡ counts .n))
 answers-exactly layouts counts = ((refl, refl), (refl, refl), (refl, refl))
+
+-- a layout put in its family's place is that family's, and the others' stay
+pub put-exactly : (l : Layout) (ls : Layouts)
+    → (withLayout family.B l ls ≡ record { b = l; k = ls .k; n = ls .n })
+    × (withLayout (family.Extra extra.K) l ls ≡ record { b = ls .b; k = l; n = ls .n })
+    × (withLayout (family.Extra extra.N) l ls ≡ record { b = ls .b; k = ls .k; n = l })
+put-exactly l ls = (refl, refl, refl)
 
 -- document 01's file of five lines meets it, put together by hand
 pub five-meet : Meets seal.Strict fiveLines

@@ -1,9 +1,9 @@
 -- Document 01's rules of a whole file as a grammar, with document 02's M and N lines, apart from any check: what a line of each kind is, which kind may follow which, and the
 -- order of times.
 -- A line with a date, a time, a layout or a position is the text of such values within their limits; the listed codes, the characters and the limits are document 01's own
--- words (crate words). Of the rules it has types; the texts of values, a K or an N line's with its letter; `firstStart` and `layoutLetter`, which `starts-exactly` and
--- `letters-exactly` hold, as they do that letter; `layoutOf`, which `answers-exactly` holds, `entriesOf`, `emptyLayout` and `unused`, the parts of the answer's layouts; and
--- `fieldsOf`, which `fix-fields-exactly` holds.
+-- words (crate words). Of the rules it has types and the texts of values. It has `firstStart`, `layoutLetter` and, in the text of a K or an N line, `lineLetter`:
+-- `starts-exactly` and `letters-exactly` hold these. It has `layoutOf`, which `answers-exactly` holds, with `entriesOf`, `emptyLayout` and `unused`, the parts of the answer's
+-- layouts; and `fieldsOf`, which `fix-fields-exactly` holds.
 use Prim.Native.Nat.{ℕ, _+_, _-_, _%_, _≤_, _<_}
 use Prim.Native.Char.{code}
 use mathlib.Core.Bool.{Bool, true, false, cond}

@@ -1,4 +1,4 @@
-// The entries of a layout: looked up by code, one held against those before it, and one read at its place of an I or a J line.
+// The entries of a layout: looked up by code, one held against those before it, and one read at its place of an I, a J or an M line.
 ghost use Prim.Native.Nat.{_≤_};
 ghost use mathlib.Core.Path.{_≡_};
 ghost use Rattle.rules.specs.Refusals.{no};

@@ -23,10 +23,13 @@ use Rattle.rules.specs.declared.Seal.{Seal}
 use Rattle.rules.specs.declared.State.{State}
 use Rattle.cut.specs.Steps.{unplaced}
 use Rattle.cut.proofs.Places.{refuses-unplaced}
-use Rattle.state.specs.Turns.{roomOf, entered, Here}
-use Rattle.state.proofs.Turns.{put-long, here-few, here-next}
-use Rattle.turn.specs.Turns.{Reached, turnAt, Turned, TurnTaken}
-use Rattle.turn.specs.declared.Turn.{Turn}
+use Rattle.enter.specs.Turns.{roomOf, entered, Here}
+use Rattle.enter.proofs.Turns.{put-long, here-few, here-next}
+use Rattle.enter.specs.Entering.{Reached, Turned}
+use Rattle.enter.specs.declared.Turn.{Turn}
+use Rattle.turn.specs.Turns.{turnAt, TurnTaken}
+use Rattle.finish.specs.Finishes.{Finished}
+use Rattle.finish.proofs.Finishing.{finish-few}
 use Rattle.file.specs.Checks.{LinesChecked}
 use Rattle.file.proofs.Turns.{Follows, turn-follows}
 
@@ -74,9 +77,9 @@ module _ {seal : Seal} {lent : Bool} {file table₀ table : List ℕ} {at : ℕ}
         → LinesChecked seal lent file table₀ r table
     told x e g r t = record { told = rw (whole x e) t; entries = entries-are lent x (whole x e) g (h .entries) }
 
-    pub here-end : length file ≤ at → (r : Checked) → CheckedTold (finish seal st) r → LinesChecked seal lent file table₀ r table
+    pub here-end : length file ≤ at → (r : Checked) → Finished seal st r → LinesChecked seal lent file table₀ r table
     unfolding run linesOf
-    here-end l r t = told (finish seal st) (rw (drop-of-length-le file l)) (all-lines seal st) r t
+    here-end l r t = told (finish seal st) (rw (drop-of-length-le file l)) (all-lines seal st) r (rw (finish-few seal st (here-few h most .lines)) at t)
 
     module _ (less : at < length file) {r : Turn} {after : List ℕ} (t : TurnTaken file lent table at st r after) where
       follows : Follows room file at st (turnAt (roomOf lent table) file at st)

@@ -15,9 +15,11 @@ use Rattle.rules.specs.declared.Reason.the-variants.{TableFull}
 use Rattle.rules.specs.declared.Seal.{Seal}
 use Rattle.rules.specs.declared.State.{State}
 use Rattle.laws.proofs.Splitting.{none-left, line-at}
-use Rattle.state.specs.Turns.{Passed}
-use Rattle.state.proofs.Turns.{passed-count}
-use Rattle.turn.specs.Turns.{inNext, Reached, goodLine, turnIn, turnAt, MayTake}
+use Rattle.state.specs.States.{inNext}
+use Rattle.enter.specs.Turns.{Passed}
+use Rattle.enter.proofs.Turns.{passed-count}
+use Rattle.enter.specs.Entering.{Reached, goodLine}
+use Rattle.turn.specs.Turns.{turnIn, turnAt, MayTake}
 use Rattle.turn.proofs.Turns.{may-so}
 
 -- the file is refused at the line behind `at` bytes, whatever it must have at its end

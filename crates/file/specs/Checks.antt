@@ -6,7 +6,7 @@ use mathlib.Core.Path.{_≡_}
 use Rattle.rules.specs.Files.{verdict, tableAfter, CheckedTold}
 use Rattle.rules.specs.declared.Checked.{Checked}
 use Rattle.rules.specs.declared.Seal.{Seal}
-use Rattle.state.specs.Turns.{roomOf}
+use Rattle.enter.specs.Turns.{roomOf}
 
 -- the answer on the file, and the table afterwards, which stays where it is not lent
 pub record LinesChecked (seal : Seal) (lent : Bool) (file table : List ℕ) (r : Checked) (after : List ℕ) : Type 0 where

@@ -12,10 +12,10 @@ fn check_whole(seal: Seal, file: &[u8], lent: bool, table: &mut [u32]) -> Checke
     ensures { λ r. ⌜ LinesChecked seal lent (now (file .entry)) (now (table .entry)) r (now (table .exit)) ⌝ }
 {
     if file.len() < 1 {
-        return lines::refused(cut::unplaced(Reason::Empty));
+        return finish::refused(cut::unplaced(Reason::Empty));
     }
     if 16777216 < file.len() {
-        return lines::refused(cut::unplaced(Reason::TooLong));
+        return finish::refused(cut::unplaced(Reason::TooLong));
     }
     lines::check_lines(seal, file, lent, table)
 }

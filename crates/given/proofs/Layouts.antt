@@ -1,4 +1,4 @@
--- A layout given as its line: what the readers go on with, or 17. Assumes nothing.
+-- A layout given as its line: what the readers go on with, or 17. And K or N, by a letter. Assumes nothing.
 use Prim.Native.Nat.{ℕ}
 use native.Mathlib.Omega.{arith}
 use mathlib.Core.Bool.{Bool, true, false, cond}
@@ -14,15 +14,20 @@ use Rattle.rules.specs.Layouts.{LayoutTold, emptyLayout, allowed}
 use Rattle.rules.specs.Promises.{LayoutGiven}
 use Rattle.rules.specs.Reads.{layoutSaid}
 use Rattle.rules.specs.Refusals.{Said, says, refuses, no, refusal, andThen, outcomeTold}
+use Rattle.rules.specs.declared.Extra.{Extra}
 use Rattle.rules.specs.declared.Family.{Family}
+use Rattle.rules.specs.declared.Family.the-variants as family
 use Rattle.rules.specs.declared.Layout.{Layout}
 use Rattle.rules.specs.declared.LayoutRead.{LayoutRead}
 use Rattle.rules.specs.declared.Outcome.the-variants as outcomes
 use Rattle.rules.specs.declared.Reason.the-variants.{BadValue}
 use Rattle.rules.specs.declared.Refusal.{Refusal}
+use Rattle.families.specs.Letters.{familyTold}
+use Rattle.families.specs.declared.FamilyRead.{FamilyRead}
+use Rattle.families.specs.declared.FamilyRead.the-variants as familyRead
 use Rattle.known.specs.Known.{allowedFor}
 use Rattle.sound.proofs.Placed.{Sound, sound-line, sound-empty}
-use Rattle.given.specs.Given.{orBadValue, layoutBy, layoutFor}
+use Rattle.given.specs.Given.{orBadValue, layoutBy, layoutFor, extraOf}
 
 says-one : {A : Type 0} {v w : A} → says v ≡ says w → v ≡ w
 says-one e = cc
@@ -53,6 +58,21 @@ module _ (f : Family) (l : List ℕ) where
   pub line-refused : (r x : LayoutRead) (w : Refusal) → (length l ≡ 0 → ⊥) → LayoutGiven f l r → r .outcome ≡ outcomes.Refused w → LayoutTold (no BadValue 0) x → LayoutTold (layoutBy f l) x
   unfolding layoutBy
   line-refused r x w h t e g = rw (ne-eqb (length l) 0 h) (bad-value _ r x w t e g)
+
+-- ---- K or N, by the family r that a letter b tells
+
+module _ (b : ℕ) (r : FamilyRead) (e : familyTold r ≡ familyOf b) where
+  pub extra-is : (f : Family) (x : Extra) → r ≡ familyRead.Of f → f ≡ family.Extra x → extraOf b ≡ some x
+  unfolding extraOf familyTold
+  extra-is f x h g = rw (← e, h, g)
+
+  pub extra-is-not : (f : Family) → r ≡ familyRead.Of f → f ≡ family.B → extraOf b ≡ none
+  unfolding extraOf familyTold
+  extra-is-not f h g = rw (← e, h, g)
+
+  pub extra-none : r ≡ familyRead.NoFamily → extraOf b ≡ none
+  unfolding extraOf familyTold
+  extra-none h = rw (← e, h)
 
 -- ---- the layout that was read is allowed
 

@@ -1,7 +1,8 @@
--- What is said of a line where the layout is given as the text of the file's own I or J line.
+-- What is said of a line where the layout is given as the text of the file's own I, J or M line.
 use Prim.Native.Nat.{ℕ, _-_}
 use mathlib.Core.Bool.{cond}
 use mathlib.Core.List.{List}
+use mathlib.Core.Option.{Option, none, some}
 use mathlib.Core.Path.{_≡_}
 use lib.Dec.{eqb, leb}
 use lib.ListN.{length, getD}
@@ -12,6 +13,7 @@ use Rattle.rules.specs.Reads.{fixSaid, extraSaid, layoutSaid, columnSaid, numbe
 use Rattle.rules.specs.Refusals.{Said, says, refuses, no, refusal, andThen}
 use Rattle.rules.specs.declared.ColumnRead.{ColumnRead}
 use Rattle.rules.specs.declared.Entry.{Entry}
+use Rattle.rules.specs.declared.Extra.{Extra}
 use Rattle.rules.specs.declared.Family.{Family}
 use Rattle.rules.specs.declared.Family.the-variants as family
 use Rattle.rules.specs.declared.Fix.{Fix}
@@ -33,17 +35,29 @@ module _ {A : Type 0} where
   orBadValue (says v) = says v
   orBadValue (refuses n l b) = no BadValue 0
 
--- the layout of a family, from its line: "with NN 00, or no such line, B has 35 and K has 7"; no bytes stand for no such line
+-- the layout of a family, from its line: "with NN 00, or no such line, B has 35 and K has 7", and N as K; no bytes stand for no such line
 unfoldable pub layoutBy : Family → List ℕ → Said Layout
 layoutBy f l = cond (eqb (length l) 0) (says emptyLayout) (orBadValue (layoutSaid f l))
 
 unfoldable pub fixBy : List ℕ → List ℕ → Said Fix
 fixBy line l = andThen (layoutBy family.B l) λ layout. fixSaid line layout
 
-unfoldable pub extraBy : List ℕ → List ℕ → Said ℕ
-extraBy line l = andThen (layoutBy family.K l) λ layout. extraSaid line layout
+-- the time of a K line from the J line, and of an N line from the M line
+unfoldable pub extraWith : Extra → List ℕ → List ℕ → Said ℕ
+extraWith e line l = andThen (layoutBy (family.Extra e) l) λ layout. extraSaid e line layout
 
--- the layout for a line of any family: of a B line from the I line, of a K line from the J line
+-- K or N, by the first byte of such a line
+abbrev pub extraIn : Family → Option Extra
+extraIn family.B = none
+extraIn (family.Extra e) = some e
+
+unfoldable pub extraOf : ℕ → Option Extra
+extraOf b = given (familyOf b) none extraIn
+
+unfoldable pub extraBy : List ℕ → List ℕ → Said ℕ
+extraBy line l = given (extraOf (getD line 0 0)) (no BadValue 0) λ e. extraWith e line l
+
+-- the layout for a line of any family: of a B line from the I line, of a K line from the J line, of an N line from the M line
 unfoldable pub layoutFor : List ℕ → List ℕ → Said Layout
 layoutFor line l = given (familyOf (getD line 0 0)) (no BadValue 0) λ f. layoutBy f l
 
@@ -63,7 +77,7 @@ unfoldable pub columnAtTold : ColumnAt → Said Entry
 columnAtTold (columnAt.Is e) = says e
 columnAtTold (columnAt.Refused r) = refusal r
 
--- the layout that an I or a J line tells, with the refusals of its reader
+-- the layout that an I, a J or an M line tells, with the refusals of its reader
 unfoldable pub toldLayout : List ℕ → Said Layout
 toldLayout l = given (layoutFamilyOf (getD l 0 0)) (no BadValue 0) λ f. layoutSaid f l
 

@@ -1,13 +1,15 @@
-// The readers of a line with its layout given as the text of the file's own I or J line; no bytes stand for no such line. A layout that its line tells is
-// allowed, so it is not tested again.
+// The readers of a line with its layout given as the text of the file's own I, J or M line; no bytes stand for no such line. A layout that its line tells
+// is allowed, so it is not tested again.
 ghost use Prim.Native.Nat.{_≤_};
 ghost use mathlib.Core.Path.{_≡_};
 ghost use Rattle.rules.specs.Layouts.{LayoutTold};
+ghost use Rattle.rules.specs.Reads.{timeReadTold};
 ghost use Rattle.rules.specs.Refusals.{no};
-ghost use Rattle.given.specs.Given.{columnAtTold, entryAt, layoutFor, toldLayout, LayoutBy, FixBy, ExtraBy, ColumnBy, NumberBy, EntryBy, PresenceBy};
+ghost use Rattle.given.specs.Given.{columnAtTold, entryAt, extraWith, layoutFor, toldLayout, LayoutBy, FixBy, ExtraBy, ColumnBy, NumberBy, EntryBy, PresenceBy};
 use families::FamilyRead;
 use rules::ColumnRead;
 use rules::Entry;
+use rules::Extra;
 use rules::Family;
 use rules::FixRead;
 use rules::Layout;
@@ -54,17 +56,38 @@ pub fn fix(line: &[u8], columns: &[u8]) -> FixRead
     known::fix(line, l)
 }
 
-// The time of a K line.
-pub fn extra(line: &[u8], columns: &[u8]) -> TimeRead
-    ensures { λ r. ⌜ ExtraBy (now (line .entry)) (now (columns .entry)) r ⌝ }
+// The time of a K or an N line, as is said.
+fn extra_with(which: Extra, line: &[u8], columns: &[u8]) -> TimeRead
+    ensures { λ r. ⌜ timeReadTold r ≡ extraWith which (now (line .entry)) (now (columns .entry)) ⌝ }
 {
-    let given = layout(Family::K, columns);
+    let given = layout(Family::Extra(which), columns);
     let outcome = given.outcome;
     let l = given.layout;
     if let Outcome::Refused(why) = outcome {
         return TimeRead::Refused(why);
     }
-    known::extra(line, l)
+    known::extra(which, line, l)
+}
+
+// The time of a K line from the text of a J line, or of an N line from that of an M line. BAD_VALUE for any other line.
+pub fn extra(line: &[u8], columns: &[u8]) -> TimeRead
+    ensures { λ r. ⌜ ExtraBy (now (line .entry)) (now (columns .entry)) r ⌝ }
+{
+    let FamilyRead::Of(f) = families::family(line) else {
+        return TimeRead::Refused(Refusal {
+            reason: Reason::BadValue,
+            line: 0,
+            byte: 0,
+        });
+    };
+    let Family::Extra(which) = f else {
+        return TimeRead::Refused(Refusal {
+            reason: Reason::BadValue,
+            line: 0,
+            byte: 0,
+        });
+    };
+    extra_with(which, line, columns)
 }
 
 // The layout for a line of any family, from the line that tells it. BAD_VALUE for another line too.

@@ -2,8 +2,8 @@
 use Prim.Native.Nat.{ℕ}
 use mathlib.Core.Bool.{Bool}
 use mathlib.Core.List.{List, []}
-use mathlib.Core.Option.{Option}
-use mathlib.Core.Path.{_≡_, refl, _∙_}
+use mathlib.Core.Option.{Option, none, some}
+use mathlib.Core.Path.{_≡_, refl, sym, _∙_, ap}
 use native.Mathlib.Omega.{arith}
 use Rattle.rules.specs.Choice.{given}
 use Rattle.rules.specs.Layouts.{LayoutTold, emptyLayout}
@@ -57,12 +57,22 @@ module _ (text : Layout → List ℕ) (good : Layout → Bool) (place : ℕ) (ou
   told-refused (says v) g l w e t = let z : _≡_ {A = ℕ} 0 1 = cc in absurd (omega arith)
   told-refused (refuses n k b) g l w e t = record { told = refl; bytes = refl }
 
--- the family whose layout the line tells; where it tells none, nothing is written
+-- ---- what is written of a value that there is; where there is none, nothing is written
+
+module _ {A : Type 0} (n : Option A) (said : A → Said ℕ) (text : A → List ℕ) (place : ℕ) (out : List ℕ) where
+  pub some-written : (v : A) (r : Wrote) (after : List ℕ) → n ≡ some v → SaidWritten (said v) (text v) place out r after → SaidWritten (given n (no BadValue 0) said) (given n [] text) place out r after
+  some-written v r after e w = rw e w
+
+  pub none-written : n ≡ none → SaidWritten (given n (no BadValue 0) said) (given n [] text) place out (wrote.Refused (record { reason = BadValue; line = 0; byte = 0 })) out
+  unfolding wroteTold outAfter
+  none-written e = rw e (record { told = refl; bytes = refl })
+
+-- the family whose layout the line tells
 module _ (n : Option Family) (g : FamilyRead) (e : familyTold g ≡ n) (said : Family → Said ℕ) (text : Family → List ℕ) (place : ℕ) (out : List ℕ) where
   pub family-then : (f : Family) (r : Wrote) (after : List ℕ) → g ≡ familyRead.Of f → SaidWritten (said f) (text f) place out r after → SaidWritten (given n (no BadValue 0) said) (given n [] text) place out r after
   unfolding familyTold
-  family-then f r after h w = rw (← e, h) w
+  family-then f r after h w = some-written n said text place out f r after (sym e ∙ ap familyTold h) w
 
   pub family-refused : g ≡ familyRead.NoFamily → SaidWritten (given n (no BadValue 0) said) (given n [] text) place out (wrote.Refused (record { reason = BadValue; line = 0; byte = 0 })) out
-  unfolding familyTold wroteTold outAfter
-  family-refused h = rw (← e, h) (record { told = refl; bytes = refl })
+  unfolding familyTold
+  family-refused h = none-written n said text place out (sym e ∙ ap familyTold h)

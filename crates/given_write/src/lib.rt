@@ -1,6 +1,7 @@
 // A line written by a layout that is given as the text of its own line.
 ghost use Rattle.given_write.specs.Written.{FixWrittenBy, ExtraWrittenBy, LayoutWrittenBy};
 use families::FamilyRead;
+use rules::Extra;
 use rules::Family;
 use rules::Fix;
 use rules::Outcome;
@@ -21,17 +22,24 @@ pub fn fix(f: Fix, columns: &[u8], layout: &[u8], out: &mut [u8], place: usize) 
     write::fix(f, columns, l, out, place)
 }
 
-// A K line by the layout of a J line.
-pub fn extra(seconds: u32, columns: &[u8], layout: &[u8], out: &mut [u8], place: usize) -> Wrote
-    ensures { λ r. ⌜ ExtraWrittenBy seconds (now (columns .entry)) (now (layout .entry)) place (now (out .entry)) r (now (out .exit)) ⌝ }
+// A K line by the layout of a J line, or an N line by that of an M line, as is said.
+pub fn extra(
+    which: Extra,
+    seconds: u32,
+    columns: &[u8],
+    layout: &[u8],
+    out: &mut [u8],
+    place: usize,
+) -> Wrote
+    ensures { λ r. ⌜ ExtraWrittenBy which seconds (now (columns .entry)) (now (layout .entry)) place (now (out .entry)) r (now (out .exit)) ⌝ }
 {
-    let given = given::layout(Family::K, layout);
+    let given = given::layout(Family::Extra(which), layout);
     let outcome = given.outcome;
     let l = given.layout;
     if let Outcome::Refused(why) = outcome {
         return Wrote::Refused(why);
     }
-    write::extra(seconds, columns, l, out, place)
+    write::extra(which, seconds, columns, l, out, place)
 }
 
 // The line of a layout, for whichever family, from its text.

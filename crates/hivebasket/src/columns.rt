@@ -16,7 +16,7 @@ pub extern "C" fn hive_fix(
     calls_fix::fix(line, layout, answer, heights)
 }
 
-// The time of a K line.
+// The time of a K or an N line.
 #[no_mangle]
 pub extern "C" fn hive_extra(line: &[u8], layout: &[u8], answer: &mut [u64]) -> u32
     ensures { λ r. ⌜ ExtraAnswered (now (line .entry)) (now (layout .entry)) (now (answer .entry)) r (now (answer .exit)) ⌝ }
@@ -24,7 +24,7 @@ pub extern "C" fn hive_extra(line: &[u8], layout: &[u8], answer: &mut [u64]) -> 
     calls_column::extra(line, layout, answer)
 }
 
-// Where the column of a code stands in a B or a K line.
+// Where the column of a code stands in a B, a K or an N line.
 #[no_mangle]
 pub extern "C" fn hive_column(
     line: &[u8],
@@ -55,7 +55,7 @@ pub extern "C" fn hive_column_number(
     calls_column::number(line, layout, code0, code1, code2, answer, number)
 }
 
-// Column n of an I or a J line, counted from 1.
+// Column n of an I, a J or an M line, counted from 1.
 #[no_mangle]
 pub extern "C" fn hive_column_at(layout: &[u8], n: usize, answer: &mut [u64]) -> u32
     ensures { λ r. ⌜ EntryAnswered (now (layout .entry)) n (now (answer .entry)) r (now (answer .exit)) ⌝ }

@@ -38,9 +38,10 @@ pub extern "C" fn hive_write_fix(
     )
 }
 
-// A K line of a time.
+// A K or an N line of a time, by its letter.
 #[no_mangle]
 pub extern "C" fn hive_write_extra(
+    kind: u8,
     seconds: u32,
     columns: &[u8],
     layout: &[u8],
@@ -48,12 +49,12 @@ pub extern "C" fn hive_write_extra(
     out: &mut [u8],
     answer: &mut [u64],
 ) -> u32
-    ensures { λ r. ⌜ WriteExtraAnswered seconds (now (columns .entry)) (now (layout .entry)) place (now (out .entry)) (now (answer .entry)) r (now (out .exit)) (now (answer .exit)) ⌝ }
+    ensures { λ r. ⌜ WriteExtraAnswered kind seconds (now (columns .entry)) (now (layout .entry)) place (now (out .entry)) (now (answer .entry)) r (now (out .exit)) (now (answer .exit)) ⌝ }
 {
-    calls_write::extra(seconds, columns, layout, place, out, answer)
+    calls_write::extra(kind, seconds, columns, layout, place, out, answer)
 }
 
-// An I or a J line.
+// An I, a J or an M line.
 #[no_mangle]
 pub extern "C" fn hive_write_layout(
     layout: &[u8],

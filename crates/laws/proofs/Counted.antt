@@ -1,4 +1,4 @@
--- The check of a file counts its lines, its B lines and its K lines, and the table's entries lead to the lines by their numbers; the others stay; with a table only 15 is added. Assumes nothing.
+-- The check of a file counts its lines and its B, K and N lines, and the table's entries lead to the lines by their numbers; the others stay; with a table only 15 is added. Assumes nothing.
 use Prim.Native.Nat.{ℕ, _+_, _-_, _≤_, _<_}
 use mathlib.Core.Bool.{Bool, true, false, cond}
 use mathlib.Core.List.{List, []}

@@ -149,7 +149,7 @@ pub no-columns : layoutSaid family.B (bytes "I00") ≡ says emptyLayout
 unfolding everything
 no-columns = refl
 
--- the empty layout is allowed for B and for K lines, and the layout of document 01's file for B lines alone
+-- the empty layout is allowed for B, K and N lines, and the layout of document 01's file for B lines alone
 pub allowed-for : allowed 36 emptyLayout && allowed 8 emptyLayout && allowed 36 fiveLayout && not (allowed 8 fiveLayout) ≡ true
 unfolding everything
 allowed-for = refl

@@ -1,4 +1,4 @@
-// Layouts: the columns that an I or a J line tells. A layout read from its line, and what a layout says as a value; its entries and the listed codes behind it.
+// Layouts: the columns that an I, a J or an M line tells. A layout read from its line, and what a layout says as a value; its entries and the listed codes behind it.
 mod reading;
 mod values;
 

@@ -1,4 +1,4 @@
-// An I or a J line: its shape, then its number of entries, then its entries from the left.
+// An I, a J or an M line: its shape, then its number of entries, then its entries from the left.
 ghost use Prim.Native.Nat.{_<_, _≤_};
 ghost use mathlib.Core.Path.{_≡_};
 ghost use lib.ListN.{length};
@@ -85,7 +85,7 @@ fn fields(start: usize, line: &[u8]) -> LayoutRead
     entries(line, nn as usize, start)
 }
 
-// An I line for B lines, or a J line for K lines, by the checks of 7 to 12: 7 at byte 0 outside 3 to 99 bytes; 8 at the first invalid byte; 9 at byte 2 for NN
+// An I line for B lines, a J line for K lines or an M line for N lines, by the checks of 7 to 12: 7 at byte 0 outside 3 to 99 bytes; 8 at the first invalid byte; 9 at byte 2 for NN
 // or a length that is not 3 + 7 × NN; then entry by entry 9 at the first byte of a field that breaks its rule, and 10, 11 and 12 at the entry's first byte.
 pub fn layout_line(family: Family, line: &[u8]) -> LayoutRead
     ensures { λ r. ⌜ LayoutChecked family (now (line .entry)) r ⌝ }

@@ -1,4 +1,4 @@
--- The entries of an I or a J line, one behind the other; and that a layout which is allowed can be spelt. Assumes nothing.
+-- The entries of an I, a J or an M line, one behind the other; and that a layout which is allowed can be spelt. Assumes nothing.
 use Prim.Native.Nat.{ℕ, zero, suc, _+_, _*_, _/_, _%_, _≤_, _<_}
 use mathlib.Core.Bool.{Bool, true, false, _&&_, _||_}
 use mathlib.Core.List.{List, [], _∷_, _++_, append-assoc, append-nil}

@@ -1,8 +1,6 @@
-// I and J lines, the legends of the columns of B and K lines: written into a lent output from a place on.
+// I, J and M lines, the legends of the columns of B, K and N lines: written into a lent output from a place on.
 ghost use mathlib.Core.List.{_++_};
-ghost use mathlib.Core.Path.{_≡_};
 ghost use Prim.Native.Nat.{_<_, _≤_};
-ghost use Rattle.rules.specs.Families.{layoutLetter};
 ghost use Rattle.rules.specs.Listed.{codeText};
 ghost use Rattle.rules.specs.Layouts.{entriesOf};
 ghost use Rattle.rules.specs.Writes.{entryText, entryTexts, layoutText, crlf};
@@ -62,8 +60,8 @@ fn fill_layout(family: Family, l: Layout, out: &mut [u8])
     put::text(out, 3 + 7 * n, b"\r\n");
 }
 
-// An I line of a layout for B lines, or a J line of one for K lines, into an output from a place on; the place after its CR LF. BadValue where no line
-// tells the layout, NoRoom where the output is too short.
+// An I line of a layout for B lines, a J line of one for K lines or an M line of one for N lines, into an output from a place on; the place after its CR
+// LF. BadValue where no line tells the layout, NoRoom where the output is too short.
 pub fn layout(family: Family, l: Layout, out: &mut [u8], place: usize) -> Wrote
     ensures { λ r. ⌜ LayoutWritten family l place (now (out .entry)) r (now (out .exit)) ⌝ }
 {

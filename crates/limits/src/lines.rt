@@ -9,6 +9,7 @@ use range::is_date;
 use range::is_latitude;
 use range::is_longitude;
 use range::is_planned;
+use rules::Extra;
 use rules::Family;
 use rules::Fix;
 use rules::FixFields;
@@ -115,12 +116,12 @@ pub fn good_fix(f: Fix, tail: &[u8], l: Layout) -> bool
     good_tail(Family::B, 36, tail, l)
 }
 
-// Whether some K line with this layout reads as the time, with this tail.
+// Whether some K line with this layout reads as the time, with this tail; and whether some N line does, which is the same.
 pub fn good_extra(t: u32, tail: &[u8], l: Layout) -> bool
     ensures { λ r. ⌜ ExtraTest t (now (tail .entry)) l r ⌝ }
 {
     if 86400 < t {
         return false;
     }
-    good_tail(Family::K, 8, tail, l)
+    good_tail(Family::Extra(Extra::K), 8, tail, l)
 }

@@ -1,4 +1,4 @@
-// The columns of a B or a K line, which are the line's tail, held against the layout.
+// The columns of a B, a K or an N line, which are the line's tail, held against the layout.
 ghost use mathlib.Core.Bool.{true, false};
 ghost use mathlib.Core.Path.{_≡_};
 ghost use Prim.Native.Nat.{_+_, _-_, _≤_};

@@ -83,7 +83,7 @@ pub fn differential(line: &[u8]) -> Outcome
     Outcome::Accepted
 }
 
-// An E line: its time, 3 code characters, text. Refusals: LENGTH, CHARACTER, FORM at 2 or 8.
+// An E line: its time, 3 code characters, text. Refusals: LENGTH, CHARACTER, TIME at 2, FORM at 8.
 pub fn event(line: &[u8]) -> TimeRead
     ensures { λ r. ⌜ EventChecked (now (line .entry)) r ⌝ }
 {
@@ -115,7 +115,7 @@ fn is_date_mark(line: &[u8]) -> bool
     chars::byte(line, 4) == b'E'
 }
 
-// Line 2, FDTE and its date. Refusals: LENGTH, CHARACTER, FORM at 2 or 6.
+// Line 2, FDTE and its date. Refusals: LENGTH, CHARACTER, FORM at 2, DATE at 6.
 pub fn date_line(line: &[u8]) -> DateRead
     ensures { λ r. ⌜ DateLineChecked (now (line .entry)) r ⌝ }
 {
@@ -181,7 +181,7 @@ fn head_fields(line: &[u8]) -> HeadRead
     })
 }
 
-// A C head: declared date, time, flight date, task number, number of turn points, text. Refusals: LENGTH, CHARACTER, FORM at 2, 8, 14, 20 or 24.
+// A C head: declared date, time, flight date, task number, number of turn points, text. Refusals: LENGTH, CHARACTER, DATE at 2 or 14, TIME at 8, FORM at 20 or 24.
 pub fn head_line(line: &[u8]) -> HeadRead
     ensures { λ r. ⌜ HeadChecked (now (line .entry)) r ⌝ }
 {
@@ -191,7 +191,7 @@ pub fn head_line(line: &[u8]) -> HeadRead
     head_fields(line)
 }
 
-// A C point: latitude, longitude, text. Refusals: LENGTH, CHARACTER, FORM at 2 or 10.
+// A C point: latitude, longitude, text. Refusals: LENGTH, CHARACTER, POSITION at 2 or 10.
 pub fn point_line(line: &[u8]) -> PointRead
     ensures { λ r. ⌜ PointChecked (now (line .entry)) r ⌝ }
 {
@@ -238,7 +238,7 @@ fn bad_pair(line: &[u8]) -> Found
     Found::Nothing
 }
 
-// An F line: its time, then pairs of code characters, perhaps none. Refusals: LENGTH, CHARACTER, FORM at 2, at 8 for an odd half pair, or at a pair.
+// An F line: its time, then pairs of code characters, perhaps none. Refusals: LENGTH, CHARACTER, TIME at 2, FORM at 8 for an odd half pair or at a pair.
 pub fn satellites(line: &[u8]) -> TimeRead
     ensures { λ r. ⌜ SatellitesChecked (now (line .entry)) r ⌝ }
 {
@@ -275,7 +275,8 @@ fn with_columns(f: FixFields, line: &[u8], layout: Layout) -> FixFieldsRead
     FixFieldsRead::Is(f)
 }
 
-// A B line by an I layout: the fields of its fix. Refusals: LENGTH, CHARACTER, FORM at 2, 8, 16, 25, 26 or 31, COLUMN. Defined for every layout value.
+// A B line by an I layout: the fields of its fix. Refusals: LENGTH, CHARACTER, TIME at 2, POSITION at 8 or 16, FORM at 25, ALTITUDE at 26 or 31, COLUMN. Defined for
+// every layout value.
 pub fn fix_line(line: &[u8], layout: Layout) -> FixFieldsRead
     ensures { λ r. ⌜ FixChecked (now (line .entry)) layout r ⌝ }
 {
@@ -288,7 +289,7 @@ pub fn fix_line(line: &[u8], layout: Layout) -> FixFieldsRead
     }
 }
 
-// A K line by a J layout, or an N line by an M layout: its time. Refusals: LENGTH, CHARACTER, FORM at 2, COLUMN. Defined for every layout value.
+// A K line by a J layout, or an N line by an M layout: its time. Refusals: LENGTH, CHARACTER, TIME at 2, COLUMN. Defined for every layout value.
 pub fn extra_line(line: &[u8], layout: Layout) -> TimeRead
     ensures { λ r. ⌜ ExtraChecked (now (line .entry)) layout r ⌝ }
 {

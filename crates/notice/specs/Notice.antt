@@ -1,17 +1,16 @@
 -- What igc says of a file by its name, and the promises of the functions that put it into a buffer: as much of the text as has room.
-use Prim.Native.Nat.{ℕ, _+_, _/_, _%_}
-use Prim.Native.Char.{code}
+use Prim.Native.Nat.{ℕ}
 use mathlib.Core.Bool.{Bool, cond}
-use mathlib.Core.List.{List, [], _∷_, _++_}
+use mathlib.Core.List.{List, _++_}
 use lib.Dec.{eqb}
 use lib.ListN.{length}
 use Rattle.rules.specs.Choice.{bytes}
-use Rattle.rules.specs.Listing.{decimal, shown, lf}
+use Rattle.rules.specs.Listing.{shown, lf}
 use Rattle.rules.specs.declared.Counts.{Counts}
-use Rattle.rules.specs.declared.Date.{Date}
 use Rattle.rules.specs.declared.Flight.{Flight}
 use Rattle.rules.specs.declared.Refusal.{Refusal}
 use Rattle.pieces.specs.Buffer.{PiecePut}
+use Rattle.dates.specs.Dates.{dateShown}
 use Rattle.explain.specs.Explanation.{explanation}
 
 -- An argument is handed out with no bytes where it has none, and where it has more than a path can have.
@@ -19,15 +18,7 @@ unfoldable pub nameShown : List ℕ → List ℕ
 unfolding bytes
 nameShown name = cond (eqb (length name) 0) (bytes "(no name, or one over 4,096 bytes)") name
 
--- ---- a file that is accepted: its date, its counts of lines, fixes and K lines, and whether a G line is there
-
--- a dash and a number below 100, with a zero in front where it has one digit
-unfoldable pub twoDigits : ℕ → List ℕ
-twoDigits n = code "-" ∷ (48 + n / 10 % 10) ∷ (48 + n % 10) ∷ []
-
--- year, month and day, so that lines of several files sort by date
-unfoldable pub dateShown : Date → List ℕ
-dateShown d = decimal (d .year) ++ (twoDigits (d .month) ++ twoDigits (d .day))
+-- ---- a file that is accepted: its date, its counts of lines, fixes, K lines and N lines, and whether a G line is there
 
 -- a count behind its word
 unfoldable pub counted : List ℕ → ℕ → List ℕ

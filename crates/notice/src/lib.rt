@@ -1,13 +1,12 @@
 // What igc says of a file by its name: the heading of its listing, the line of its check, its refusal explained, why it was not read. Each is put at the start of a lent
 // buffer, and the answer is how many bytes that is; a full buffer takes no more.
 ghost use Rattle.pieces.specs.Buffer.{PiecePut};
-ghost use Rattle.notice.specs.Notice.{nameShown, twoDigits, dateShown, counted, countsShown, extrasShown, signedShown, acceptedShown, HeadingPut, AcceptedPut, RefusedPut, FailedPut};
+ghost use Rattle.notice.specs.Notice.{nameShown, counted, countsShown, extrasShown, signedShown, acceptedShown, HeadingPut, AcceptedPut, RefusedPut, FailedPut};
+use dates::put_date;
 use pieces::put_byte;
-use pieces::put_decimal;
 use pieces::put_shown;
 use pieces::put_text;
 use rules::Counts;
-use rules::Date;
 use rules::Flight;
 use rules::Refusal;
 
@@ -18,22 +17,6 @@ fn put_name(out: &mut [u8], at: usize, name: &[u8]) -> usize
         return put_text(out, at, b"(no name, or one over 4,096 bytes)");
     }
     put_text(out, at, name)
-}
-
-fn put_dashed(out: &mut [u8], at: usize, n: u8) -> usize
-    ensures { λ r. ⌜ PiecePut (now (out .entry)) at (twoDigits n) r (now (out .exit)) ⌝ }
-{
-    let a = put_byte(out, at, b'-');
-    let b = put_byte(out, a, 48 + n / 10 % 10);
-    put_byte(out, b, 48 + n % 10)
-}
-
-fn put_date(out: &mut [u8], at: usize, d: Date) -> usize
-    ensures { λ r. ⌜ PiecePut (now (out .entry)) at (dateShown d) r (now (out .exit)) ⌝ }
-{
-    let a = put_decimal(out, at, d.year as u64);
-    let b = put_dashed(out, a, d.month);
-    put_dashed(out, b, d.day)
 }
 
 fn put_counted(out: &mut [u8], at: usize, word: &[u8], n: u32) -> usize

@@ -8,7 +8,7 @@ use Rattle.rules.specs.declared.Seal.{Seal}
 use Rattle.rules.specs.declared.State.{State}
 use Rattle.only.proofs.Only.{Only, same, alike}
 use Rattle.only.proofs.Told.{OneToOne, by-back}
-use Rattle.order.specs.Following.{leadingTold, EndGiven, RoleGiven, RoleTest, OrderTold, BackTest}
+use Rattle.order.specs.Following.{leadingTold, EndGiven, RoleGiven, RoleTest, OrderTold}
 use Rattle.order.specs.declared.Leading.{Leading}
 use Rattle.order.specs.declared.Leading.the-variants as leading
 
@@ -31,6 +31,3 @@ only-order-told r st = alike leading-one
 
 pub only-role-test : (r : Role) → Only (RoleTest r)
 only-role-test r = same
-
-pub only-back-test : (before now : ℕ) → Only (BackTest before now)
-only-back-test before now = same

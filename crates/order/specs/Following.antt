@@ -1,10 +1,10 @@
--- The promises of the order of lines: which kind may follow which, and the time order.
+-- The promises of the order of lines: which kind may follow which.
 use Prim.Native.Nat.{ℕ}
 use mathlib.Core.Bool.{Bool}
 use mathlib.Core.Option.{Option, none, some}
 use mathlib.Core.Path.{_≡_}
 use Rattle.rules.specs.Files.{endsAfter}
-use Rattle.rules.specs.Order.{orderOf, passing, isBack}
+use Rattle.rules.specs.Order.{orderOf}
 use Rattle.rules.specs.Roles.{roleOf, isRole}
 use Rattle.rules.specs.declared.Kind.{Kind}
 use Rattle.rules.specs.declared.Role.{Role}
@@ -29,7 +29,3 @@ leadingTold leading.Nowhere = none
 
 abbrev pub OrderTold : Role → State → Leading → Type 0
 OrderTold r st x = leadingTold x ≡ orderOf r st
-
--- the time falls, and not to the next day
-abbrev pub BackTest : ℕ → ℕ → Bool → Type 0
-BackTest before now r = r ≡ isBack (passing before now)

@@ -1,9 +1,9 @@
-// Which kind of line may follow which, and the time order.
+// Which kind of line may follow which.
 ghost use mathlib.Core.Path.{_≡_};
 ghost use Rattle.rules.specs.Order.{fitsDeclaration};
 ghost use Rattle.rules.specs.Roles.{isDeclaring, afterLayout, leading, stageAfter};
 ghost use Rattle.rules.specs.declared.Role.the-variants as role;
-ghost use Rattle.order.specs.Following.{leadingTold, EndGiven, RoleGiven, RoleTest, OrderTold, BackTest};
+ghost use Rattle.order.specs.Following.{leadingTold, EndGiven, RoleGiven, RoleTest, OrderTold};
 use rules::Extra;
 use rules::Family;
 use rules::Kind;
@@ -163,17 +163,4 @@ pub fn order_of(r: Role, st: State) -> Leading
         return Leading::Nowhere;
     }
     stage_after(r, st.stage)
-}
-
-// Whether a time falls from the one before it, and not to the next day.
-pub fn is_back(before: u32, now: u32) -> bool
-    ensures { λ r. ⌜ BackTest before «now» r ⌝ }
-{
-    if before <= now {
-        return false;
-    }
-    if 43200 < before - now {
-        return false;
-    }
-    true
 }

@@ -1,8 +1,7 @@
 -- A body line by its kind: where it is surely good, the check judges it good, and leaves the numbers that the run has. Assumes nothing.
 use Prim.Native.Nat.{ℕ, _+_, _-_, _≤_, _<_}
-use mathlib.Core.Bool.{Bool, true, false, not}
+use mathlib.Core.Bool.{true, false}
 use mathlib.Core.List.{List, _∷_, _++_}
-use mathlib.Core.Option.{Option, none, some}
 use mathlib.Core.Path.{_≡_, refl, sym, ap, _∙_}
 use native.Mathlib.Numerals.{add-one}
 use native.Mathlib.Omega.{arith}
@@ -11,13 +10,13 @@ use lib.ListN.{length, getD, take, drop, length-take, length-drop, take-append-d
 use lib.Seq.{drop-cons, drop-drop, getD-take, getD-drop}
 use Rattle.rules.specs.Families.{firstStart, lineLetter, layoutOf, oneMore}
 use Rattle.rules.specs.Roles.{afterH, inBody, stageAfter}
-use Rattle.rules.specs.Choice.{given, need, on}
+use Rattle.rules.specs.Choice.{on}
 use Rattle.rules.specs.Fields.{timeTold}
 use Rattle.rules.specs.Layouts.{entriesOf, lineLength}
 use Rattle.rules.specs.Lines.{kindOf, columnedLine, eLine, fLine, shaped}
 use Rattle.rules.specs.Order.{judge, orderOf, fitsDeclaration, ruled, timed, passing, isBack, moved, counted, clocked}
 use Rattle.rules.specs.Reads.{timeReadTold}
-use Rattle.rules.specs.Refusals.{Said, says, outcomeTold}
+use Rattle.rules.specs.Refusals.{says, outcomeTold}
 use Rattle.rules.specs.Split.{line, linesOf}
 use Rattle.rules.specs.declared.Counts.{Counts}
 use Rattle.rules.specs.declared.Family.{Family}
@@ -27,7 +26,7 @@ use Rattle.rules.specs.declared.Outcome.{Outcome}
 use Rattle.rules.specs.declared.Outcome.the-variants as outcome
 use Rattle.rules.specs.declared.State.{State}
 use Rattle.rules.specs.declared.Time.{Time}
-use Rattle.rules.specs.declared.Time.the-variants.{Secs, NoTime}
+use Rattle.rules.specs.declared.Time.the-variants.{Secs}
 use Rattle.rules.specs.declared.TimeRead.{TimeRead}
 use Rattle.rules.specs.declared.TimeRead.the-variants as timeRead
 use Rattle.laws.proofs.Splitting.{lines-of-line}
@@ -36,34 +35,14 @@ use Rattle.plain.proofs.Laws.{mild-text}
 use Rattle.sure.specs.Sure.{patternOf, sureTime}
 use Rattle.sure.proofs.Said.{SureParts, parts, sure-columned}
 use Rattle.cut.proofs.Cuts.{Cut}
-use Rattle.tally.specs.Counting.{areFew, moreOf}
+use Rattle.tally.specs.Counting.{moreOf}
 use Rattle.tally.proofs.Counting.{are-few, few-more}
-use Rattle.pace.specs.Paces.{paced, onward, takenTold, AfterTime, Going, Known, Judges, JudgedAs, MildAs, Takes, TakenAs}
-use Rattle.pace.specs.declared.Pace.{Pace}
-use Rattle.pace.specs.declared.Taken.{Taken}
-use Rattle.pace.specs.declared.Taken.the-variants as taken
-
--- ---- what the answers tell
-
--- a line was taken: it has a time, which does not fall
-pub record InTime (time : Time) (p : Pace) (next : ℕ) (counts : Counts) (q : Pace) : Type 0 where
-  pub t : ℕ
-  pub is : timeTold time ≡ some t
-  pub forth : isBack (passing (p .clock) t) ≡ false
-  pub numbers : q ≡ onward p next t counts
-
-timed-by : (o : Option ℕ) (time : Time) (p q : Pace) (next : ℕ) (counts : Counts) → timeTold time ≡ o
-    → some q ≡ (given o none λ s. need (not (isBack (passing (p .clock) s))) none λ _. some (onward p next s counts)) → InTime time p next counts q
-timed-by none time p q next counts o e = let z : _≡_ {A = ℕ} 0 1 = cc in absurd (omega arith)
-timed-by (some t) time p q next counts o e = by (isBack (passing (p .clock) t)) refl e
-  where
-    by : (b : Bool) → isBack (passing (p .clock) t) ≡ b → some q ≡ (need (not b) none λ _. some (onward p next t counts)) → InTime time p next counts q
-    by true w e = let z : _≡_ {A = ℕ} 0 1 = cc in absurd (omega arith)
-    by false w e = record { t = t; is = o; forth = w; numbers = cc }
-
-pub timed-is : (time : Time) (p q : Pace) (next : ℕ) (counts : Counts) (r : Taken) → AfterTime time p next counts r → r ≡ taken.Next q → InTime time p next counts q
-unfolding takenTold
-timed-is time p q next counts r a e = timed-by (timeTold time) time p q next counts refl (rw e at a)
+use Rattle.clock.specs.Times.{AfterTime}
+use Rattle.clock.specs.declared.Pace.{Pace}
+use Rattle.clock.specs.declared.Taken.{Taken}
+use Rattle.clock.specs.declared.Taken.the-variants as taken
+use Rattle.clock.proofs.Moving.{timed-is}
+use Rattle.pace.specs.Paces.{paced, Going, Known, Judges, JudgedAs, MildAs, Takes, TakenAs}
 
 -- ---- a line judged
 
@@ -99,10 +78,11 @@ by-mild (taken.Next q) h = h q refl
 by-mild taken.Unsure h = tt
 
 module _ (l : List ℕ) (st : State) (p : Pace) (next : ℕ) (g : Going st p) (long : 1 ≤ length l) where
-  pub columned-told : (f : Family) (size : ℕ) (pattern : List ℕ) (time : Time) (r : Taken) → areFew (p .counts) ≡ true → Known f st size pattern → getD l 0 0 ≡ lineLetter f
+  pub columned-told : (f : Family) (size : ℕ) (pattern : List ℕ) (time : Time) (r : Taken) → Known f st size pattern → getD l 0 0 ≡ lineLetter f
       → timeTold time ≡ sureTime f l size pattern → (counts : Counts) → counts ≡ moreOf f (p .counts) → AfterTime time p next counts r → MildAs l st p next r
-  columned-told f size pattern time r few k e s counts n a =
+  columned-told f size pattern time r k e s counts n a =
       by-mild r λ q h.
+      let few = timed-is time p q next counts r a h .room .few in
       let more : counts ≡ oneMore f (p .counts) = n ∙ few-more f (p .counts) (are-few (p .counts) few) in
       let d = timed-is time p q next (oneMore f (p .counts)) r (rw more at a) h in
       let layout = layoutOf f (st .flight .layouts) in

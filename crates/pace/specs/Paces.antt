@@ -1,32 +1,24 @@
--- The numbers that move in a run of lines, and a line taken by them.
-use Prim.Native.Nat.{ℕ, _+_, _≤_}
-use mathlib.Core.Bool.{true, not}
+-- A line taken by the numbers that it moves.
+use Prim.Native.Nat.{ℕ, _≤_}
+use mathlib.Core.Bool.{true}
 use mathlib.Core.List.{List}
-use mathlib.Core.Option.{Option, none, some}
 use mathlib.Core.Path.{_≡_}
 use lib.ListN.{length, getD}
 use Rattle.rules.specs.Families.{firstStart, lineLetter, layoutOf}
 use Rattle.rules.specs.Roles.{afterH, inBody}
-use Rattle.rules.specs.Choice.{given, need}
-use Rattle.rules.specs.Fields.{timeTold}
 use Rattle.rules.specs.Layouts.{allowed, lineLength, entriesOf}
-use Rattle.rules.specs.Order.{passing, isBack, judge}
+use Rattle.rules.specs.Order.{judge}
 use Rattle.rules.specs.Refusals.{says}
-use Rattle.rules.specs.declared.Counts.{Counts}
 use Rattle.rules.specs.declared.Family.{Family}
 use Rattle.rules.specs.declared.Extra.the-variants as extra
 use Rattle.rules.specs.declared.Family.the-variants as family
 use Rattle.rules.specs.declared.State.{State}
-use Rattle.rules.specs.declared.Time.{Time}
-use Rattle.tally.specs.Counting.{areFew}
-use Rattle.state.specs.Turns.{Passed}
+use Rattle.enter.specs.Turns.{Passed}
 use Rattle.plain.specs.Plain.{isMild, every}
 use Rattle.sure.specs.Sure.{patternOf}
-use Rattle.pace.specs.declared.Pace.{Pace}
-use Rattle.pace.specs.declared.Taken.{Taken}
-use Rattle.pace.specs.declared.Taken.the-variants as taken
-
--- ---- the numbers that move
+use Rattle.clock.specs.declared.Pace.{Pace}
+use Rattle.clock.specs.declared.Taken.{Taken}
+use Rattle.clock.specs.declared.Taken.the-variants as taken
 
 -- the state with the numbers of a pace
 abbrev pub paced : State → Pace → State
@@ -37,24 +29,6 @@ paced st p = record {
   clock = p .clock;
   flight = record { date = st .flight .date; layouts = st .flight .layouts; lines = p .lines; counts = p .counts };
 }
-
--- the numbers after a body line of this time, the next line standing behind `next` bytes
-abbrev pub onward : Pace → ℕ → ℕ → Counts → Pace
-onward p next t counts = record { at = next; stage = inBody; clock = t; lines = p .lines + 1; counts = counts }
-
-unfoldable pub takenTold : Taken → Option Pace
-takenTold (taken.Next q) = some q
-takenTold taken.Unsure = none
-
--- after a line of this time, where there is one and it does not fall
-abbrev pub AfterTime : Time → Pace → ℕ → Counts → Taken → Type 0
-AfterTime t p next counts r =
-    takenTold r ≡ given (timeTold t) none λ s. need (not (isBack (passing (p .clock) s))) none λ _. some (onward p next s counts)
-
--- the counts have room for one line more
-pub record Room (p : Pace) : Type 0 where
-  pub lines : p .lines ≤ 33554432
-  pub few : areFew (p .counts) ≡ true
 
 -- ---- a line taken
 

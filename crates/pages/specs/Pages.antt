@@ -23,7 +23,7 @@ use Rattle.pages.specs.declared.Begun.{Begun}
 unfoldable pub opened : Seal → ℕ → List ℕ → ℕ → Said Flight
 opened seal most file room = need (leb (length file) most) (no InputOver 0) λ _. verdict seal file (some room)
 
--- "OK: lines, B lines, K lines, B length, K length."; "A refusal prints only REFUSED, number, line, byte."
+-- "OK: lines, B lines, K lines, B length, K length."; it "gets the N count and N length as two more fields at its end"; "A refusal prints only REFUSED, number, line, byte."
 unfoldable pub firstLine : Said Flight → List ℕ
 firstLine (says f) = okText f
 firstLine (refuses n l b) = refusedText n l b

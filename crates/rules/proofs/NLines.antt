@@ -100,6 +100,9 @@ examples =
     -- 7: M of one byte less than its three; N of eight bytes without an M line
     lines ("AXYZ001" ∷ "HFDTE150724" ∷ "M0" ∷ "GABC" ∷ []) (refuses 7 3 0) ∷
     lines ("AXYZ001" ∷ "HFDTE150724" ∷ "N1200001" ∷ "GABC" ∷ []) (refuses 7 3 0) ∷
+    -- 8: a comma in an N line, an exclamation mark in an M line
+    lines ("AXYZ001" ∷ "HFDTE150724" ∷ "M010808ZZZ" ∷ "N120000," ∷ "GABC" ∷ []) (refuses 8 4 8) ∷
+    lines ("AXYZ001" ∷ "HFDTE150724" ∷ "M010810HR!" ∷ "GABC" ∷ []) (refuses 8 3 10) ∷
     -- 9 to 12: the length against NN; an entry from 36, as for B lines; HRT again; ENL of two bytes
     lines ("AXYZ001" ∷ "HFDTE150724" ∷ "M010810HRT1" ∷ "GABC" ∷ []) (refuses 9 3 2) ∷
     lines ("AXYZ001" ∷ "HFDTE150724" ∷ "M013638HRT" ∷ "GABC" ∷ []) (refuses 10 3 4) ∷
@@ -111,6 +114,7 @@ examples =
     lines ("AXYZ001" ∷ "HFDTE150724" ∷ "K120000" ∷ "N115959" ∷ "GABC" ∷ []) (refuses 14 4 2) ∷
     lines ("AXYZ001" ∷ "HFDTE150724" ∷ "N120000" ∷ "K115959" ∷ "GABC" ∷ []) (refuses 14 4 2) ∷
     lines ("AXYZ001" ∷ "HFDTE150724" ∷ "K235958" ∷ "N000001" ∷ "GABC" ∷ []) (says (pos 5)) ∷
+    lines ("AXYZ001" ∷ "HFDTE150724" ∷ "N235958" ∷ "K000001" ∷ "GABC" ∷ []) (says (pos 5)) ∷
     -- 15: no room for the N line
     record {
       given = fileOf ("AXYZ001" ∷ "HFDTE150724" ∷ "N120000" ∷ "GABC" ∷ []);

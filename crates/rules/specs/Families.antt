@@ -14,7 +14,7 @@ use Rattle.rules.specs.declared.Family.the-variants as family
 use Rattle.rules.specs.declared.Layouts.{Layouts}
 use Rattle.rules.specs.declared.Counts.{Counts}
 
--- "The first entry starts at 36 (I) or 8 (J)"; of M: "columns from 8"
+-- "The first entry starts at 36 (I) or 8 (J)"; "M is built as J is"
 abbrev pub firstStart : Family → ℕ
 firstStart family.B = 36
 firstStart (family.Extra e) = 8

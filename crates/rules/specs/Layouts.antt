@@ -1,4 +1,4 @@
--- Document 01, 'I and J layouts': the columns that an I or a J line tells, over the place where the first one starts.
+-- Document 01, 'I and J layouts': the columns that an I, a J or an M line tells, over the place where the first one starts.
 use Prim.Native.Nat.{ℕ, zero, suc, _+_, _-_, _*_, _^_}
 use mathlib.Core.Bool.{Bool, true, false, not, _&&_, cond}
 use mathlib.Core.List.{List, [], _∷_}
@@ -117,7 +117,7 @@ unfoldable pub allowed : ℕ → Layout → Bool
 allowed start l =
     leb (l .count) 13 && allPlaced (entriesOf l) start emptyLayout && leads isUnused (13 - l .count) (drop (l .count) (l .entries))
 
--- "A line of that kind ends at the last FF; with NN 00, or no such line, B has 35 and K has 7."
+-- "A line of that kind ends at the last FF; with NN 00, or no such line, B has 35 and K has 7."; N as K
 unfoldable pub lineLength : ℕ → Layout → ℕ
 lineLength start l = cond (eqb (l .count) 0) (start - 1) ((getD (l .entries) (l .count - 1) unused) .last)
 

@@ -54,13 +54,14 @@ unfoldable pub refusedText : ℕ → ℕ → ℕ → List ℕ
 unfolding bytes
 refusedText n l b = bytes "REFUSED" ++ (shown n ++ (shown l ++ (shown b ++ lf)))
 
--- "OK: lines, B lines, K lines, B length, K length."; "the listing's OK line gets the N count and N length as two more fields at its end"
+-- the count of a family's lines, and their length
 abbrev pub countShown : Family → Flight → List ℕ
 countShown f v = shown (countOf f (v .counts))
 
 abbrev pub lengthShown : Family → Flight → List ℕ
 lengthShown f v = shown (lineLength (firstStart f) (layoutOf f (v .layouts)))
 
+-- "OK: lines, B lines, K lines, B length, K length."; "the listing's OK line gets the N count and N length as two more fields at its end"
 unfoldable pub okText : Flight → List ℕ
 unfolding bytes
 okText f =

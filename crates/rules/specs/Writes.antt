@@ -33,8 +33,9 @@ use Rattle.rules.specs.declared.Point.{Point}
 use Rattle.rules.specs.declared.Wrote.{Wrote}
 use Rattle.rules.specs.declared.Wrote.the-variants as wrote
 
--- ---- the text of each line, without its CR LF. "Writers make B, I, J, K and C lines."; M and N lines "have writers". "Writers take what the readings give, columns and other text as bytes; B and K
--- readers and writers take the layout too; C head and C point have a reader and a writer each."
+-- ---- the text of each line, without its CR LF. "Writers make B, I, J, K and C lines."; M and N "have writers".
+-- "Writers take what the readings give, columns and other text as bytes; B and K readers and writers take the layout too; C head and C point have a reader and a writer
+-- each."; N as K
 
 unfoldable pub fieldsText : FixFields → List ℕ → List ℕ
 fieldsText f tail =

@@ -70,7 +70,14 @@ pub(crate) fn put_flight(
 ) -> usize
     ensures { λ r. ⌜ PiecePut (now (out .entry)) 0 (okNumbers lines counts b k n) r (now (out .exit)) ⌝ }
 {
-    let c = put_counted(out, 0, b"OK", lines as u64, counts.b as u64, counts.k as u64);
+    let c = put_counted(
+        out,
+        0,
+        b"OK",
+        lines as u64,
+        counts.b as u64,
+        counts.k as u64,
+    );
     let d = put_two(out, c, b as u64, k as u64);
     let e = put_two(out, d, counts.n as u64, n as u64);
     put_byte(out, e, b'\n')

@@ -1,4 +1,2 @@
-pub mod Counts
-pub mod Turns
 pub mod States
 pub mod Only

@@ -1,17 +1,13 @@
 -- One answer at most meets each promise of this crate. Assumes nothing.
 use Prim.Native.Nat.{ℕ}
-use mathlib.Core.Bool.{Bool, cond}
-use mathlib.Core.List.{List}
-use mathlib.Core.Path.{_≡_, sym, ap, _∙_}
 use Rattle.rules.specs.declared.Date.{Date}
 use Rattle.rules.specs.declared.Family.{Family}
 use Rattle.rules.specs.declared.Head.{Head}
 use Rattle.rules.specs.declared.Layout.{Layout}
 use Rattle.rules.specs.declared.Layouts.{Layouts}
 use Rattle.rules.specs.declared.State.{State}
-use Rattle.only.proofs.Only.{Only, OnlyBoth, same}
+use Rattle.only.proofs.Only.{Only, same}
 use Rattle.state.specs.States.{FewTest, NoFlight, BeforeAll, Moved, Dated, LayoutKept, LaidOut, CountedIn, Begun, Pointed, Clocked}
-use Rattle.state.specs.Turns.{entry, EntryPut}
 
 pub only-few-test : (st : State) → Only (FewTest st)
 only-few-test st = same
@@ -45,8 +41,3 @@ only-pointed st = same
 
 pub only-clocked : (t : ℕ) (st : State) → Only (Clocked t st)
 only-clocked t st = same
-
-pub only-entry-put : (lent : Bool) (table : List ℕ) (n at : ℕ) → OnlyBoth (EntryPut lent table n at)
-only-entry-put lent table n at r r′ after after′ e e′ =
-    let q : r ≡ r′ = same r r′ (e .fits) (e′ .fits) in
-    (q, e .entries ∙ ap (λ (b : Bool). cond b (entry lent table n at) table) q ∙ sym (e′ .entries))

@@ -1,3 +1,2 @@
--- The promises of this crate, and a line passed in the check of a file.
+-- The promises of this crate, and a refusal in the line that comes next.
 pub mod States
-pub mod Turns

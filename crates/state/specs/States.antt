@@ -1,6 +1,6 @@
 -- The promises of the state that the lines so far have left: before the first line, and what a line changes in it. Where the count that would move is not few, the
 -- state stays as it is.
-use Prim.Native.Nat.{ℕ, _≤_}
+use Prim.Native.Nat.{ℕ, _+_, _≤_}
 use mathlib.Core.Bool.{Bool, _&&_, cond}
 use mathlib.Core.Path.{_≡_}
 use Rattle.rules.specs.Families.{layoutOf, countOf}
@@ -11,6 +11,8 @@ use Rattle.rules.specs.declared.Flight.{Flight}
 use Rattle.rules.specs.declared.Head.{Head}
 use Rattle.rules.specs.declared.Layout.{Layout}
 use Rattle.rules.specs.declared.Layouts.{Layouts}
+use Rattle.rules.specs.declared.Reason.{Reason}
+use Rattle.rules.specs.declared.Refusal.{Refusal}
 use Rattle.rules.specs.declared.State.{State}
 use Rattle.tally.specs.Counting.{isFew, areFew, moreOf}
 
@@ -65,3 +67,9 @@ Pointed st r = r ≡ pointed st
 
 abbrev pub Clocked : ℕ → State → State → Type 0
 Clocked t st r = r ≡ clocked t st
+
+-- ---- where the check stops
+
+-- a refusal in the line that comes next
+abbrev pub inNext : Reason → ℕ → State → Refusal
+inNext reason byte st = record { reason = reason; line = st .flight .lines + 1; byte = byte }

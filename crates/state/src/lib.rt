@@ -1,8 +1,7 @@
-// The state that the lines so far have left: at the start, and what a line changes in it; and a line's entry in the table.
+// The state that the lines so far have left: at the start, and what a line changes in it.
 ghost use mathlib.Core.Path.{_≡_};
 ghost use Rattle.rules.specs.Families.{withLayout};
 ghost use Rattle.state.specs.States.{FewTest, NoFlight, BeforeAll, Moved, Dated, LayoutKept, LaidOut, CountedIn, Begun, Pointed, Clocked};
-ghost use Rattle.state.specs.Turns.{EntryPut};
 use rules::Counts;
 use rules::Date;
 use rules::Extra;
@@ -170,18 +169,4 @@ pub fn clocked_to(t: u32, st: State) -> State
     let mut next = st;
     next.clock = t;
     next
-}
-
-// Puts a line's offset into the lent table, if one is lent, at its place: whether the table has room for it. Where it has none, the table stays.
-pub fn put_entry(lent: bool, table: &mut [u32], n: usize, at: u32) -> bool
-    ensures { λ r. ⌜ EntryPut lent (now (table .entry)) n at r (now (table .exit)) ⌝ }
-{
-    if !lent {
-        return true;
-    }
-    if table.len() <= n {
-        return false;
-    }
-    table[n] = at;
-    true
 }

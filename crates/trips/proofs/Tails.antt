@@ -1,4 +1,4 @@
--- The columns of a B or a K line, over the first start: the line's checks of length, characters and columns are checks of its tail. Assumes nothing.
+-- The columns of a B, a K or an N line, over the first start: the line's checks of length, characters and columns are checks of its tail. Assumes nothing.
 use Prim.Native.Nat.{ℕ, suc, _+_, _-_, _≤_}
 use mathlib.Core.Bool.{Bool, true, false, not, _&&_}
 use mathlib.Core.List.{List, [], _∷_, _++_}

@@ -1,4 +1,4 @@
-// The lines that are written: B, I, J, K and C lines, each with its CR LF, into a lent output from a place on.
+// The lines that are written: B, I, J, K, M, N and C lines, each with its CR LF, into a lent output from a place on.
 mod extras;
 mod fixes;
 mod heads;

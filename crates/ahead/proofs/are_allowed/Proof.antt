@@ -1,9 +1,8 @@
 -- `ahead::are_allowed` meets its contract. Assumes nothing.
-use Prim.Native.Nat.{ℕ}
-use mathlib.Core.Path.{_≡_, sym, _∙_}
-use native.Mathlib.Omega.{arith}
+use mathlib.Core.Path.{sym, _∙_}
 use borrow.Author.Tests.{not-false}
 use borrow.Author.Needs.{needs}
+use Rattle.rules.proofs.Inverse.{false-true}
 use Rattle.ahead.proofs.are_allowed.Statement.{statement}
 use Rattle.ahead.proofs.are_allowed.Tie as tie
 
@@ -12,9 +11,9 @@ are-allowed-spec =
     tie.close
     (tie.spec
     (λ c κs. search needs)
-    (λ c z. let y : _≡_ {A = ℕ} 0 1 = cc in absurd (omega arith))
+    (λ c z. absurd (false-true z))
     (λ c κs. search needs)
-    (λ c z. let y : _≡_ {A = ℕ} 0 1 = cc in absurd (omega arith))
+    (λ c z. absurd (false-true z))
     (λ c κs. search needs)
     (λ c z. record {
       fixes = sym (c .before .before .before .before .allowed .ensures) ∙ not-false _ (c .before .before .before .if1 .left);

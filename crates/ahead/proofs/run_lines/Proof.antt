@@ -5,7 +5,7 @@ use native.Mathlib.Omega.{arith}
 use borrow.Author.Needs.{needs}
 use borrow.Author.Tests.{not-true, not-false}
 use lib.ListN.{length}
-use Rattle.state.proofs.Turns.{put-none}
+use Rattle.enter.proofs.Turns.{put-none}
 use Rattle.ahead.proofs.Runs.{taken-is, Running, running-first, running-next, running-less, running-end}
 use Rattle.ahead.proofs.run_lines.Statement.{statement}
 use Rattle.ahead.proofs.run_lines.Tie as tie
@@ -21,21 +21,21 @@ loop-holds c =
     let pre = c .before .before .before .before .before .before .pre in
     running-first _ _ _ _ _ _ (c .pace-of .ensures) (pre .0) (pre .3) (pre .4) (pre .5)
 
-cast-place : tie.Need-cast-put-entry-2 Inv-loop μ-loop
-cast-place c = omega (arith, c .before .before .before .before .before .before .before .before .before .loop .inv .within, c .before .before .before .before .before .before .before .before .before .before .before .before .before .before .before .before .pre .1)
+cast-place : tie.Need-cast-put-entry Inv-loop μ-loop
+cast-place c = omega (arith, c .before .before .before .before .before .before .before .before .loop .inv .within, c .before .before .before .before .before .before .before .before .before .before .before .before .before .before .before .pre .1)
 
 loop-less : tie.Need-loop-less Inv-loop μ-loop
 loop-less c =
-    let g = c .before .before .before .before .before .before .before .before .before .before .before .before .before .loop .inv in
-    let pre = c .before .before .before .before .before .before .before .before .before .before .before .before .before .before .before .before .before .before .before .before .pre in
-    let t = taken-is _ (c .before .before .before .before .before .before .before .before .before .before .take-line .ensures _ (g .going) (pre .6) (pre .7) (pre .8)) (c .before .before .before .before .before .before .before .before .next .given .1) in
+    let g = c .before .before .before .before .before .before .before .before .before .before .before .before .loop .inv in
+    let pre = c .before .before .before .before .before .before .before .before .before .before .before .before .before .before .before .before .before .before .before .pre in
+    let t = taken-is _ (c .before .before .before .before .before .before .before .before .before .take-line .ensures _ (g .going) (pre .6) (pre .7) (pre .8)) (c .before .before .before .before .before .before .before .next .given .1) in
     omega (arith, running-less g t, t .passed .within)
 
 loop-again : tie.Need-loop-again Inv-loop μ-loop
 loop-again c =
-    let g = c .before .before .before .before .before .before .before .before .before .before .before .before .before .loop .inv in
-    let pre = c .before .before .before .before .before .before .before .before .before .before .before .before .before .before .before .before .before .before .before .before .pre in
-    let t = taken-is _ (c .before .before .before .before .before .before .before .before .before .before .take-line .ensures _ (g .going) (pre .6) (pre .7) (pre .8)) (c .before .before .before .before .before .before .before .before .next .given .1) in
+    let g = c .before .before .before .before .before .before .before .before .before .before .before .before .loop .inv in
+    let pre = c .before .before .before .before .before .before .before .before .before .before .before .before .before .before .before .before .before .before .before .pre in
+    let t = taken-is _ (c .before .before .before .before .before .before .before .before .before .take-line .ensures _ (g .going) (pre .6) (pre .7) (pre .8)) (c .before .before .before .before .before .before .before .next .given .1) in
     running-next g t _ _ (c .before .before .before .put-entry .ensures) (not-false _ (c .if2 .left))
 
 pub run-lines-spec : {M : Type 1} → statement M
@@ -52,12 +52,11 @@ run-lines-spec =
     (λ c κs. search needs)
     (λ c. c .before .before .before .before .before .before .loop .inv .long)
     (λ c. running-end (c .before .before .before .before .before .before .loop .inv) _ refl _ (c .ahead-at .ensures))
-    (λ c. search needs)
     cast-place
     (λ c κs. search needs)
     (λ c κs. search needs)
-    (λ c. ap length (put-none (c .before .before .before .before .put-entry .ensures) (not-true _ (c .before .if2 .taken))) ∙ c .before .before .before .before .before .before .before .before .before .before .before .before .before .before .loop .inv .long)
-    (λ c. running-end (c .before .before .before .before .before .before .before .before .before .before .before .before .before .before .loop .inv) _ (put-none (c .before .before .before .before .put-entry .ensures) (not-true _ (c .before .if2 .taken))) _ (c .ahead-at2 .ensures))
+    (λ c. ap length (put-none (c .before .before .before .before .put-entry .ensures) (not-true _ (c .before .if2 .taken))) ∙ c .before .before .before .before .before .before .before .before .before .before .before .before .before .loop .inv .long)
+    (λ c. running-end (c .before .before .before .before .before .before .before .before .before .before .before .before .before .loop .inv) _ (put-none (c .before .before .before .before .put-entry .ensures) (not-true _ (c .before .if2 .taken))) _ (c .ahead-at2 .ensures))
     loop-less
     loop-again
     (λ c κs. search needs)

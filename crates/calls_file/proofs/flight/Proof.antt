@@ -3,6 +3,11 @@ use borrow.Author.Needs.{needs}
 use Rattle.calls_file.proofs.flight.Statement.{statement}
 use Rattle.calls_file.proofs.flight.Tie as tie
 
+returns : tie.Need-returns
+returns c =
+    let n = c .before .before .before .before .before .before .before .before .before in
+    rw (← n .before .before .line-length .ensures, ← n .before .line-length2 .ensures, ← n .line-length3 .ensures) (c .accepted .ensures)
+
 pub flight-spec : {M : Type 1} → statement M
 flight-spec =
     tie.close
@@ -11,6 +16,10 @@ flight-spec =
     (λ c. search needs)
     (λ c κs. search needs)
     (λ c. search needs)
+    (λ c κs. search needs)
+    (λ c. search needs)
+    (λ c. search needs)
+    (λ c. search needs)
     (λ c. search needs)
     (λ c. search needs)
     (λ c. search needs)
@@ -18,4 +27,4 @@ flight-spec =
     (λ c. search needs)
     (λ c. search needs)
     (λ c κs. search needs)
-    (λ c. rw (← c .before .before .before .before .before .before .before .before .line-length .ensures, ← c .before .before .before .before .before .before .before .line-length2 .ensures) (c .accepted .ensures)))
+    returns)

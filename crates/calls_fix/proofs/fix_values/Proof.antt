@@ -11,5 +11,6 @@ fix-values-spec =
     (λ c. search needs)
     (λ c. search needs)
     (λ c. search needs)
+    (λ c. search needs)
     (λ c κs. search needs)
     (λ c. c .accepted .ensures))

@@ -14,4 +14,4 @@ extra-spec =
     (λ c κs. search needs)
     (λ c. search needs)
     (λ c. search needs)
-    (λ c. write-room _ _ _ _ _ _ _ _ _ _ (c .before .before .before .before .before .before .before .before .before .if1 .left) (c .before .before .before .before .before .before .before .extra .ensures) (c .before .before .before .wrote .ensures) (c .before .before .give .ensures)))
+    (λ c. write-room _ _ _ _ _ _ _ _ _ _ (c .before .before .before .before .before .before .before .before .before .if1 .left) (c .before .before .before .before .before .before .before .put-extra .ensures) (c .before .before .before .wrote .ensures) (c .before .before .give .ensures)))

@@ -1,12 +1,11 @@
 -- `column::columns` meets its contract: the entries from i on decide as all do. Assumes nothing.
 use Prim.Native.Nat.{ℕ, _≤_, _-_}
-use mathlib.Core.Bool.{Bool, true, false, not}
+use mathlib.Core.Bool.{Bool, not}
 use mathlib.Core.List.{List}
 use mathlib.Core.Path.{_≡_, refl, sym, _∙_, ap}
-use borrow.Author.Tests.{not-true, not-false}
 use lib.ListN.{length, drop}
-use Rattle.rules.specs.Choice.{firstOf, given}
-use Rattle.rules.specs.Layouts.{entriesOf, spanOf, columnText, badColumn, columns}
+use Rattle.rules.specs.Choice.{firstOf}
+use Rattle.rules.specs.Layouts.{entriesOf, spanOf, columnText, badColumn}
 use Rattle.rules.specs.Listed.{keepsRule}
 use Rattle.rules.specs.Refusals.{outcomeTold}
 use Rattle.rules.specs.declared.Entry.{Entry}
@@ -41,29 +40,11 @@ returns c =
     let a = c .before .before in
     columns-clear _ _ (sym (a .loop .inv .1) ∙ entry-past (bad _) place _ (a .loop .i) (c .if1 .taken))
 
-mul-e : tie.Need-mul-e Inv-loop μ-loop
-mul-e c = search needs
-
-element-copy-out-e : tie.Need-element-copy-out-e Inv-loop μ-loop
-element-copy-out-e c = search needs
-
-keeps-requires : tie.Need-keeps-requires Inv-loop μ-loop
-keeps-requires c κs = search needs
-
-cast-t14 : tie.Need-cast-t14 Inv-loop μ-loop
-cast-t14 c = search needs
-
 returns-2 : tie.Need-returns-2 Inv-loop μ-loop
 unfolding outcomeTold
 returns-2 c =
     let a = c .before .before .before .before .before .before in
     columns-bad _ _ _ (sym (a .loop .inv .1) ∙ entry-hit (bad _) place _ (a .loop .i) (long (a .before .before)) (search needs) (c .before .before .before .before .if1 .left) (ap not (sym (c .before .before .keeps .ensures)) ∙ c .before .if2 .taken))
-
-add-i : tie.Need-add-i Inv-loop μ-loop
-add-i c = search needs
-
-loop-less : tie.Need-loop-less Inv-loop μ-loop
-loop-less c = search needs
 
 loop-again : tie.Need-loop-again Inv-loop μ-loop
 loop-again c =
@@ -84,12 +65,12 @@ columns-spec =
     μ-loop
     loop-holds
     returns
-    mul-e
-    element-copy-out-e
-    keeps-requires
-    cast-t14
+    (λ c. search needs)
+    (λ c. search needs)
+    (λ c κs. search needs)
+    (λ c. search needs)
     returns-2
-    add-i
-    loop-less
+    (λ c. search needs)
+    (λ c. search needs)
     loop-again
     returns-3)

@@ -5,14 +5,8 @@ use borrow.Author.Needs.{needs}
 use Rattle.column.proofs.keeps.Statement.{statement}
 use Rattle.column.proofs.keeps.Tie as tie
 
-text-of-requires : tie.Need-text-of-requires
-text-of-requires c κs = search needs
-
-keeps-rule-requires : tie.Need-keeps-rule-requires
-keeps-rule-requires c κs = search needs
-
 returns : tie.Need-returns
 returns c = c .keeps-rule .ensures ∙ ap (keepsRule _) (c .before .text-of .ensures)
 
 pub keeps-spec : {M : Type 1} → statement M
-keeps-spec = tie.close (tie.spec text-of-requires keeps-rule-requires returns)
+keeps-spec = tie.close (tie.spec (λ c κs. search needs) (λ c κs. search needs) returns)

@@ -18,9 +18,6 @@ Inv-loop out₀ l n i₀ out i = Fills out₀ 3 (entryTexts (take i (entriesOf l
 abbrev μ-loop : tie.MeasureT-loop
 μ-loop out₀ l n i₀ out i = n - i
 
-long : (c : tie.Start Inv-loop μ-loop) → length (c .args .t1 .entries) ≡ 13
-long c = search unmapped
-
 loop-holds : tie.Need-loop-holds Inv-loop μ-loop
 loop-holds c = (entries-none _, refl, search needs, refl)
 
@@ -36,8 +33,9 @@ fill-entry-requires c κs =
 loop-again : tie.Need-loop-again Inv-loop μ-loop
 loop-again c =
     let a = c .before .before .before .before .before .before in
-    let few = a .before .before .pre .few in (
-      entry-more _ _ _ (a .before .before .args .t1) (a .loop .i) (c .before .before .before .before .before .loop-test .taken) (omega (arith, long (a .before .before), few)) (a .loop .inv .0) (c .before .before .fill-entry .ensures),
+    let few = a .before .before .pre .few in
+    let long : length (a .before .before .args .t1 .entries) ≡ 13 = search unmapped in (
+      entry-more _ _ _ (a .before .before .args .t1) (a .loop .i) (c .before .before .before .before .before .loop-test .taken) (omega (arith, long, few)) (a .loop .inv .0) (c .before .before .fill-entry .ensures),
       search needs,
       search needs,
       refl,

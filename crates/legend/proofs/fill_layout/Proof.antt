@@ -18,7 +18,7 @@ returns c =
     let d = f .before .before .before .before in
     let b = d .before .before .before .before in
     let s = b .before .before .before .before in
-    layout-filled _ _ _ _ _ _ (s .args .l) _ (omega (arith, long s, s .pre .few)) (b .before .letter .ensures) (b .byte .ensures) (d .digits .ensures) (f .fill-entries .ensures) (e .text .ensures)
+    layout-filled _ _ _ _ _ _ (s .args .l) _ (omega (arith, long s, s .pre .few)) (b .before .layout-letter .ensures) (b .byte .ensures) (d .digits .ensures) (f .fill-entries .ensures) (e .text .ensures)
 
 pub fill-layout-spec : {M : Type 1} → statement M
 fill-layout-spec =

@@ -17,11 +17,8 @@ use Rattle.legend.proofs.layout.Tie as tie
 spelt : (c : tie.Else1) → Spellable (c .before .before .before .args .l)
 spelt c = spells _ _ (sym (c .before .allowed .ensures) ∙ not-false _ (c .if1 .left))
 
-long : (c : tie.Start) → length (c .args .l .entries) ≡ 13
-long c = search unmapped
-
 counted : (c : tie.Else1) → c .before .before .before .args .l .count ≤ length (c .before .before .before .args .l .entries)
-counted c = omega (arith, long (c .before .before .before), spelt c .few)
+counted c = let long : length (c .before .before .before .args .l .entries) ≡ 13 = search unmapped in omega (arith, long, spelt c .few)
 
 returns : tie.Need-returns
 returns c = bad _ _ _ _ _ _ _ refl (c .before .before .allowed .ensures) _ (c .before .if1 .taken) (c .refused .ensures) refl

@@ -10,9 +10,6 @@ use native.Mathlib.Omega.{arith}
 use borrow.Author.Needs.{needs}
 use Rattle.line.proofs.bad_pair.Statement.{statement}
 use Rattle.line.proofs.bad_pair.Tie as tie
-use Rattle.line.proofs.bad_pair.Reads as reads
-use Rattle.line.proofs.bad_pair.Lts as lts
-use Rattle.chars.proofs.is_code.Reads as is-code-reads
 
 abbrev Inv-loop : tie.InvT-loop
 Inv-loop line i₀ i = badPair 7 (drop 7 line) ≡ badPair i (drop i line)
@@ -23,38 +20,17 @@ abbrev μ-loop : tie.MeasureT-loop
 loop-holds : tie.Need-loop-holds Inv-loop μ-loop
 loop-holds c = refl
 
-add-j : tie.Need-add-j Inv-loop μ-loop
-add-j c = search needs
-
 returns : tie.Need-returns Inv-loop μ-loop
 unfolding foundTold
 returns c = sym (c .before .before .loop .inv ∙ pair-past _ _ (c .if1 .taken))
-
-shared-slice-read-is-code : tie.Need-shared-slice-read-is-code Inv-loop μ-loop
-shared-slice-read-is-code c = search needs
-
-is-code-requires : tie.Need-is-code-requires Inv-loop μ-loop
-is-code-requires c κs = search needs
 
 returns-2 : tie.Need-returns-2 Inv-loop μ-loop
 unfolding foundTold
 returns-2 c = sym (c .before .before .before .before .before .loop .inv ∙ pair-first _ _ (c .before .before .before .if1 .left) (sym (c .before .is-code .ensures) ∙ not-true _ (c .if2 .taken)))
 
-shared-slice-read-is-code-2 : tie.Need-shared-slice-read-is-code-2 Inv-loop μ-loop
-shared-slice-read-is-code-2 c = search needs
-
-is-code-requires-2 : tie.Need-is-code-requires-2 Inv-loop μ-loop
-is-code-requires-2 c κs = search needs
-
 returns-3 : tie.Need-returns-3 Inv-loop μ-loop
 unfolding foundTold
 returns-3 c = sym (c .before .before .before .before .before .before .before .before .loop .inv ∙ pair-second _ _ (c .before .before .before .before .before .before .if1 .left) (sym (c .before .before .before .before .is-code .ensures) ∙ not-false _ (c .before .before .before .if2 .left)) (sym (c .before .is-code2 .ensures) ∙ not-true _ (c .if3 .taken)))
-
-add-i : tie.Need-add-i Inv-loop μ-loop
-add-i c = search needs
-
-loop-less : tie.Need-loop-less Inv-loop μ-loop
-loop-less c = search needs
 
 loop-again : tie.Need-loop-again Inv-loop μ-loop
 loop-again c = c .before .before .before .before .before .before .before .before .loop .inv ∙ pair-good _ _ (c .before .before .before .before .before .before .if1 .left) (sym (c .before .before .before .before .is-code .ensures) ∙ not-false _ (c .before .before .before .if2 .left)) (sym (c .before .is-code2 .ensures) ∙ not-false _ (c .if3 .left))
@@ -70,15 +46,15 @@ bad-pair-spec =
     Inv-loop
     μ-loop
     loop-holds
-    add-j
+    (λ c. search needs)
     returns
-    shared-slice-read-is-code
-    is-code-requires
+    (λ c. search needs)
+    (λ c κs. search needs)
     returns-2
-    shared-slice-read-is-code-2
-    is-code-requires-2
+    (λ c. search needs)
+    (λ c κs. search needs)
     returns-3
-    add-i
-    loop-less
+    (λ c. search needs)
+    (λ c. search needs)
     loop-again
     returns-4)

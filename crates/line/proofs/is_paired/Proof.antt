@@ -11,11 +11,5 @@ use Rattle.line.proofs.is_paired.Tie as tie
 returns : tie.Need-returns
 returns c = let h : (length (c .before .args .line .now) - 7) % 2 ≡ 0 = omega arith in eq-true _ _ h
 
-sub-result : tie.Need-sub-result
-sub-result c = search needs
-
-returns-2 : tie.Need-returns-2
-returns-2 c = search needs
-
 pub is-paired-spec : {M : Type 1} → statement M
-is-paired-spec = tie.close (tie.spec returns sub-result returns-2)
+is-paired-spec = tie.close (tie.spec returns (λ c. search needs) (λ c. search needs))

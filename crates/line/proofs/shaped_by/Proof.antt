@@ -4,15 +4,9 @@ use borrow.Author.Needs.{needs}
 use Rattle.line.proofs.shaped_by.Statement.{statement}
 use Rattle.line.proofs.shaped_by.Tie as tie
 
-line-length-requires : tie.Need-line-length-requires
-line-length-requires c κs = search needs
-
-shaped-requires : tie.Need-shaped-requires
-shaped-requires c κs = search needs
-
 returns : tie.Need-returns
 unfolding shapedBy
 returns c = rw (← c .before .line-length .ensures) (c .shaped .ensures)
 
 pub shaped-by-spec : {M : Type 1} → statement M
-shaped-by-spec = tie.close (tie.spec line-length-requires shaped-requires returns)
+shaped-by-spec = tie.close (tie.spec (λ c κs. search needs) (λ c κs. search needs) returns)

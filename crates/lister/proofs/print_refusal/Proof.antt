@@ -4,27 +4,12 @@ use borrow.Author.Needs.{needs}
 use Rattle.lister.proofs.print_refusal.Statement.{statement}
 use Rattle.lister.proofs.print_refusal.Tie as tie
 
-refused-requires : tie.Need-refused-requires
-refused-requires c κs = search needs
-
-array-share-prefix-out : tie.Need-array-share-prefix-out
-array-share-prefix-out c = shown-fits (c .refused .ensures)
-
-slice-aggregate-write-all : tie.Need-slice-aggregate-write-all
-slice-aggregate-write-all c = shown-counts (c .before .refused .ensures)
-
-write-all-requires : tie.Need-write-all-requires
-write-all-requires c κs = search needs
-
-returns : tie.Need-returns
-returns c = search needs
-
 pub print-refusal-spec : {M : Type 1} → statement M
 print-refusal-spec =
     tie.close
     (tie.spec
-    refused-requires
-    array-share-prefix-out
-    slice-aggregate-write-all
-    write-all-requires
-    returns)
+    (λ c κs. search needs)
+    (λ c. search (shown-fits, needs))
+    (λ c. search (shown-counts, needs))
+    (λ c κs. search needs)
+    (λ c. search needs))

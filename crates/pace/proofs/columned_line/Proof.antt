@@ -11,4 +11,4 @@ columned-line-spec =
     (λ c κs. search needs)
     (λ c κs. search needs)
     (λ c κs. search needs)
-    (λ c. λ st g k e n. columned-told _ st _ _ g n _ _ _ _ _ (c .before .before .before .before .before .pre .few) k e (c .before .before .sure-line .ensures) _ (c .before .one-more .ensures) (c .after-time .ensures)))
+    (λ c. λ st g k e n. columned-told _ st _ _ g n _ _ _ _ _ k e (c .before .before .sure-line .ensures) _ (c .before .one-more .ensures) (c .after-time .ensures)))

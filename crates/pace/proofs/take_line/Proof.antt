@@ -1,6 +1,5 @@
 -- `pace::take_line` meets its contract: the line is taken as its first byte says. Assumes nothing.
 use borrow.Author.Needs.{needs}
-use borrow.Author.Tests.{not-false}
 use Rattle.pace.proofs.take_line.Statement.{statement}
 use Rattle.pace.proofs.take_line.Tie as tie
 
@@ -9,14 +8,12 @@ take-line-spec =
     tie.close
     (tie.spec
     (λ c. search needs)
-    (λ c κs. search needs)
     (λ c. search needs)
-    (λ c. search needs)
-    (λ c κs. (search needs, search needs, c .before .before .before .has-room .ensures (not-false _ (c .before .before .if2 .left))))
+    (λ c κs. (search needs, search needs))
     (λ c. λ st g b k n. c .take-columned .ensures st g b)
-    (λ c κs. (search needs, search needs, c .before .before .before .before .has-room .ensures (not-false _ (c .before .before .before .if2 .left))))
+    (λ c κs. (search needs, search needs))
     (λ c. λ st g b k n. c .take-columned2 .ensures st g k)
-    (λ c κs. (search needs, search needs, c .before .before .before .before .before .has-room .ensures (not-false _ (c .before .before .before .before .if2 .left))))
+    (λ c κs. (search needs, search needs))
     (λ c. λ st g b k n. c .take-columned3 .ensures st g n)
-    (λ c κs. (search needs, c .before .before .before .before .before .has-room .ensures (not-false _ (c .before .before .before .before .if2 .left))))
+    (λ c κs. search needs)
     (λ c. λ st g b k n. c .take-other .ensures st g))

@@ -7,24 +7,12 @@ use borrow.Author.Needs.{needs}
 use Rattle.read.proofs.layout_of.Statement.{statement}
 use Rattle.read.proofs.layout_of.Tie as tie
 
-byte-requires : tie.Need-byte-requires
-byte-requires c κs = search needs
-
-layout-letter-requires : tie.Need-layout-letter-requires
-layout-letter-requires c κs = search needs
-
-refused-requires : tie.Need-refused-requires
-refused-requires c κs = search needs
-
 returns : tie.Need-returns
 unfolding layoutSaid
 returns c =
     told-same _ _ _
     (kind-is-not _ _ _ _ _ _ (c .before .before .before .byte .ensures) (λ q. c .before .if1 .taken (q ∙ sym (c .before .before .layout-letter .ensures))) refl)
     (c .refused .ensures)
-
-layout-line-requires : tie.Need-layout-line-requires
-layout-line-requires c κs = search needs
 
 returns-2 : tie.Need-returns-2
 unfolding layoutSaid
@@ -37,9 +25,9 @@ pub layout-of-spec : {M : Type 1} → statement M
 layout-of-spec =
     tie.close
     (tie.spec
-    byte-requires
-    layout-letter-requires
-    refused-requires
+    (λ c κs. search needs)
+    (λ c κs. search needs)
+    (λ c κs. search needs)
     returns
-    layout-line-requires
+    (λ c κs. search needs)
     returns-2)

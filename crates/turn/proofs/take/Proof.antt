@@ -2,8 +2,9 @@
 use mathlib.Core.Path.{refl, sym, _∙_}
 use borrow.Author.Needs.{needs}
 use borrow.Author.Tests.{not-true, not-false}
+use Rattle.enter.proofs.Entering.{halts}
 use Rattle.turn.specs.Turns.{turnAt}
-use Rattle.turn.proofs.Turns.{may-known, halts}
+use Rattle.turn.proofs.Turns.{may-known}
 use Rattle.turn.proofs.take.Statement.{statement}
 use Rattle.turn.proofs.take.Tie as tie
 

@@ -1,9 +1,9 @@
 -- `turn::take_line` meets its contract: a line is cut off and judged, or torn. Assumes nothing.
-use mathlib.Core.Path.{refl, sym, _∙_}
+use mathlib.Core.Path.{sym, _∙_}
 use native.Mathlib.Omega.{arith}
 use borrow.Author.Needs.{needs}
 use Rattle.cut.proofs.Cuts.{cut, torn}
-use Rattle.turn.proofs.Turns.{turn-line, turn-torn, halts}
+use Rattle.turn.proofs.Turns.{turn-line, turn-torn}
 use Rattle.turn.proofs.take_line.Statement.{statement}
 use Rattle.turn.proofs.take_line.Tie as tie
 
@@ -18,14 +18,20 @@ take-line-spec =
     (λ c. omega (arith, torn _ _ _ (sym (c .before .end .given .1) ∙ c .before .before .before .line-end .ensures) (search needs)))
     (λ c κs. search needs)
     (λ c. search needs)
+    (λ c κs. search needs)
+    (λ c. search needs)
     (λ c. omega (arith, cut _ _ _ (sym (c .before .end2 .given .1) ∙ c .before .before .before .line-end .ensures)))
     (λ c. omega (arith, cut _ _ _ (sym (c .before .end2 .given .1) ∙ c .before .before .before .line-end .ensures)))
     (λ c. omega (arith, cut _ _ _ (sym (c .before .end2 .given .1) ∙ c .before .before .before .line-end .ensures)))
     (λ c κs. search needs)
+    (λ c. search needs)
     (λ c. omega (arith, cut _ _ _ (sym (c .before .before .before .before .end2 .given .1) ∙ c .before .before .before .before .before .before .line-end .ensures)))
     (λ c κs. search needs)
-    (λ c. halts _ (c .halted .ensures) (turn-torn _ _ (torn _ _ _ (sym (c .before .before .end .given .1) ∙ c .before .before .before .before .line-end .ensures) (search needs))) refl)
+    (λ c. search needs)
+    (λ c.
+    rw (turn-torn _ _ (c .before .before .before .before .before .before .before .before .before .before .before .pre .few) (torn _ _ _ (sym (c .before .before .before .before .before .before .end .given .1) ∙ c .before .before .before .before .before .before .before .before .line-end .ensures) (search needs)) _ (c .before .before .before .before .before .before .before .before .before .before .before .args .at) (c .before .before .before .before .refused-at .ensures))
+    (c .before .before .leave .ensures))
     (λ c. search needs)
     (λ c.
     rw (turn-line _ _ (search needs) (cut _ _ _ (sym (c .before .before .before .before .before .before .before .end2 .given .1) ∙ c .before .before .before .before .before .before .before .before .before .line-end .ensures)) _ (c .before .before .before .before .judge-line .ensures))
-    (c .before .before .leave .ensures)))
+    (c .before .before .leave2 .ensures)))

@@ -10,8 +10,9 @@ signed-spec =
     tie.close
     (tie.spec
     (λ c. search needs)
+    (λ c. search needs)
     (λ c κs. search needs)
     (λ c. search needs)
     (λ c κs. search needs)
-    (λ c. rw (c .before .enum-told .given .1) (c .accepted .ensures))
+    (λ c. rw (c .before .before .enum-told .given .1) (c .accepted .ensures))
     (λ c. rw (c .before .before .read .given .1) (c .refused .ensures)))

@@ -9,5 +9,6 @@ span-spec =
     (tie.spec
     (λ c κs. search needs)
     (λ c κs. search needs)
+    (λ c. search needs)
     (λ c κs. search needs)
-    (λ c. rw (← c .before .before .between .ensures, ← c .before .between2 .ensures) (c .accepted .ensures)))
+    (λ c. rw (← c .before .before .before .between .ensures, ← c .before .before .between2 .ensures) (c .accepted .ensures)))

@@ -17,5 +17,6 @@ head-values-spec =
     (λ c. search needs)
     (λ c. search needs)
     (λ c. search needs)
+    (λ c. search needs)
     (λ c κs. search needs)
-    (λ c. rw (← c .before .before .before .before .before .before .before .before .before .before .planned-date .ensures) (c .accepted .ensures)))
+    (λ c. rw (← c .before .before .before .before .before .before .before .before .before .before .before .planned-date .ensures) (c .accepted .ensures)))

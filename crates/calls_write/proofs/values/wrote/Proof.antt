@@ -10,8 +10,9 @@ wrote-spec =
     tie.close
     (tie.spec
     (λ c. search needs)
+    (λ c. search needs)
     (λ c κs. search needs)
     (λ c. search needs)
     (λ c κs. search needs)
-    (λ c. rw (c .before .before .w .given .1) (c .accepted .ensures))
+    (λ c. rw (c .before .before .before .w .given .1) (c .accepted .ensures))
     (λ c. rw (c .before .before .w2 .given .1) (c .refused .ensures)))

@@ -3,8 +3,8 @@ use Prim.Native.Nat.{_-_}
 use native.Mathlib.Omega.{arith}
 use borrow.Author.Needs.{needs}
 use lib.ListN.{length}
-use Rattle.state.specs.Turns.{Here}
-use Rattle.state.proofs.Turns.{here-first, here-few}
+use Rattle.enter.specs.Turns.{Here}
+use Rattle.enter.proofs.Turns.{here-first}
 use Rattle.file.proofs.Checks.{here-end, here-long, here-on, here-stop}
 use Rattle.file.proofs.lines.check_lines.Statement.{statement}
 use Rattle.file.proofs.lines.check_lines.Tie as tie
@@ -14,11 +14,6 @@ Inv-loop seal file lent table₀ at₀ st₀ table at st = Here seal lent file t
 
 abbrev μ-loop : tie.MeasureT-loop
 μ-loop seal file lent table₀ at₀ st₀ table at st = length file - at
-
-finished-requires : tie.Need-finished-requires Inv-loop μ-loop
-finished-requires c κs =
-    let h = c .before .before .before .before .run-ahead .ensures .reach _ _ (c .before .before .before .before .before .before .before .loop .inv) in
-    here-few h (c .before .before .before .before .before .before .before .before .before .before .before .pre .1) .lines
 
 same-length : tie.Need-same-length Inv-loop μ-loop
 same-length c =
@@ -63,7 +58,7 @@ check-lines-spec =
     (λ c κs. search needs)
     (λ c. here-first _ _ _ _ _ (c .start-state .ensures))
     (λ c κs. search needs)
-    finished-requires
+    (λ c κs. search needs)
     same-length
     returns
     (λ c κs. search needs)
@@ -74,6 +69,6 @@ check-lines-spec =
     (λ c κs. search needs)
     same-length-2
     returns-2
-    (λ c κs. here-few (c .before .loop .inv) (c .before .before .before .before .before .pre .1) .lines)
+    (λ c κs. search needs)
     (λ c. c .before .before .loop .inv .size)
     returns-3)

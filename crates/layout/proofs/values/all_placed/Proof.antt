@@ -3,7 +3,7 @@ use Prim.Native.Nat.{_+_, _-_, _≤_}
 use mathlib.Core.Path.{_≡_, sym, _∙_, ap}
 use borrow.Author.Needs.{needs}
 use borrow.Author.Tests.{not-true, not-false}
-use lib.ListN.{length, drop}
+use lib.ListN.{drop}
 use Rattle.rules.specs.Layouts.{emptyLayout, entriesOf, allPlaced}
 use Rattle.entry.proofs.Turns.{unmapped}
 use Rattle.layout.proofs.Turns.{place-more, place-stop, place-end}
@@ -17,9 +17,6 @@ Inv-loop origin l n before₀ start₀ i₀ before start i =
 abbrev μ-loop : tie.MeasureT-loop
 μ-loop origin l n before₀ start₀ i₀ before start i = n - i
 
-long : (c : tie.Start Inv-loop μ-loop) → length (c .args .t1 .entries) ≡ 13
-long c = search unmapped
-
 loop-holds : tie.Need-loop-holds Inv-loop μ-loop
 loop-holds c = let e = c .empty-layout .ensures in (search needs, ap (λ l. l .count) e, rw e)
 
@@ -27,13 +24,13 @@ returns : tie.Need-returns Inv-loop μ-loop
 returns c =
     let a = c .before .before .before .before in
     let k = a .loop in
-    sym (place-stop (a .before .before .args .t1) (k .i) (k .start) (k .before) (long (a .before .before)) (search needs) (search needs) (sym (c .before .follows .ensures) ∙ not-true _ (c .if1 .taken))) ∙ k .inv .2
+    sym (place-stop (a .before .before .args .t1) (k .i) (k .start) (k .before) (search unmapped) (search needs) (search needs) (sym (c .before .follows .ensures) ∙ not-true _ (c .if1 .taken))) ∙ k .inv .2
 
 loop-again : tie.Need-loop-again Inv-loop μ-loop
 loop-again c =
     let a = c .before .before .before .before .before .before in
     let k = a .loop in
-    let turn = place-more (a .before .before .args .t1) (k .i) (k .start) (k .before) (long (a .before .before)) (search needs) (search needs) (sym (c .before .before .before .follows .ensures) ∙ not-false _ (c .before .before .if1 .left)) in
+    let turn = place-more (a .before .before .args .t1) (k .i) (k .start) (k .before) (search unmapped) (search needs) (search needs) (sym (c .before .before .before .follows .ensures) ∙ not-false _ (c .before .before .if1 .left)) in
     (search needs, ap (λ l. l .count) (c .before .with-entry .ensures) ∙ ap (λ n. n + 1) (k .inv .1), rw (c .before .with-entry .ensures) (sym turn ∙ k .inv .2))
 
 returns-2 : tie.Need-returns-2 Inv-loop μ-loop

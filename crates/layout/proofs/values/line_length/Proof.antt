@@ -9,9 +9,6 @@ use borrow.Author.Needs.{needs}
 use Rattle.layout.proofs.values.line_length.Statement.{statement}
 use Rattle.layout.proofs.values.line_length.Tie as tie
 
-long : (c : tie.Start) → length (c .args .t2 .entries) ≡ 13
-long c = search unmapped
-
 returns : tie.Need-returns
 unfolding lineLength
 returns c = rw (eq-eqb _ _ (c .before .before .if1 .taken), c .enum-told .given .1)
@@ -24,7 +21,7 @@ returns-3 : tie.Need-returns-3
 unfolding lineLength
 returns-3 c =
     let a = c .before .before in
-    let e = long a in
+    let e : length (a .args .t2 .entries) ≡ 13 = search unmapped in
     rw (ne-eqb _ _ (c .before .if1 .left)) (sym (ap (λ r. r .last) (List·getD-eq-default (a .args .t2 .entries) unused (omega arith))))
 
 returns-4 : tie.Need-returns-4

@@ -11,20 +11,20 @@ use Rattle.write.proofs.extras.extra.Statement.{statement}
 use Rattle.write.proofs.extras.extra.Tie as tie
 
 returns : tie.Need-returns
-returns c = bad _ _ _ _ _ _ _ (extra-good _ _ _) (c .before .before .good-extra .ensures) _ (c .before .if1 .taken) (c .refused .ensures) refl
+returns c = bad _ _ _ _ _ _ _ (extra-good _ _ _ _) (c .before .before .good-extra .ensures) _ (c .before .if1 .taken) (c .refused .ensures) refl
 
 returns-2 : tie.Need-returns-2
 returns-2 c =
     let t = c .before .before in
     ⊎-elim
-    (λ w. short _ _ _ _ _ _ _ (extra-good _ _ _) (t .before .good-extra .ensures) (t .if1 .left) _ (extra-length _ _) _ (omega arith) (c .refused2 .ensures) refl)
-    (λ w. short _ _ _ _ _ _ _ (extra-good _ _ _) (t .before .good-extra .ensures) (t .if1 .left) _ (extra-length _ _) _ (omega (arith, ltb-true)) (c .refused2 .ensures) refl)
+    (λ w. short _ _ _ _ _ _ _ (extra-good _ _ _ _) (t .before .good-extra .ensures) (t .if1 .left) _ (extra-length _ _ _) _ (omega arith) (c .refused2 .ensures) refl)
+    (λ w. short _ _ _ _ _ _ _ (extra-good _ _ _ _) (t .before .good-extra .ensures) (t .if1 .left) _ (extra-length _ _ _) _ (omega (arith, ltb-true)) (c .refused2 .ensures) refl)
     (c .before .if2 .came)
 
 returns-3 : tie.Need-returns-3
 returns-3 c =
     let t = c .before .before .before .before .before .before in
-    done _ _ _ _ _ _ _ (extra-good _ _ _) (t .before .good-extra .ensures) (t .if1 .left) _ (extra-length _ _) _ (omega (arith, ltb-false)) refl (c .before .before .fill-extra .ensures)
+    done _ _ _ _ _ _ _ (extra-good _ _ _ _) (t .before .good-extra .ensures) (t .if1 .left) _ (extra-length _ _ _) _ (omega (arith, ltb-false)) refl (c .before .before .fill-extra .ensures)
 
 pub extra-spec : {M : Type 1} → statement M
 extra-spec =

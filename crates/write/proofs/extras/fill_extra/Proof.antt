@@ -3,6 +3,7 @@ use borrow.Author.Needs.{needs}
 use Rattle.rules.specs.Writes.{extraText}
 use Rattle.spell.proofs.Laws.{fields}
 use Rattle.ending.proofs.Laws.{regroup}
+use Rattle.write.proofs.Laws.{letter-then}
 use Rattle.write.proofs.extras.fill_extra.Statement.{statement}
 use Rattle.write.proofs.extras.fill_extra.Tie as tie
 
@@ -14,5 +15,6 @@ fill-extra-spec =
     (λ c κs. search needs)
     (λ c κs. search needs)
     (λ c κs. search needs)
+    (λ c κs. search needs)
     (λ c. search needs)
-    (λ c. search (fields, regroup) depth 16))
+    (λ c. search (fields, letter-then, regroup) depth 16))

@@ -1,0 +1,19 @@
+-- `dates::put_dashed` meets its contract. Assumes nothing.
+use borrow.Author.Needs.{needs}
+use Rattle.pieces.proofs.Laws.{pieces}
+use Rattle.dates.specs.Dates.{twoDigits}
+use Rattle.dates.proofs.put_dashed.Statement.{statement}
+use Rattle.dates.proofs.put_dashed.Tie as tie
+
+pub put-dashed-spec : {M : Type 1} → statement M
+unfolding twoDigits
+put-dashed-spec =
+    tie.close
+    (tie.spec
+    (λ c κs. search needs)
+    (λ c. search needs)
+    (λ c κs. search needs)
+    (λ c. search needs)
+    (λ c κs. search needs)
+    (λ c. search needs)
+    (λ c. search pieces depth 16))

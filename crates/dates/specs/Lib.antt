@@ -1,0 +1,2 @@
+-- A date as text.
+pub mod Dates

@@ -1,0 +1,4 @@
+pub mod Counts
+pub mod Turns
+pub mod Entering
+pub mod Only
