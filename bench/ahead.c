@@ -32,6 +32,7 @@ static inline bool are_digits(const uint8_t *text, size_t width)
     return true;
 }
 
+/* A time, but for the leap second, which is left to the plain check. */
 static inline bool has_time(const uint8_t *text, uint32_t *seconds)
 {
     uint32_t hours = two(text), minutes = two(text + 2), rest = two(text + 4);

@@ -53,7 +53,7 @@ static bool is_time(const uint8_t *text, uint32_t *seconds)
 {
     uint32_t hours = two(text), minutes = two(text + 2), rest = two(text + 4);
     *seconds = hours * 3600 + minutes * 60 + rest;
-    return all(text, 6, DIGIT) && hours < 24 && minutes < 60 && rest < 60;
+    return all(text, 6, DIGIT) && hours < 24 && minutes < 60 && (rest < 60 || (rest == 60 && hours == 23 && minutes == 59));
 }
 
 static bool is_date(const uint8_t *text, uint32_t *day, uint32_t *month, uint32_t *year)

@@ -30,7 +30,7 @@ static void put_either(struct places *places, size_t at, uint8_t one, uint8_t ot
     places->other[at] = other;
 }
 
-/* Digits; the tens of hours, minutes and seconds and the hundreds of degrees are lower ones. */
+/* Digits; the tens of hours, minutes and seconds and the hundreds of degrees are lower ones. The leap second is left to the plain check. */
 static void put_time(struct places *places)
 {
     put(places, 1, 6, '0', '9');

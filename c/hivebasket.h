@@ -21,6 +21,8 @@
 
    PLACES that lead into memory are told by how many bytes stand before them: text + answer[HIVE_START]. Bytes of refusals and of layouts count from 1.
 
+   A TIME is told and given in seconds of the day: 0 to 86,399, and 86,400 for the leap second, which the line has as 235960.
+
    A LINE is given without its CR LF. A LAYOUT is given as the text of the file's own I line, for B lines, J line, for K lines, or M line, for N lines; length 0 says that
    the file has no such line. One that is of another kind, or breaks a rule, is 17. (hive_column_at and hive_write_layout take that line itself: length 0 is 17 there, and hive_column_at
    tells what the line is refused for.) */

@@ -99,6 +99,7 @@ static void heads(void) {
     numbers(43200, 1, 2, 5);
     numbers(43200, 1, 2, 33);
     numbers(86400, 1, 2, 0);
+    numbers(86401, 1, 2, 0);
     numbers(43200, 10000, 2, 0);
     numbers(43200, 1, 100, 0);
     declared(1, 1, 1980);
@@ -156,6 +157,7 @@ static void extras_of(char kind, const char *line) {
     extra(kind, 0, "090", line, 17);
     extra(kind, 3600, "", "", 7);
     extra(kind, 86400, "090", line, 0);
+    extra(kind, 86401, "090", line, 0);
     extra(kind, 0, "09", line, 0);
     extra(kind, 0, "0900", line, 0);
     extra(kind, 0, "0*0", line, 0);
@@ -219,6 +221,7 @@ static void fixes(void) {
     timed(0, 5);
     timed(0, 45);
     timed(86400, 0);
+    timed(86401, 0);
     positions();
     marked('V');
     marked('B');

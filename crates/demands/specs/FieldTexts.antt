@@ -62,7 +62,7 @@ pub record FieldsTold : Type 0 where
   -- "A time field that breaks its rule becomes TIME, a latitude or longitude POSITION, an altitude ALTITUDE, a date DATE; every other field stays 9.": which field is of which
   -- class stands in Checks, line by line
   pub numbered : (c : Class) → number (reasonOf c) ≡ formNumber c
-  -- "Time: HHMMSS, 00 to 23, 00 to 59, 00 to 59, read as seconds of the day."
+  -- "Time: HHMMSS, 00 to 23, 00 to 59, 00 to 59, read as seconds of the day."; 235960 too, which "reads as 86,400" (document 02)
   pub time : Field timeAt timeText IsTime
   -- "Years 80 to 99 are 1980 to 1999, 00 to 79 are 2000 to 2079 (h). The day must exist in that month and year."
   pub date : Field dateAt dateText IsDay

@@ -1,7 +1,7 @@
 // The fields of a line: read at a place of it.
 ghost use Prim.Native.Nat.{_≤_};
 ghost use mathlib.Core.Path.{_≡_};
-ghost use Rattle.rules.specs.Fields.{isLeap, yearOf};
+ghost use Rattle.rules.specs.Fields.{isSecond, isLeap, yearOf};
 ghost use Rattle.field.specs.Days.{DaysGiven};
 ghost use Rattle.rules.specs.Promises.{TimeAt, DateAt};
 pub use altitude::altitude_at;
@@ -12,7 +12,23 @@ use rules::Day;
 use rules::Number;
 use rules::Time;
 
-// HHMMSS at a place of s, as seconds of the day. NoTime where the field breaks its rule or s ends before.
+// Whether a minute has a second: 0 to 59, and 60 at 23:59.
+fn is_second(h: u64, m: u64, x: u64) -> bool
+    ensures { λ r. ⌜ r ≡ isSecond h m x ⌝ }
+{
+    if x <= 59 {
+        return true;
+    }
+    if x != 60 {
+        return false;
+    }
+    if h != 23 {
+        return false;
+    }
+    m == 59
+}
+
+// HHMMSS at a place of s, as seconds of the day; 235960 is 86400. NoTime where the field breaks its rule or s ends before.
 pub fn time_at(s: &[u8], at: usize) -> Time
     ensures { λ r. ⌜ TimeAt (now (s .entry)) at r ⌝ }
 {
@@ -31,7 +47,7 @@ pub fn time_at(s: &[u8], at: usize) -> Time
     if 59 < m {
         return Time::NoTime;
     }
-    if 59 < x {
+    if !is_second(h, m, x) {
         return Time::NoTime;
     }
     Time::Secs((h * 3600 + m * 60 + x) as u32)

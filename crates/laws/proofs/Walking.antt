@@ -145,14 +145,15 @@ dayBehind w [] = w .day
 dayBehind w (t ∷ ts) = dayBehind (walked (bytes t) w) ts
 
 -- "The day number rises at each fall over 43,200 along the time order, E, F, K and N lines counted too.": 235958 then 000001; 120001 then 000000, by lines of every timed kind;
--- equal times; a fall of exactly 43,200; other lines between
+-- equal times; a fall of exactly 43,200; other lines between; "235960 then 000000 passes as the next day"
 pub record DaysCounted : Type 0 where
   pub midnight : dayBehind setOut ("K235958" ∷ "K000001" ∷ []) ≡ 1
   pub other-kinds : dayBehind setOut ("E120001PEV" ∷ "F000000" ∷ "K120001" ∷ "B0000005130000N00015000WA0010000120" ∷ []) ≡ 2
   pub equal : dayBehind setOut ("K120000" ∷ "K120000" ∷ []) ≡ 0
   pub exactly : dayBehind setOut ("K120000" ∷ "K000000" ∷ []) ≡ 0
   pub untimed : dayBehind setOut ("K235959" ∷ "LXYZ000000" ∷ "K000000" ∷ []) ≡ 1
+  pub leap : dayBehind setOut ("K235959" ∷ "K235960" ∷ "K000000" ∷ []) ≡ 1
 
 pub days-counted : DaysCounted
 unfolding everything dayBehind
-days-counted = record { midnight = refl; other-kinds = refl; equal = refl; exactly = refl; untimed = refl }
+days-counted = record { midnight = refl; other-kinds = refl; equal = refl; exactly = refl; untimed = refl; leap = refl }

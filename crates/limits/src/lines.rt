@@ -40,7 +40,7 @@ fn good_head_fields(h: Head) -> bool
     if !is_date(h.declared) {
         return false;
     }
-    if 86399 < h.time {
+    if 86400 < h.time {
         return false;
     }
     let flight = h.flight;
@@ -70,7 +70,7 @@ pub fn good_head(h: Head, rest: &[u8]) -> bool
 fn good_fix_fields(f: FixFields) -> bool
     ensures { λ r. ⌜ r ≡ goodFixFields f ⌝ }
 {
-    if 86399 < f.time {
+    if 86400 < f.time {
         return false;
     }
     if !is_latitude(f.lat) {
@@ -120,7 +120,7 @@ pub fn good_fix(f: Fix, tail: &[u8], l: Layout) -> bool
 pub fn good_extra(t: u32, tail: &[u8], l: Layout) -> bool
     ensures { λ r. ⌜ ExtraTest t (now (tail .entry)) l r ⌝ }
 {
-    if 86399 < t {
+    if 86400 < t {
         return false;
     }
     good_tail(Family::Extra(Extra::K), 8, tail, l)

@@ -111,7 +111,7 @@ examples =
     lines ("AXYZ001" ∷ "HFDTE150724" ∷ "HFPLTA,B" ∷ "I00" ∷ "LXYZ,A" ∷ "GABC" ∷ []) (refuses 8 5 5) ∷
     -- 9: X is neither A nor V, at byte 25
     lines ("AXYZ001" ∷ "HFDTE150724" ∷ "I023638FXA3940SIU" ∷ "B1200005130000N00015000WX001000012001208" ∷ "GABC" ∷ []) (refuses 9 4 25) ∷
-    -- 22: 60 seconds, in the time from byte 2
+    -- 22: 60 seconds in another minute than the day's last, in the time from byte 2
     lines ("AXYZ001" ∷ "HFDTE150724" ∷ "I023638FXA3940SIU" ∷ "B1200605130000N00015000WA001000012001208" ∷ "GABC" ∷ []) (refuses 22 4 2) ∷
     -- 23: 60 minutes of latitude, from byte 8; and of longitude, from byte 16
     lines ("AXYZ001" ∷ "HFDTE150724" ∷ "I023638FXA3940SIU" ∷ "B1200005160000N00015000WA001000012001208" ∷ "GABC" ∷ []) (refuses 23 4 8) ∷

@@ -64,9 +64,10 @@ examples =
     -- 4. -0012 is -12; -0000 is 24.
     ask pressure "B1200000000000N00000000EA-001200000" (says (negℤ (pos 12))) ∷
     ask pressure "B1200000000000N00000000EA-000000000" (refuses 24 0 26) ∷
-    -- 5. 235959 is 86,399; 235960 is 22.
+    -- 5. 235959 is 86,399; 235960 is 86,400, 235961 is 22.
     ask seconds "B2359590000000N00000000EA0000000000" (says (pos 86399)) ∷
-    ask seconds "B2359600000000N00000000EA0000000000" (refuses 22 0 2) ∷
+    ask seconds "B2359600000000N00000000EA0000000000" (says (pos 86400)) ∷
+    ask seconds "B2359610000000N00000000EA0000000000" (refuses 22 0 2) ∷
     -- 6. 290224 and 290200 are dates; 290223 is not: "line 2 with 290223 is 25".
     ask year "HFDTE290224" (says (pos 2024)) ∷
     ask year "HFDTE290200" (says (pos 2000)) ∷

@@ -1,14 +1,14 @@
 -- Document 01, 'Fields': time, date, position and altitude, each read at a place of a line; and the text of each.
 use Prim.Native.Nat.{ℕ, _+_, _-_, _*_, _/_, _%_}
 use Prim.Native.Char.{code}
-use mathlib.Core.Bool.{Bool, true, false, _||_, cond}
+use mathlib.Core.Bool.{Bool, true, false, _&&_, _||_, cond}
 use mathlib.Core.List.{List, [], _∷_, _++_}
 use mathlib.Core.Option.{Option, none, some}
 use lib.Dec.{eqb, leb}
 use lib.IntN.{ℤ, pos, negsuc, negℤ}
 use lib.ListN.{getD}
 use Rattle.rules.specs.Choice.{given, need, on}
-use Rattle.rules.specs.Numbers.{numberAt, digitsOf}
+use Rattle.rules.specs.Numbers.{numberAt, digitsOf, pairsText}
 use Rattle.rules.specs.declared.Time.{Time}
 use Rattle.rules.specs.declared.Time.the-variants.{Secs, NoTime}
 use Rattle.rules.specs.declared.Date.{Date}
@@ -21,7 +21,11 @@ use Rattle.rules.specs.declared.Height.{Height}
 use Rattle.rules.specs.declared.Altitude.{Altitude}
 use Rattle.rules.specs.declared.Altitude.the-variants.{Metres, NoAltitude}
 
--- "Time: HHMMSS, 00 to 23, 00 to 59, 00 to 59, read as seconds of the day."
+-- "seconds are 00 to 59, and also 60 when hours and minutes are 23 and 59" (document 02)
+unfoldable pub isSecond : ℕ → ℕ → ℕ → Bool
+isSecond h m x = leb x 59 || (eqb x 60 && eqb h 23 && eqb m 59)
+
+-- "Time: HHMMSS, 00 to 23, 00 to 59," seconds as above, "read as seconds of the day"; 235960 "reads as 86,400"
 unfoldable pub timeAt : List ℕ → ℕ → Option ℕ
 timeAt s at =
     given (numberAt s at 2) none λ h.
@@ -29,12 +33,12 @@ timeAt s at =
     given (numberAt s (at + 4) 2) none λ x.
     need (leb h 23) none λ _.
     need (leb m 59) none λ _.
-    need (leb x 59) none λ _.
+    need (isSecond h m x) none λ _.
     some (h * 3600 + m * 60 + x)
 
--- HHMMSS
+-- HHMMSS; "Writers accept 86,400 and write 235960." (document 02)
 unfoldable pub timeText : ℕ → List ℕ
-timeText t = digitsOf 2 (t / 3600) ++ (digitsOf 2 (t / 60 % 60) ++ digitsOf 2 (t % 60))
+timeText t = cond (eqb t 86400) (pairsText 23 59 60) (pairsText (t / 3600) (t / 60 % 60) (t % 60))
 
 -- a year that 400 divides, or 4 and not 100
 unfoldable pub isLeap : ℕ → Bool
@@ -66,7 +70,7 @@ dateAt s at =
 
 -- DDMMYY
 unfoldable pub dateText : Date → List ℕ
-dateText d = digitsOf 2 (d .day) ++ (digitsOf 2 (d .month) ++ digitsOf 2 (d .year % 100))
+dateText d = pairsText (d .day) (d .month) (d .year % 100)
 
 -- one of two letters
 unfoldable pub isEither : ℕ → ℕ → ℕ → Bool

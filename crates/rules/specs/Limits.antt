@@ -31,9 +31,9 @@ isClean l = given (firstInvalid false l) true λ i. false
 
 -- ---- fields
 
--- "Time: HHMMSS, 00 to 23, 00 to 59, 00 to 59, read as seconds of the day."
+-- "Time: HHMMSS, 00 to 23, 00 to 59, 00 to 59, read as seconds of the day."; 235960 too, which "reads as 86,400" (document 02)
 abbrev pub isTime : ℕ → Bool
-isTime t = leb t 86399
+isTime t = leb t 86400
 
 -- "Years 80 to 99 are 1980 to 1999, 00 to 79 are 2000 to 2079 (h). The day must exist in that month and year."
 unfoldable pub isDate : Date → Bool

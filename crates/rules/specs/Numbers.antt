@@ -38,6 +38,10 @@ unfoldable pub digitsOf : ℕ → ℕ → List ℕ
 digitsOf zero v = []
 digitsOf (suc n) v = digitsOf n (v / 10) ++ ((48 + v % 10) ∷ [])
 
+-- three numbers of two digits each, as a time and a date have them
+abbrev pub pairsText : ℕ → ℕ → ℕ → List ℕ
+pairsText a b c = digitsOf 2 a ++ (digitsOf 2 b ++ digitsOf 2 c)
+
 -- the answers, in the paper's terms
 unfoldable pub numberTold : Number → Option ℕ
 numberTold (Value v) = some v

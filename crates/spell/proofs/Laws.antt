@@ -2,22 +2,33 @@
 use Prim.Native.Nat.{ℕ, _+_, _/_, _%_}
 use mathlib.Core.List.{List, _++_}
 use mathlib.Core.Path.{_≡_}
+use borrow.Author.Tests.{eq-eqb, ne-eqb}
 use lib.ListN.{length, length-append}
+use Rattle.rules.specs.Numbers.{pairsText}
 use Rattle.rules.specs.Fields.{timeText, dateText, positionText}
 use Rattle.rules.specs.Writes.{putAt}
 use Rattle.rules.specs.declared.Date.{Date}
 use Rattle.rules.specs.declared.Position.{Position}
+use Rattle.rules.proofs.Times.{by-pairs}
 use Rattle.put.specs.Puts.{Fills}
 use Rattle.put.proofs.Laws.{digits-length, put-last, put-then, byte-then}
-use Rattle.spell.specs.Parts.{pairsText}
 use Rattle.height.proofs.Laws.{altitude-then}
 
 pub pairs-length : (a b c : ℕ) → length (pairsText a b c) ≡ 6
 pairs-length a b c = simp (length-append, digits-length)
 
 pub time-length : (t : ℕ) → length (timeText t) ≡ 6
-unfolding timeText
-time-length t = pairs-length (t / 3600) (t / 60 % 60) (t % 60)
+time-length = by-pairs (λ l. length l ≡ 6) pairs-length
+
+-- a time put as hours, minutes and seconds: the leap second, and any other
+module _ (l after : List ℕ) (at t : ℕ) where
+  pub put-leap : t ≡ 86400 → after ≡ putAt l at (pairsText 23 59 60) → after ≡ putAt l at (timeText t)
+  unfolding timeText
+  put-leap h e = rw (eq-eqb t 86400 h) e
+
+  pub put-usual : (t ≡ 86400 → ⊥) → after ≡ putAt l at (pairsText (t / 3600) (t / 60 % 60) (t % 60)) → after ≡ putAt l at (timeText t)
+  unfolding timeText
+  put-usual h e = rw (ne-eqb t 86400 h) e
 
 pub date-length : (d : Date) → length (dateText d) ≡ 6
 unfolding dateText

@@ -19,11 +19,15 @@ fn pairs(out: &mut [u8], at: usize, a: u64, b: u64, c: u64)
     put::digits(out, at + 2 + 2, 2, c);
 }
 
-// HHMMSS, of seconds of the day.
+// HHMMSS, of seconds of the day; 86400 is 235960.
 pub fn time(out: &mut [u8], at: usize, t: u32)
     ensures { λ _. ⌜ TimePut t at (now (out .entry)) (now (out .exit)) ⌝ }
 {
     let s = t as u64;
+    if s == 86400 {
+        pairs(out, at, 23, 59, 60);
+        return;
+    }
     pairs(out, at, s / 3600, s / 60 % 60, s % 60);
 }
 

@@ -12,7 +12,7 @@ use lib.ListN.{length, drop, length-append}
 use lib.Seq.{drop-drop}
 use Rattle.rules.specs.Choice.{leads}
 use Rattle.rules.specs.Chars.{isDigit}
-use Rattle.rules.specs.Numbers.{spell, numberAt, digitsOf}
+use Rattle.rules.specs.Numbers.{spell, numberAt, digitsOf, pairsText}
 use Rattle.rules.proofs.Inverse.{none-some, need-inv}
 use Rattle.trips.proofs.Laws.{past}
 use Rattle.trips.proofs.Texts.{areValid, digit-range, digit-valid, both-valid}
@@ -129,28 +129,25 @@ number-trip n most h m = record {
 
 -- ---- three pairs of digits, as a time and a date have them
 
-abbrev pub pairs : ℕ → ℕ → ℕ → List ℕ
-pairs a b c = digitsOf 2 a ++ (digitsOf 2 b ++ digitsOf 2 c)
-
-pub pairs-length : (a b c : ℕ) → length (pairs a b c) ≡ 6
+pub pairs-length : (a b c : ℕ) → length (pairsText a b c) ≡ 6
 pairs-length a b c = simp (length-append, digits-length)
 
 -- together they are the digits of one number
-pub pairs-join : (a b c : ℕ) → b ≤ 99 → c ≤ 99 → pairs a b c ≡ digitsOf 6 (a * 10000 + (b * 100 + c))
+pub pairs-join : (a b c : ℕ) → b ≤ 99 → c ≤ 99 → pairsText a b c ≡ digitsOf 6 (a * 10000 + (b * 100 + c))
 pairs-join a b c hb hc =
     sym (digits-join 2 4 a (b * 100 + c) (omega arith) ∙ ap (λ l. digitsOf 2 a ++ l) (digits-join 2 2 b c (omega arith)))
 
-pub pairs-clean : (a b c : ℕ) → areValid (pairs a b c) ≡ true
+pub pairs-clean : (a b c : ℕ) → areValid (pairsText a b c) ≡ true
 pairs-clean a b c = both-valid (digitsOf 2 a) _ (digits-clean 2 a) (both-valid (digitsOf 2 b) _ (digits-clean 2 b) (digits-clean 2 c))
 
 module _ (s : List ℕ) (at a b c : ℕ) where
   pub pairs-there : (to : ℕ) → at + 6 ≡ to → numberAt s at 2 ≡ some a → numberAt s (at + 2) 2 ≡ some b → numberAt s (at + 4) 2 ≡ some c
-      → drop at s ≡ pairs a b c ++ drop to s
+      → drop at s ≡ pairsText a b c ++ drop to s
   pairs-there to t p q r =
       number-there s at 2 (at + 2) a refl p .0
       ∙ rw (number-there s (at + 2) 2 (at + 4) b (omega arith) q .0, number-there s (at + 4) 2 to c (omega arith) r .0) (simp append-assoc)
 
-  pub pairs-here : (r : List ℕ) → a ≤ 99 → b ≤ 99 → c ≤ 99 → drop at s ≡ pairs a b c ++ r
+  pub pairs-here : (r : List ℕ) → a ≤ 99 → b ≤ 99 → c ≤ 99 → drop at s ≡ pairsText a b c ++ r
       → (numberAt s at 2 ≡ some a) × (numberAt s (at + 2) 2 ≡ some b) × (numberAt s (at + 4) 2 ≡ some c)
   pairs-here r ha hb hc e =
       let e₁ : drop at s ≡ digitsOf 2 a ++ (digitsOf 2 b ++ (digitsOf 2 c ++ r)) = simp append-assoc at e in

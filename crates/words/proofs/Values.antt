@@ -1,5 +1,5 @@
 -- The limits of a time, a position, an altitude and so of a fix, and the degrees of a position, in document 01's words. Assumes nothing.
-use Prim.Native.Nat.{ℕ, zero, suc, _+_, _≤_}
+use Prim.Native.Nat.{ℕ, zero, suc, _+_, _/_, _%_, _≤_}
 use Prim.Native.Char.{code}
 use mathlib.Core.Bool.{Bool, true, false, not, _&&_, _||_, cond, or-true}
 use mathlib.Core.Logic.{_↔_, _⊎_, inl, inr}
@@ -16,7 +16,7 @@ use Rattle.rules.specs.declared.Position.{Position}
 use Rattle.rules.specs.declared.Height.{Height}
 use Rattle.rules.specs.declared.FixFields.{FixFields}
 use Rattle.rules.proofs.Inverse.{false-true, and-inv, need-inv}
-use Rattle.words.specs.Values.{IsTime, IsLatitude, IsLongitude, IsAngle, nought, negated, as-it-is, over60000, IsAltitude, plain, minus, IsFixFields}
+use Rattle.words.specs.Values.{IsTime, usual, leap, IsLatitude, IsLongitude, IsAngle, nought, negated, as-it-is, over60000, IsAltitude, plain, minus, IsFixFields}
 
 -- ---- one of two letters
 
@@ -36,7 +36,17 @@ either-exactly x a b = (there (eqb x a) (eqb x b) refl refl, here)
 -- ---- times and positions
 
 pub time-exactly : (t : ℕ) → (isTime t ≡ true) ↔ IsTime t
-time-exactly t = (λ e. let h : t ≤ 86399 = leb-true _ _ e in omega arith, λ h. le-leb t 86399 (omega arith))
+time-exactly t = (λ e. there (leb-true t 86400 e) (eqb t 86400) refl, λ w. le-leb t 86400 (here w))
+  where
+    there : t ≤ 86400 → (b : Bool) → eqb t 86400 ≡ b → IsTime t
+    there h true q = leap (eqb-true t 86400 q)
+    there h false q =
+        let n = eqb-false t 86400 q in
+        usual (t / 3600) (t / 60 % 60) (t % 60) (omega (arith, n)) (omega arith) (omega arith) (omega arith)
+
+    here : IsTime t → t ≤ 86400
+    here (usual h m x p q r e) = omega arith
+    here (leap e) = omega arith
 
 position-exactly : (most a b : ℕ) (p : Position) → (isPosition most a b p ≡ true) ↔ ((p .count ≤ most) × ((p .letter ≡ a) ⊎ (p .letter ≡ b)))
 unfolding isPosition

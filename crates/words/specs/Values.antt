@@ -1,5 +1,5 @@
 -- Document 01, 'Fields': how far a time, a position and an altitude go, and so the fields of a fix; and 'I and J layouts': the degrees of a position.
-use Prim.Native.Nat.{ℕ, _*_, _≤_, _<_}
+use Prim.Native.Nat.{ℕ, _+_, _*_, _≤_}
 use Prim.Native.Char.{code}
 use mathlib.Core.Bool.{false}
 use mathlib.Core.Logic.{_⊎_}
@@ -10,9 +10,10 @@ use Rattle.rules.specs.declared.Position.{Position}
 use Rattle.rules.specs.declared.Height.{Height}
 use Rattle.rules.specs.declared.FixFields.{FixFields}
 
--- "Time: HHMMSS, 00 to 23, 00 to 59, 00 to 59, read as seconds of the day.": of 24 hours
-abbrev pub IsTime : ℕ → Type 0
-IsTime t = t < 24 * 60 * 60
+-- "Time: HHMMSS, 00 to 23, 00 to 59, 00 to 59, read as seconds of the day."; document 02: seconds are "also 60 when hours and minutes are 23 and 59. That time reads as 86,400"
+pub data IsTime (t : ℕ) : Type 0 where
+  usual : (h m x : ℕ) → h ≤ 23 → m ≤ 59 → x ≤ 59 → t ≡ h * 3600 + m * 60 + x → IsTime t
+  leap : t ≡ 86400 → IsTime t
 
 -- "Position: a count of thousandths of a minute with its letter kept beside it."; "Latitude at most 5,400,000": 90 degrees; "N or S"
 pub record IsLatitude (p : Position) : Type 0 where

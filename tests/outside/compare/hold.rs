@@ -368,7 +368,7 @@ fn output(random: &mut Random, length: usize) -> (Vec<u8>, usize) {
 fn write_fix(tally: &mut Tally, random: &mut Random, fix: Fix, columns: &[u8], given: &[u8], layout: &Layout) -> Held<()> {
     let (mut fix, mut columns) = (fix, columns.to_vec());
     match random.below(14) {
-        0 => fix.time = *random.pick(&[86_399, 86_400, 360_000, u32::MAX]),
+        0 => fix.time = *random.pick(&[86_399, 86_400, 86_401, 360_000, u32::MAX]),
         1 => spoil_position(random, &mut fix.latitude),
         2 => spoil_position(random, &mut fix.longitude),
         3 => fix.validity = *random.pick(b"AVB\0"),
@@ -411,7 +411,7 @@ fn spoil_text(random: &mut Random, text: &mut Vec<u8>) {
 fn write_extra(tally: &mut Tally, random: &mut Random, kind: u8, time: u32, columns: &[u8], given: &[u8]) -> Held<()> {
     let (mut kind, mut time, mut columns) = (kind, time, columns.to_vec());
     match random.below(10) {
-        0 => time = *random.pick(&[86_399, 86_400, 360_000, u32::MAX]),
+        0 => time = *random.pick(&[86_399, 86_400, 86_401, 360_000, u32::MAX]),
         1 | 2 => spoil_text(random, &mut columns),
         3 => kind = *random.pick(b"KNKNBEJMOkn\0\xFF"),
         _ => {}
@@ -455,7 +455,7 @@ fn write_head(tally: &mut Tally, random: &mut Random, head: Head, text: &[u8]) -
     match random.below(12) {
         0 => spoil_date(random, &mut head.declared),
         1 => head.flight.iter_mut().for_each(|d| spoil_date(random, d)),
-        2 => head.time = *random.pick(&[86_399, 86_400, u32::MAX]),
+        2 => head.time = *random.pick(&[86_399, 86_400, 86_401, u32::MAX]),
         3 => head.task = *random.pick(&[9_999, 10_000, 65_535]),
         4 => head.turns = *random.pick(&[99, 100, 255]),
         5 | 6 => spoil_text(random, &mut text),

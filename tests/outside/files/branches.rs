@@ -1,5 +1,6 @@
 //! The branches of the rules on layouts, and on the lines that have their columns, as short words: which of them a file reaches, and which a run must reach.
 
+use crate::reading::fields::LEAP;
 use crate::reading::file::HALF_DAY;
 use crate::reading::layouts::FAMILIES;
 use crate::reading::{Accepted, Answer, Refusal};
@@ -38,6 +39,13 @@ fn next_day(before: u8, kind: u8) -> String {
     format!("{} on the day after {}", char::from(kind), char::from(before))
 }
 
+fn leap(kind: u8) -> String {
+    format!("the leap second in {}", char::from(kind))
+}
+
+/// What comes after a line at the leap second: the next day, or a fall that is refused, also one of exactly half a day.
+const AFTER_LEAP: [&str; 3] = ["the next day after the leap second", "14 after the leap second", "14 half a day before the leap second"];
+
 fn by(kind: u8, how: &str) -> String {
     format!("{} by {how}", char::from(kind))
 }
@@ -56,7 +64,8 @@ pub fn wanted() -> Vec<String> {
     let times = two_times.flat_map(|(before, kind)| [refused_after(14, before, kind), next_day(before, kind)]);
     let layouts = COLUMNED.iter().flat_map(|&kind| HOWS[..3].iter().map(move |how| by(kind, how)));
     let apart = b"KN".iter().map(|&kind| by(kind, HOWS[3]));
-    telling.chain(columned).chain(orders).chain(places).chain(times).chain(layouts).chain(apart).collect()
+    let leaps = TIMED.iter().chain(b"C").map(|&kind| leap(kind)).chain(AFTER_LEAP.map(str::to_string));
+    telling.chain(columned).chain(orders).chain(places).chain(times).chain(layouts).chain(apart).chain(leaps).collect()
 }
 
 /// The branches that a file reaches, some of them perhaps more than once.
@@ -83,6 +92,10 @@ fn of_refused(lines: &[&[u8]], refused: &Refusal) -> Vec<String> {
         _ => None,
     };
     reached.extend(one_before.map(|l| refused_after(refused.number, one_other(&l[0]), kind)));
+    if refused.number == 14 && one_before.is_some_and(|l| clock(&l[1..7]) == LEAP) {
+        let half_a_day = clock(&rest[0][1..7]) == LEAP - HALF_DAY;
+        reached.push(AFTER_LEAP[if half_a_day { 2 } else { 1 }].to_string());
+    }
     reached
 }
 
@@ -96,8 +109,16 @@ fn of_accepted(lines: &[&[u8]], said: &Accepted) -> Vec<String> {
     let mut reached: Vec<String> =
         pairs.filter(|(_, kind)| TELLING.contains(kind)).map(|(before, kind)| accepted_after(before, kind)).collect();
     let timed: Vec<(u8, u32)> = lines.iter().filter(|l| TIMED.contains(&l[0])).map(|l| (l[0], clock(&l[1..7]))).collect();
-    let nights = timed.windows(2).filter(|two| two[1].1 + HALF_DAY < two[0].1);
-    reached.extend(nights.map(|two| next_day(two[0].0, two[1].0)));
+    for two in timed.windows(2).filter(|two| two[1].1 + HALF_DAY < two[0].1) {
+        reached.push(next_day(two[0].0, two[1].0));
+        if two[0].1 == LEAP {
+            reached.push(AFTER_LEAP[0].to_string());
+        }
+    }
+    reached.extend(timed.iter().filter(|(_, time)| *time == LEAP).map(|(kind, _)| leap(*kind)));
+    // A head is the first of its C lines.
+    let head = lines.iter().find(|l| l[0] == b'C');
+    reached.extend(head.filter(|l| l[7..13] == *b"235960").map(|_| leap(b'C')));
     for family in FAMILIES {
         if !lines.iter().any(|l| l[0] == family.kind()) {
             continue;

@@ -1,9 +1,9 @@
 //! Valid files, made at random from a seed: every kind of line, layouts of listed and unlisted codes in any order and width,
-//! declarations, midnight, texts at their limits.
+//! declarations, midnight, the leap second, texts at their limits.
 
 use super::random::Random;
 use crate::reading::characters::{is_code, is_valid};
-use crate::reading::fields::{Axis, EAST_WEST, NORTH_SOUTH, altitude_text, date_text, days_in, time_text};
+use crate::reading::fields::{Axis, EAST_WEST, LEAP, NORTH_SOUTH, altitude_text, date_text, days_in, time_text};
 use crate::reading::file::HALF_DAY;
 use crate::reading::layouts::listed;
 use crate::reading::{Date, Entry, Family, LISTED, Layout, Layouts, Position, Role};
@@ -177,10 +177,12 @@ fn columns(random: &mut Random, layout: &Layout) -> Vec<u8> {
     layout.entries.iter().flat_map(|e| column_text(random, e)).collect()
 }
 
-/// The time of the next timed line: the same, a little later, much later, or past midnight, often by the least fall that is one.
+/// The time of the next timed line: the same, a little later, much later, the leap second, or past midnight, often by the least fall that is one. All of these come after any
+/// time, the leap second too.
 fn later(random: &mut Random, time: u32) -> u32 {
-    match random.below(24) {
-        0 => random.within(time as usize, DAY as usize - 1) as u32,
+    match random.below(25) {
+        0 => random.within(time as usize, LEAP as usize) as u32,
+        24 => LEAP,
         1 => (time + random.below(HALF_DAY as usize) as u32) % DAY,
         2 | 3 => (time + DAY - HALF_DAY - 1) % DAY,
         4..=8 => time,
@@ -236,7 +238,7 @@ impl<'a> Maker<'a> {
             Role::Layout(family) => self.sample.layouts.of(family).text(family),
             Role::Head => {
                 let flight = if random.once_in(2) { b"000000".to_vec() } else { day(random) };
-                let time = clock(random.below(DAY as usize) as u32);
+                let time = if random.once_in(12) { clock(LEAP) } else { clock(random.below(DAY as usize) as u32) };
                 let line = [b"C".to_vec(), day(random), time, flight, digits(random, 6)].concat();
                 with_text(random, role, line)
             }

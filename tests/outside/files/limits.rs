@@ -3,6 +3,7 @@
 use super::generate::{DAY, Line, Maker, Sample, clock, codes, digits, text};
 use super::random::Random;
 use super::rules::{Field, fields};
+use crate::reading::fields::LEAP;
 use crate::reading::file::HALF_DAY;
 use crate::reading::layouts::FAMILIES;
 use crate::reading::{Entry, Family, LISTED, Layout, Layouts, Role};
@@ -22,6 +23,8 @@ pub enum Limit {
     Listed(Family, [u8; 3], Vec<u8>),
     /// A line of the second role so many seconds before one of the first, which stands before it.
     Fall(Role, Role, u32),
+    /// The same, with the line before at the leap second.
+    FromLeap(Role, Role, u32),
     /// A line of the second role straight after one of the first.
     After(Role, Role),
 }
@@ -81,6 +84,7 @@ fn of_role((n, role): (usize, Role)) -> Vec<Limit> {
     if role.is_timed() {
         for before in ROLES.into_iter().filter(|before| before.is_timed()) {
             limits.extend([0, 1, HALF_DAY - 1, HALF_DAY, HALF_DAY + 1, DAY - 1].map(|fall| Limit::Fall(before, role, fall)));
+            limits.extend([0, 1, HALF_DAY, HALF_DAY + 1, LEAP].map(|fall| Limit::FromLeap(before, role, fall)));
         }
     }
     limits
@@ -180,7 +184,8 @@ fn neighbours(random: &mut Random, before: Role, role: Role) -> Sample {
 pub fn file(random: &mut Random, limit: &Limit) -> Vec<u8> {
     let role = match *limit {
         Limit::After(before, role) => return neighbours(random, before, role).bytes(),
-        Limit::Text(role, ..) | Limit::Character(role, _) | Limit::Length(role, _) | Limit::Fall(_, role, _) => role,
+        Limit::Text(role, ..) | Limit::Character(role, _) | Limit::Length(role, _) => role,
+        Limit::Fall(_, role, _) | Limit::FromLeap(_, role, _) => role,
         Limit::Columns(family, _) | Limit::Listed(family, ..) => family.role(),
     };
     let mut sample = match limit {
@@ -197,8 +202,9 @@ pub fn file(random: &mut Random, limit: &Limit) -> Vec<u8> {
         Limit::Length(_, length) => set_length(random, role, line, *length),
         Limit::Columns(..) | Limit::After(..) => {}
         Limit::Listed(family, _, text) => line[family.start() - 1..].copy_from_slice(text),
-        Limit::Fall(role, _, fall) => {
-            let before = random.within(*fall as usize, DAY as usize - 1) as u32;
+        Limit::Fall(role, _, fall) | Limit::FromLeap(role, _, fall) => {
+            let leap = matches!(limit, Limit::FromLeap(..));
+            let before = if leap { LEAP } else { random.within(*fall as usize, DAY as usize - 1) as u32 };
             line[1..7].copy_from_slice(&clock(before - fall));
             let text = timed(*role, before, &sample.layouts);
             sample.lines.insert(at, Line { role: *role, text });

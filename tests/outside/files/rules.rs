@@ -69,6 +69,8 @@ impl Rule {
             Rule::Time => match random.below(5) {
                 0 => field[..2].copy_from_slice(b"24"),
                 1 => field[2..4].copy_from_slice(b"60"),
+                // The leap second breaks no rule.
+                2 if field.starts_with(b"2359") => field[4..6].copy_from_slice(b"61"),
                 2 => field[4..6].copy_from_slice(b"60"),
                 3 => field[2 * random.within(0, 2)] = b'9',
                 _ => field[place] = not_digit,
@@ -103,7 +105,7 @@ impl Rule {
         let words = |all: &str| all.split(' ').map(|word| word.as_bytes().to_vec()).collect();
         match self {
             Rule::Codes | Rule::Digits => vec![],
-            Rule::Time => words("000000 235959 240000 236000 235960 230000"),
+            Rule::Time => words("000000 235959 240000 236000 235960 230000 235961 235969 235860 225960 133960 120060 000060 245960"),
             Rule::Date => {
                 let lasts = (1..=12u32).zip([31, 28, 31, 30, 31, 30, 31, 31, 30, 31, 30, 31]);
                 let ends = lasts.flat_map(|(month, last)| [last, last + 1].map(|day| format!("{day:02}{month:02}23").into_bytes()));

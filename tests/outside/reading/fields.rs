@@ -50,13 +50,21 @@ fn codes(text: &[u8]) -> Option<()> {
     text.iter().all(|&c| is_code(c)).then_some(())
 }
 
-/// "HHMMSS, 00 to 23, 00 to 59, 00 to 59, read as seconds of the day."
+/// The leap second, 235960: "That time reads as 86,400".
+pub const LEAP: u32 = 86_400;
+
+/// "HHMMSS, 00 to 23, 00 to 59, 00 to 59, read as seconds of the day." "Seconds are 00 to 59, and also 60 when hours and minutes are 23 and 59."
 fn time(text: &[u8]) -> Option<u32> {
     let (h, m, s) = (digits(&text[0..2])?, digits(&text[2..4])?, digits(&text[4..6])?);
-    (h <= 23 && m <= 59 && s <= 59).then_some((h * 3600 + m * 60 + s) as u32)
+    let most = if (h, m) == (23, 59) { 60 } else { 59 };
+    (h <= 23 && m <= 59 && s <= most).then_some((h * 3600 + m * 60 + s) as u32)
 }
 
+/// "Writers accept 86,400 and write 235960."
 pub fn time_text(seconds: u32) -> String {
+    if seconds == LEAP {
+        return "235960".to_string();
+    }
     format!("{:02}{:02}{:02}", seconds / 3600, seconds / 60 % 60, seconds % 60)
 }
 

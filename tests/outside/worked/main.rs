@@ -4,6 +4,7 @@
 mod damaged;
 mod files;
 mod layouts;
+mod leap;
 mod lines;
 mod made;
 mod marked;

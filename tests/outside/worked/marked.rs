@@ -42,9 +42,11 @@ fn marked_4() {
 #[test]
 fn marked_5() {
     assert_eq!(read_extra(b"K235959", &Layout::default()), Ok(86_399));
-    assert_eq!(read_extra(b"K235960", &Layout::default()), no(22, 2));
+    assert_eq!(read_extra(b"K235960", &Layout::default()), Ok(86_400));
+    assert_eq!(read_extra(b"K235961", &Layout::default()), no(22, 2));
     assert_eq!(fix(Parts { time: "235959", ..PARTS }).map(|f| f.time), Ok(86_399));
-    assert_eq!(fix(Parts { time: "235960", ..PARTS }), no(22, 2));
+    assert_eq!(fix(Parts { time: "235960", ..PARTS }).map(|f| f.time), Ok(86_400));
+    assert_eq!(fix(Parts { time: "235961", ..PARTS }), no(22, 2));
 }
 
 #[test]

@@ -11,7 +11,7 @@ fn listings() {
     assert_eq!(listing(&[b'x'; 65_537]), "REFUSED 21 0 0\n");
     assert_eq!(listing(&file(&[A, DATE, "I013636FXA"])), "REFUSED 12 3 4\n");
     for (wrong, expected) in [
-        (b(Parts { time: "235960", ..PARTS }), "REFUSED 22 3 2\n"),
+        (b(Parts { time: "235961", ..PARTS }), "REFUSED 22 3 2\n"),
         (b(Parts { lat: "9000001N", ..PARTS }), "REFUSED 23 3 8\n"),
         (b(Parts { validity: "X", ..PARTS }), "REFUSED 9 3 25\n"),
         (b(Parts { pressure: "-0000", ..PARTS }), "REFUSED 24 3 26\n"),

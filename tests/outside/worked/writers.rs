@@ -39,7 +39,7 @@ fn fixes() {
     let (latitude, longitude) = (at(5_400_000, b'S'), at(10_800_000, b'W'));
     let high = Fix { time: 86_399, latitude, longitude, validity: b'V', pressure: 99_999, gnss: -1 };
     assert_eq!(write(high, "", &none), line("B2359599000000S18000000WV99999-0001"));
-    let times = [86_400, 10_000_000, u32::MAX].map(|time| Fix { time, ..FIX });
+    let times = [86_401, 10_000_000, u32::MAX].map(|time| Fix { time, ..FIX });
     let latitudes =
         [at(5_400_001, b'N'), at(100_000_000, b'N'), at(0, b'E'), at(0, b'n'), at(0, 0)].map(|latitude| Fix { latitude, ..FIX });
     let longitudes =
@@ -71,7 +71,7 @@ fn extras() {
     assert_eq!(write(1, "", &Layout::default()), line("K000001"));
     assert_eq!(write(86_399, "12a", &two), line("K23595912a"));
     assert_eq!(write(86_399, "1-a", &two), Err(17));
-    assert_eq!(write(86_400, "", &Layout::default()), Err(17));
+    assert_eq!(write(86_401, "", &Layout::default()), Err(17));
     assert_eq!(write(u32::MAX, "", &Layout::default()), Err(17));
     assert_eq!(write(0, "0", &Layout::default()), Err(17));
     assert_eq!(write(0, "012", &layout(&[(36, 38, "FXA")])), Err(17));
@@ -111,7 +111,7 @@ fn declarations() {
     let days = [day(0, 0, 0), day(0, 1, 2024), day(29, 2, 2023), day(1, 1, 1979), day(1, 1, 2080), day(1, 13, 2024)];
     let heads = days.map(|declared| Head { declared, ..good }).to_vec();
     let flights = [day(0, 0, 2000), day(31, 4, 2024)].map(|flight| Head { flight: Some(flight), ..good });
-    let numbers = [Head { time: 86_400, ..good }, Head { task: 10_000, ..good }, Head { turns: 100, ..good }];
+    let numbers = [Head { time: 86_401, ..good }, Head { task: 10_000, ..good }, Head { turns: 100, ..good }];
     for wrong in [heads, flights.to_vec(), numbers.to_vec()].concat() {
         assert_eq!(head(wrong, ""), Err(17), "{wrong:?}");
     }
@@ -139,5 +139,5 @@ fn where_a_line_is_put() {
     assert_eq!(put(1, 16), (no(18, 0), dots.clone()));
     assert_eq!(put(1, usize::MAX), (no(18, 0), dots.clone()));
     // 17 before 18
-    assert_eq!(put(86_400, 16), (no(17, 0), dots));
+    assert_eq!(put(86_401, 16), (no(17, 0), dots));
 }
