@@ -1,7 +1,7 @@
-// The call from C on a whole file: its check, with the table of its lines' offsets.
+// The calls from C on a whole file: the usual check and the strict one, with the table of its lines' offsets.
 ghost use mathlib.Core.Path.{_≡_};
 ghost use Rattle.answers.specs.Answers.{accepting};
-ghost use Rattle.calls_file.specs.Calls.{flightNumbers, checkedNumbers, CheckAnswered};
+ghost use Rattle.calls_file.specs.Calls.{oneIf, flightNumbers, checkedNumbers, CheckAnswered, UsuallyChecked, StrictlyChecked};
 use answers::Numbers;
 use answers::SIZE;
 use answers::accepted;
@@ -12,6 +12,16 @@ use rules::Family;
 use rules::Flight;
 use rules::Outcome;
 use rules::Seal;
+
+// Yes or no as a number.
+fn one_if(b: bool) -> u64
+    ensures { λ r. ⌜ r ≡ oneIf b ⌝ }
+{
+    if b {
+        return 1;
+    }
+    0
+}
 
 // What an accepted file says.
 fn flight(f: Flight) -> Numbers
@@ -27,6 +37,7 @@ fn flight(f: Flight) -> Numbers
     let month = date.month as u64;
     let year = date.year as u64;
     let lines = f.lines as u64;
+    let signed = one_if(f.signed);
     accepted(
         &[
             day,
@@ -39,6 +50,7 @@ fn flight(f: Flight) -> Numbers
             k,
             counts.n as u64,
             n,
+            signed,
         ],
     )
 }
@@ -55,13 +67,26 @@ fn numbers(c: Checked) -> Numbers
     }
 }
 
-// The check of a whole file, with the table of its lines' offsets.
-pub fn check(file: &[u8], table: &mut [u32], answer: &mut [u64]) -> u32
-    ensures { λ r. ⌜ CheckAnswered (now (file .entry)) (now (table .entry)) (now (answer .entry)) r (now (table .exit)) (now (answer .exit)) ⌝ }
+fn checked(seal: Seal, file: &[u8], table: &mut [u32], answer: &mut [u64]) -> u32
+    ensures { λ r. ⌜ CheckAnswered seal (now (file .entry)) (now (table .entry)) (now (answer .entry)) r (now (table .exit)) (now (answer .exit)) ⌝ }
 {
     if answer.len() != SIZE {
         return 17;
     }
-    let checked = file::check(Seal::Strict, file, table);
+    let checked = file::check(seal, file, table);
     answers::give(answer, numbers(checked))
+}
+
+// The usual check of a whole file, with the table of its lines' offsets. Refused with 17, and nothing changed, where the answer has another length; else as the file is.
+pub fn check(file: &[u8], table: &mut [u32], answer: &mut [u64]) -> u32
+    ensures { λ r. ⌜ UsuallyChecked (now (file .entry)) (now (table .entry)) (now (answer .entry)) r (now (table .exit)) (now (answer .exit)) ⌝ }
+{
+    checked(Seal::Usual, file, table, answer)
+}
+
+// The strict check, which takes only a signed file; in all else as the usual one.
+pub fn check_strict(file: &[u8], table: &mut [u32], answer: &mut [u64]) -> u32
+    ensures { λ r. ⌜ StrictlyChecked (now (file .entry)) (now (table .entry)) (now (answer .entry)) r (now (table .exit)) (now (answer .exit)) ⌝ }
+{
+    checked(Seal::Strict, file, table, answer)
 }

@@ -54,7 +54,7 @@ pub(crate) fn read_named(name: &[u8], input: &mut [u8]) -> Got
 }
 
 fn list(file: &[u8], table: &mut [u32]) -> Fate {
-    let checked = file::check(Seal::Strict, file, table);
+    let checked = file::check(Seal::Usual, file, table);
     let outcome = checked.outcome;
     let flight = checked.flight;
     match outcome {
@@ -64,7 +64,7 @@ fn list(file: &[u8], table: &mut [u32]) -> Fate {
 }
 
 fn check(name: &[u8], file: &[u8], table: &mut [u32]) -> Fate {
-    let checked = file::check(Seal::Strict, file, table);
+    let checked = file::check(Seal::Usual, file, table);
     let outcome = checked.outcome;
     let flight = checked.flight;
     match outcome {

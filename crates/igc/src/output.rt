@@ -67,10 +67,9 @@ pub(crate) fn print_noted(name: &[u8], notes: usize) -> bool {
     write(&out[..n])
 }
 
-// The check that igc makes accepts no file without a G line, so each one that it accepts is signed.
 pub(crate) fn print_accepted(name: &[u8], flight: Flight) -> bool {
     let mut out = [0u8; 4608];
-    let n = notice::accepted(name, flight, true, &mut out);
+    let n = notice::accepted(name, flight, &mut out);
     write(&out[..n])
 }
 

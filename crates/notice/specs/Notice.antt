@@ -37,17 +37,17 @@ unfoldable pub signedShown : Bool → List ℕ
 unfolding bytes
 signedShown signed = cond signed (bytes ", signed" ++ lf) (bytes ", not signed" ++ lf)
 
-unfoldable pub acceptedShown : Flight → Bool → List ℕ
+unfoldable pub acceptedShown : Flight → List ℕ
 unfolding bytes
-acceptedShown f signed = bytes ": accepted, " ++ (dateShown (f .date) ++ (countsShown (f .lines) (f .counts) ++ signedShown signed))
+acceptedShown f = bytes ": accepted, " ++ (dateShown (f .date) ++ (countsShown (f .lines) (f .counts) ++ signedShown (f .signed)))
 
 -- ---- the promises
 
 abbrev pub HeadingPut : List ℕ → List ℕ → ℕ → List ℕ → Type 0
 HeadingPut name out r after = PiecePut out 0 (bytes "== " ++ (nameShown name ++ lf)) r after
 
-abbrev pub AcceptedPut : List ℕ → Flight → Bool → List ℕ → ℕ → List ℕ → Type 0
-AcceptedPut name f signed out r after = PiecePut out 0 (nameShown name ++ acceptedShown f signed) r after
+abbrev pub AcceptedPut : List ℕ → Flight → List ℕ → ℕ → List ℕ → Type 0
+AcceptedPut name f out r after = PiecePut out 0 (nameShown name ++ acceptedShown f) r after
 
 -- a file that is refused, explained with the caret
 abbrev pub RefusedPut : List ℕ → List ℕ → Refusal → List ℕ → ℕ → List ℕ → Type 0

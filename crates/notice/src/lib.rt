@@ -50,15 +50,15 @@ fn put_signed(out: &mut [u8], at: usize, signed: bool) -> usize
     put_text(out, at, b", not signed\n")
 }
 
-fn put_accepted(out: &mut [u8], at: usize, f: Flight, signed: bool) -> usize
-    ensures { λ r. ⌜ PiecePut (now (out .entry)) at (acceptedShown f signed) r (now (out .exit)) ⌝ }
+fn put_accepted(out: &mut [u8], at: usize, f: Flight) -> usize
+    ensures { λ r. ⌜ PiecePut (now (out .entry)) at (acceptedShown f) r (now (out .exit)) ⌝ }
 {
     let date = f.date;
     let counts = f.counts;
     let a = put_text(out, at, b": accepted, ");
     let b = put_date(out, a, date);
     let c = put_counts(out, b, f.lines, counts);
-    put_signed(out, c, signed)
+    put_signed(out, c, f.signed)
 }
 
 // The line before the listing of a file, where several are listed.
@@ -71,11 +71,11 @@ pub fn heading(name: &[u8], out: &mut [u8]) -> usize
 }
 
 // The line of an accepted file: its date, how many lines, fixes, K and N lines it has, and whether it is signed.
-pub fn accepted(name: &[u8], f: Flight, signed: bool, out: &mut [u8]) -> usize
-    ensures { λ r. ⌜ AcceptedPut (now (name .entry)) f signed (now (out .entry)) r (now (out .exit)) ⌝ }
+pub fn accepted(name: &[u8], f: Flight, out: &mut [u8]) -> usize
+    ensures { λ r. ⌜ AcceptedPut (now (name .entry)) f (now (out .entry)) r (now (out .exit)) ⌝ }
 {
     let next = put_name(out, 0, name);
-    put_accepted(out, next, f, signed)
+    put_accepted(out, next, f)
 }
 
 // A refused file's name, and behind it the refusal explained.

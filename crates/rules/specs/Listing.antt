@@ -115,4 +115,4 @@ listedAs file (refuses n l b) = refusedText n l b
 
 -- "The listing program reads standard input, lends a table of 16,384 entries"; "21 INPUT_OVER: program's input over 65,536 bytes; 0, 0"
 unfoldable pub listing : List ℕ → List ℕ
-listing input = listedAs input (need (leb (length input) 65536) (no InputOver 0) λ _. verdict seal.Strict input (some 16384))
+listing input = listedAs input (need (leb (length input) 65536) (no InputOver 0) λ _. verdict seal.Usual input (some 16384))

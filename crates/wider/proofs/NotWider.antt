@@ -30,7 +30,7 @@ use Rattle.wider.proofs.Instances.{told}
 
 -- what is said of document 01's file, with another layout of its B lines
 abbrev pub five : Layout → Flight
-five i = record { date = record { day = 15; month = 7; year = 2024 }; layouts = record { b = i; k = emptyLayout; n = emptyLayout }; lines = 5; counts = record { b = 1; k = 0; n = 0 } }
+five i = record { date = record { day = 15; month = 7; year = 2024 }; layouts = record { b = i; k = emptyLayout; n = emptyLayout }; lines = 5; counts = record { b = 1; k = 0; n = 0 }; signed = true }
 
 module _ (file′ : List ℕ) (long : length file′ ≤ 16777216) (w : WiderFile fiveLines file′) where
   so : (f′ : Flight) × (verdict seal.Strict file′ none ≡ says f′) × ReadsAsBefore fiveLines file′ (five fiveLayout) f′ (putIn w)
