@@ -55,6 +55,7 @@ counted-among x (k ∷ front) l back e = omega (arith, counted-among x front l b
 
 module _ (needs : Seal) (file : List ℕ) (room : Option ℕ) (f : Flight) (accepted : verdict needs file room ≡ says f) where
   pub signed-exactly : (f .signed ≡ true) ↔ HasGLine file
+  unfolding linesOf
   signed-exactly =
       let w = accepted-as needs file room f .0 accepted in
       let m = w .0 in
@@ -83,6 +84,7 @@ module _ (file : List ℕ) (room : Option ℕ) where
   usual = verdict seal.Usual file room
 
   pub strict-accepts : (f : Flight) → (verdict seal.Strict file room ≡ says f) ↔ ((usual ≡ says f) × (f .signed ≡ true))
+  unfolding onlySigned
   strict-accepts f = (λ e. go usual refl (sym (strict-adds room file) ∙ e), λ h. strict-adds room file ∙ back (h .0) (h .1))
     where
       chosen : (g : Flight) (b : Bool) → g .signed ≡ b → cond b (says g) (refuses (number EndsEarly) (g .lines + 1) 0) ≡ says f → (says g ≡ says f) × (f .signed ≡ true)
@@ -90,12 +92,10 @@ module _ (file : List ℕ) (room : Option ℕ) where
       chosen g false e h = absurd (refuses-says h)
 
       go : (s : Said Flight) → usual ≡ s → onlySigned s ≡ says f → (usual ≡ says f) × (f .signed ≡ true)
-      unfolding onlySigned
       go (says g) e h = let c = chosen g (g .signed) refl h in (e ∙ c .0, c .1)
       go (refuses n l b) e h = absurd (refuses-says h)
 
       back : usual ≡ says f → f .signed ≡ true → onlySigned usual ≡ says f
-      unfolding onlySigned
       back e h = rw (e, h)
 
   -- what it refuses besides: a file that is not signed
@@ -103,19 +103,17 @@ module _ (file : List ℕ) (room : Option ℕ) where
   Besides n l b = (f : Flight) × (usual ≡ says f) × (f .signed ≡ false) × (n ≡ 16) × (l ≡ f .lines + 1) × (b ≡ 0)
 
   pub strict-refuses : (n l b : ℕ) → (verdict seal.Strict file room ≡ refuses n l b) ↔ ((usual ≡ refuses n l b) ⊎ Besides n l b)
+  unfolding onlySigned number
   strict-refuses n l b = (λ e. go usual refl (sym (strict-adds room file) ∙ e), λ h. strict-adds room file ∙ back h)
     where
       chosen : (g : Flight) (x : Bool) → usual ≡ says g → g .signed ≡ x → cond x (says g) (refuses (number EndsEarly) (g .lines + 1) 0) ≡ refuses n l b → Besides n l b
-      unfolding number
       chosen g true u e h = absurd (refuses-says (sym h))
       chosen g false u e h = (g, u, e, cc, cc, cc)
 
       go : (s : Said Flight) → usual ≡ s → onlySigned s ≡ refuses n l b → (usual ≡ refuses n l b) ⊎ Besides n l b
-      unfolding onlySigned
       go (says g) e h = inr (chosen g (g .signed) e refl h)
       go (refuses k i j) e h = inl (e ∙ h)
 
       back : (usual ≡ refuses n l b) ⊎ Besides n l b → onlySigned usual ≡ refuses n l b
-      unfolding onlySigned number
       back (inl e) = rw e
       back (inr w) = rw (w .1, w .2, w .3, w .4, w .5)
