@@ -11,6 +11,8 @@ static const char FIVE[] = "AXYZ001\r\nHFDTE150724\r\nI023638FXA3940SIU\r\nB1200
 /* An M line and an N line beside them; the column is an unlisted one. */
 static const char SEVEN[] =
     "AXYZ001\r\nHFDTE150724\r\nI023638FXA3940SIU\r\nM010811HRT\r\nB1200005130000N00015000WA001000012001208\r\nN1200050072\r\nGABC\r\n";
+/* No G line. */
+static const char FOUR[] = "AXYZ001\r\nHFDTE150724\r\nI023638FXA3940SIU\r\nB1200005130000N00015000WA001000012001208\r\n";
 static const char I[] = "I023638FXA3940SIU";
 static const char J[] = "J010810HDT";
 static const char M[] = "M010811HRT";
@@ -92,6 +94,12 @@ static void files(void) {
     say("check, nothing", hive_check(NULL, 0, NULL, 0, answer, HIVE_ANSWER));
     uint32_t more[7];
     say("check, with an N line", hive_check(TEXT(SEVEN), more, 7, answer, HIVE_ANSWER));
+    say("check, no G line", hive_check(TEXT(FOUR), more, 7, answer, HIVE_ANSWER));
+    say("check, line 1 alone", hive_check(TEXT("AXYZ001\r\n"), more, 7, answer, HIVE_ANSWER));
+    say("strict check, answer of 15", hive_check_strict(TEXT(FIVE), table, 6, answer, 15));
+    say("strict check", hive_check_strict(TEXT(FIVE), table, 6, answer, HIVE_ANSWER));
+    say("strict check, no G line", hive_check_strict(TEXT(FOUR), more, 7, answer, HIVE_ANSWER));
+    say("strict check, an L line last", hive_check_strict(TEXT("AXYZ001\r\nHFDTE150724\r\nLXYZ\r\n"), more, 7, answer, HIVE_ANSWER));
     say("line 4", hive_line(TEXT(FIVE), table, 5, 4, answer, HIVE_ANSWER));
     say("line 0", hive_line(TEXT(FIVE), table, 5, 0, answer, HIVE_ANSWER));
     say("line 6 of 5", hive_line(TEXT(FIVE), table, 5, 6, answer, HIVE_ANSWER));
