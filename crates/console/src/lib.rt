@@ -1,4 +1,4 @@
-// What igc writes: its answers on standard output, and what is no answer on standard error.
+// What igc and badge write: their answers on standard output, and what is no answer on standard error.
 use libc::STDERR_FILENO;
 use libc::STDOUT_FILENO;
 use rules::Flight;
@@ -24,13 +24,18 @@ pub fn print_usage(fd: i32) -> bool {
     io::write_all(fd, &text)
 }
 
-// What became of a file whose answer was written, or was not: then that is said, once.
-pub fn fate_of(written: bool, fate: Fate) -> Fate {
+// What became of a file whose answer was written, or was not: then that is said, once, in these words.
+pub fn fate_by(words: &[u8], written: bool, fate: Fate) -> Fate {
     if !written {
-        os::fail(b"igc: the output could not be written");
+        os::fail(words);
         return Fate::Unwritten;
     }
     fate
+}
+
+// The same, said by igc.
+pub fn fate_of(written: bool, fate: Fate) -> Fate {
+    fate_by(b"igc: the output could not be written", written, fate)
 }
 
 // The line before a file's listing, where several are listed.
@@ -70,6 +75,13 @@ pub fn print_noted(name: &[u8], notes: usize) -> bool {
 pub fn print_accepted(name: &[u8], flight: Flight) -> bool {
     let mut out = [0u8; 4608];
     let n = notice::accepted(name, flight, &mut out);
+    write(&out[..n])
+}
+
+// The line of a file in the badge list.
+pub fn print_fit(name: &[u8], flight: Flight, file: &[u8]) -> bool {
+    let mut out = [0u8; 4608];
+    let n = notice::fit(name, flight, file, &mut out);
     write(&out[..n])
 }
 

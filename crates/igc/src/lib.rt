@@ -11,6 +11,8 @@ use files::list_named;
 use libc::STDERR_FILENO;
 use libc::STDOUT_FILENO;
 use merging::merge_named;
+use named::begins_names_at;
+use named::first_option;
 use verbs::Fate;
 use verbs::Verb;
 
@@ -18,18 +20,6 @@ fn verb_at(i: usize) -> Verb {
     let mut word = io::buffer();
     let k = os::arg(i, &mut word);
     verbs::verb_of(&word[..k])
-}
-
-fn is_option_at(i: usize) -> bool {
-    let mut word = io::buffer();
-    let k = os::arg(i, &mut word);
-    verbs::is_option(&word[..k])
-}
-
-fn begins_names_at(i: usize) -> bool {
-    let mut word = io::buffer();
-    let k = os::arg(i, &mut word);
-    verbs::begins_names(&word[..k])
 }
 
 // Words that are not those of the help text: nothing is done.
@@ -47,18 +37,6 @@ fn tell(version: bool, n: usize) -> u32 {
         return verbs::status_of(fate_of(console::write(b"igc 1, of Hivebasket\n"), Fate::Accepted));
     }
     verbs::status_of(fate_of(print_usage(STDOUT_FILENO), Fate::Accepted))
-}
-
-// Where the first word that begins with a dash stands, of those from a place on; n where none does.
-fn first_option(from: usize, n: usize) -> usize {
-    let mut i = from;
-    while i < n {
-        if is_option_at(i) {
-            return i;
-        }
-        i += 1;
-    }
-    n
 }
 
 // A verb on the file that a word names.

@@ -1,5 +1,4 @@
 // Two copies of a file by their names: merged into a new file, which takes no other file's place.
-use crate::files::read_named;
 use console::fate_of;
 use console::print_noted;
 use console::print_refused;
@@ -8,6 +7,7 @@ use console::say_left;
 use console::say_unfilled;
 use console::say_unmade;
 use merge::Brought;
+use named::read_named;
 use verbs::Fate;
 
 // Whether all of the bytes were written, and have reached the file's device.

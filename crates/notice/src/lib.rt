@@ -1,7 +1,7 @@
-// What igc says of a file by its name: the heading of its listing, the line of its check, its refusal explained, its notes counted, why it was not read. Each is put at the
+// What the programs say of a file by its name: the heading of its listing, the line of its check, its line in the badge list, its refusal explained, its notes counted, why it was not read. Each is put at the
 // start of a lent buffer, and the answer is how many bytes that is; a full buffer takes no more.
 ghost use Rattle.pieces.specs.Buffer.{PiecePut};
-ghost use Rattle.notice.specs.Notice.{nameShown, counted, countsShown, extrasShown, signedShown, acceptedShown, HeadingPut, AcceptedPut, RefusedPut, FailedPut, BothPut, NotedPut};
+ghost use Rattle.notice.specs.Notice.{nameShown, counted, countsShown, extrasShown, signedShown, acceptedShown, recorderShown, fitShown, HeadingPut, AcceptedPut, FitPut, RefusedPut, FailedPut, BothPut, NotedPut};
 use dates::put_date;
 use pieces::put_byte;
 use pieces::put_shown;
@@ -61,6 +61,27 @@ fn put_accepted(out: &mut [u8], at: usize, f: Flight) -> usize
     put_signed(out, c, f.signed)
 }
 
+fn put_recorder(out: &mut [u8], at: usize, file: &[u8]) -> usize
+    ensures { λ r. ⌜ PiecePut (now (out .entry)) at (recorderShown (now (file .entry))) r (now (out .exit)) ⌝ }
+{
+    if file.len() < 7 {
+        return put_text(out, at, b", no recorder");
+    }
+    let next = put_text(out, at, b", recorder ");
+    put_text(out, next, &file[1..7])
+}
+
+fn put_fit(out: &mut [u8], at: usize, f: Flight, file: &[u8]) -> usize
+    ensures { λ r. ⌜ PiecePut (now (out .entry)) at (fitShown f (now (file .entry))) r (now (out .exit)) ⌝ }
+{
+    let date = f.date;
+    let a = put_text(out, at, b": ");
+    let b = put_date(out, a, date);
+    let c = put_recorder(out, b, file);
+    let d = put_counted(out, c, b", fixes", f.counts.b);
+    put_signed(out, d, f.signed)
+}
+
 // The line before the listing of a file, where several are listed.
 pub fn heading(name: &[u8], out: &mut [u8]) -> usize
     ensures { λ r. ⌜ HeadingPut (now (name .entry)) (now (out .entry)) r (now (out .exit)) ⌝ }
@@ -76,6 +97,14 @@ pub fn accepted(name: &[u8], f: Flight, out: &mut [u8]) -> usize
 {
     let next = put_name(out, 0, name);
     put_accepted(out, next, f)
+}
+
+// The line of a file in the badge list: its date, its recorder, how many fixes it has, and whether it is signed.
+pub fn fit(name: &[u8], f: Flight, file: &[u8], out: &mut [u8]) -> usize
+    ensures { λ r. ⌜ FitPut (now (name .entry)) f (now (file .entry)) (now (out .entry)) r (now (out .exit)) ⌝ }
+{
+    let next = put_name(out, 0, name);
+    put_fit(out, next, f, file)
 }
 
 // A refused file's name, and behind it the refusal explained.
