@@ -48,9 +48,13 @@ unfoldable pub recorderShown : List ℕ → List ℕ
 unfolding bytes
 recorderShown file = cond (leb 7 (length file)) (bytes ", recorder " ++ part (byte 2) (byte 8) file) (bytes ", no recorder")
 
+unfoldable pub flownShown : ℕ → Bool → List ℕ
+unfolding bytes
+flownShown fixes signed = counted (bytes ", fixes") fixes ++ signedShown signed
+
 unfoldable pub fitShown : Flight → List ℕ → List ℕ
 unfolding bytes
-fitShown f file = bytes ": " ++ (dateShown (f .date) ++ (recorderShown file ++ (counted (bytes ", fixes") (f .counts .b) ++ signedShown (f .signed))))
+fitShown f file = bytes ": " ++ (dateShown (f .date) ++ (recorderShown file ++ flownShown (f .counts .b) (f .signed)))
 
 -- ---- the promises
 

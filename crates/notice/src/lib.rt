@@ -1,7 +1,7 @@
 // What the programs say of a file by its name: the heading of its listing, the line of its check, its line in the badge list, its refusal explained, its notes counted, why it was not read. Each is put at the
 // start of a lent buffer, and the answer is how many bytes that is; a full buffer takes no more.
 ghost use Rattle.pieces.specs.Buffer.{PiecePut};
-ghost use Rattle.notice.specs.Notice.{nameShown, counted, countsShown, extrasShown, signedShown, acceptedShown, recorderShown, fitShown, HeadingPut, AcceptedPut, FitPut, RefusedPut, FailedPut, BothPut, NotedPut};
+ghost use Rattle.notice.specs.Notice.{nameShown, counted, countsShown, extrasShown, signedShown, acceptedShown, recorderShown, flownShown, fitShown, HeadingPut, AcceptedPut, FitPut, RefusedPut, FailedPut, BothPut, NotedPut};
 use dates::put_date;
 use pieces::put_byte;
 use pieces::put_shown;
@@ -71,6 +71,13 @@ fn put_recorder(out: &mut [u8], at: usize, file: &[u8]) -> usize
     put_text(out, next, &file[1..7])
 }
 
+fn put_flown(out: &mut [u8], at: usize, fixes: u32, signed: bool) -> usize
+    ensures { λ r. ⌜ PiecePut (now (out .entry)) at (flownShown fixes signed) r (now (out .exit)) ⌝ }
+{
+    let next = put_counted(out, at, b", fixes", fixes);
+    put_signed(out, next, signed)
+}
+
 fn put_fit(out: &mut [u8], at: usize, f: Flight, file: &[u8]) -> usize
     ensures { λ r. ⌜ PiecePut (now (out .entry)) at (fitShown f (now (file .entry))) r (now (out .exit)) ⌝ }
 {
@@ -78,8 +85,7 @@ fn put_fit(out: &mut [u8], at: usize, f: Flight, file: &[u8]) -> usize
     let a = put_text(out, at, b": ");
     let b = put_date(out, a, date);
     let c = put_recorder(out, b, file);
-    let d = put_counted(out, c, b", fixes", f.counts.b);
-    put_signed(out, d, f.signed)
+    put_flown(out, c, f.counts.b, f.signed)
 }
 
 // The line before the listing of a file, where several are listed.
