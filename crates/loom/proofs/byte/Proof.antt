@@ -1,9 +1,9 @@
--- `weave::byte` meets its contract: where it has room. Assumes nothing.
+-- `loom::byte` meets its contract: where it has room. Assumes nothing.
 use native.Mathlib.Omega.{arith}
-use Rattle.weave.proofs.Reading.{byte-past, byte-there}
+use Rattle.loom.proofs.Reading.{byte-past, byte-there}
 use borrow.Author.Needs.{needs}
-use Rattle.weave.proofs.byte.Statement.{statement}
-use Rattle.weave.proofs.byte.Tie as tie
+use Rattle.loom.proofs.byte.Statement.{statement}
+use Rattle.loom.proofs.byte.Tie as tie
 
 returns : tie.Need-returns
 returns c = byte-past _ _ _ (omega arith)

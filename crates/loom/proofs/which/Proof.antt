@@ -1,9 +1,9 @@
--- `weave::which` meets its contract: by the two texts that come next. Assumes nothing.
+-- `loom::which` meets its contract: by the two texts that come next. Assumes nothing.
 use native.Mathlib.Omega.{arith}
-use Rattle.weave.proofs.Reading.{chosen-second, chosen-first, chosen-both, chosen-less, chosen-more}
+use Rattle.loom.proofs.Reading.{chosen-second, chosen-first, chosen-both, chosen-less, chosen-more}
 use borrow.Author.Needs.{needs}
-use Rattle.weave.proofs.which.Statement.{statement}
-use Rattle.weave.proofs.which.Tie as tie
+use Rattle.loom.proofs.which.Statement.{statement}
+use Rattle.loom.proofs.which.Tie as tie
 
 returns : tie.Need-returns
 returns c = chosen-second _ _ _ _ _ _ (c .before .before .before .before .before .before .pre .0) (c .before .before .before .before .before .before .pre .1) (c .if1 .taken) (c .before .before .before .before .before .before .pre .2 (c .if1 .taken))

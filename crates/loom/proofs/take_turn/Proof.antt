@@ -1,9 +1,9 @@
--- `weave::take_turn` meets its contract: the next note of the first, of the second or of both. Assumes nothing.
+-- `loom::take_turn` meets its contract: the next note of the first, of the second or of both. Assumes nothing.
 use native.Mathlib.Omega.{arith}
-use Rattle.weave.proofs.Turns.{turned-second, turned-first, turned-both}
+use Rattle.loom.proofs.Turns.{turned-second, turned-first, turned-both}
 use borrow.Author.Needs.{needs}
-use Rattle.weave.proofs.take_turn.Statement.{statement}
-use Rattle.weave.proofs.take_turn.Tie as tie
+use Rattle.loom.proofs.take_turn.Statement.{statement}
+use Rattle.loom.proofs.take_turn.Tie as tie
 
 which-requires : tie.Need-which-requires
 which-requires c κs = search needs

@@ -1,10 +1,10 @@
--- `weave::advance` meets its contract: the next of the run. Assumes nothing.
+-- `loom::advance` meets its contract: the next of the run. Assumes nothing.
 use mathlib.Core.Path.{refl}
 use native.Mathlib.Omega.{arith}
-use Rattle.weave.proofs.Reading.{taken}
+use Rattle.loom.proofs.Reading.{taken}
 use borrow.Author.Needs.{needs}
-use Rattle.weave.proofs.advance.Statement.{statement}
-use Rattle.weave.proofs.advance.Tie as tie
+use Rattle.loom.proofs.advance.Statement.{statement}
+use Rattle.loom.proofs.advance.Tie as tie
 
 add-t5 : tie.Need-add-t5
 add-t5 c = omega (arith, c .pre .0 .fits, c .pre .1)

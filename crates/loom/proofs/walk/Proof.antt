@@ -1,13 +1,13 @@
--- `weave::walk` meets its contract: what is left of both, behind what was put, is the whole. Assumes nothing.
+-- `loom::walk` meets its contract: what is left of both, behind what was put, is the whole. Assumes nothing.
 use Prim.Native.Nat.{ℕ, _+_}
 use mathlib.Core.Path.{refl, sym, _∙_}
 use native.Mathlib.Omega.{arith}
 use lib.ListN.{length, length-replicate}
 use Rattle.runs.specs.Runs.{coming}
-use Rattle.weave.proofs.Turns.{Going, going-first, going-small, going-less, going-next, going-end}
+use Rattle.loom.proofs.Turns.{Going, going-first, going-small, going-less, going-next, going-end}
 use borrow.Author.Needs.{needs}
-use Rattle.weave.proofs.walk.Statement.{statement}
-use Rattle.weave.proofs.walk.Tie as tie
+use Rattle.loom.proofs.walk.Statement.{statement}
+use Rattle.loom.proofs.walk.Tie as tie
 
 abbrev Inv-loop : tie.InvT-loop
 Inv-loop a b from out₀ ha₀ hb₀ x₀ y₀ at₀ out ha hb x y at = Going a b from out₀ ha hb x y out at

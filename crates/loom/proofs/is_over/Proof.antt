@@ -1,8 +1,8 @@
--- `weave::is_over` meets its contract: both runs are through. Assumes nothing.
+-- `loom::is_over` meets its contract: both runs are through. Assumes nothing.
 use native.Mathlib.Omega.{arith}
-use Rattle.weave.proofs.Turns.{over-not, over-by}
-use Rattle.weave.proofs.is_over.Statement.{statement}
-use Rattle.weave.proofs.is_over.Tie as tie
+use Rattle.loom.proofs.Turns.{over-not, over-by}
+use Rattle.loom.proofs.is_over.Statement.{statement}
+use Rattle.loom.proofs.is_over.Tie as tie
 
 returns : tie.Need-returns
 returns c = over-not _ _ (c .if1 .taken)

@@ -1,13 +1,13 @@
 -- One note after the other of the two slices: a turn puts the next note of both, and all turns put all notes. Assumes nothing.
 use Prim.Native.Nat.{ℕ, suc, _+_, _*_, _≤_, _<_}
-use mathlib.Core.Bool.{Bool, true, false, _&&_}
+use mathlib.Core.Bool.{Bool, true, false}
 use mathlib.Core.List.{List, [], _∷_, _++_, map, append-assoc, append-nil}
 use mathlib.Core.Path.{_≡_, refl, sym, _∙_, ap}
 use native.Mathlib.Omega.{arith}
 use borrow.Author.Tests.{leb-true, leb-false, le-leb, lt-leb}
 use lib.Dec.{leb, eqb}
 use lib.ListN.{length, drop, length-append, length-drop}
-use Rattle.rules.proofs.Inverse.{and-inv}
+use lib.Seq.{length-sets}
 use Rattle.sorted.specs.Ways.{weave}
 use Rattle.sorted.proofs.Sorting.{by, split, clash}
 use Rattle.sorted.proofs.Streams.{rest-length}
@@ -15,11 +15,9 @@ use Rattle.notes.specs.Notes.{notAfter, joined}
 use Rattle.notes.specs.Places.{upToCR, textAt, starts}
 use Rattle.notes.proofs.Places.{places, starts-length}
 use Rattle.runs.specs.Runs.{coming}
-use Rattle.weave.specs.Weave.{Ready, Fine, Fresh, Taken, Fills, line, Emitted, choice, texts, Chosen, both, Turned, Over, all, Walked, wovenSaid, NotesWoven}
-use Rattle.weave.specs.declared.Place.{Place}
-use Rattle.weave.specs.declared.Woven.the-variants as woven
-use Rattle.weave.proofs.Reading.{fills-then}
-use Rattle.weave.proofs.Sizes.{all-size}
+use Rattle.loom.specs.Loom.{Ready, Fine, Fresh, Taken, Fills, line, Emitted, choice, texts, Chosen, both, Turned, Over, all, Walked, NotesPut}
+use Rattle.loom.specs.declared.Place.{Place}
+use Rattle.loom.proofs.Reading.{fills-then}
 
 -- ---- the walk by the choice
 
@@ -151,7 +149,7 @@ module _ (a b : List ℕ) (from : ℕ) (out₀ : List ℕ) where
     done = [];
     is = rw (xl, yl);
     reach = omega arith;
-    fills = record { size = refl; is = λ h. refl };
+    fills = record { size = refl; is = refl };
     bound = omega (arith, coming-length a (x .last), coming-length b (y .last));
   }
 
@@ -189,48 +187,35 @@ module _ (a b : List ℕ) (from : ℕ) (out₀ : List ℕ) where
 
 -- ---- the answer
 
-module _ (front : ℕ) (a b out : List ℕ) where
-  pub long-first : 16777216 < length a → NotesWoven front a b out woven.TooLong out
-  unfolding wovenSaid
-  long-first h = record { told = rw (lt-leb (length a) 16777216 h); bytes = rw (lt-leb (length a) 16777216 h) }
+module _ (a b : List ℕ) (from : ℕ) (out : List ℕ) where
+  pub put-first-long : 16777216 < length a → NotesPut a b from out 0 out
+  put-first-long h = let l = lt-leb (length a) 16777216 h in record { told = rw l; bytes = rw l }
 
   module _ (sa : length a ≤ 16777216) where
-    pub long-second : 16777216 < length b → NotesWoven front a b out woven.TooLong out
-    unfolding wovenSaid
-    long-second h = record { told = rw (le-leb (length a) 16777216 sa, lt-leb (length b) 16777216 h); bytes = rw (le-leb (length a) 16777216 sa, lt-leb (length b) 16777216 h) }
+    pub put-second-long : 16777216 < length b → NotesPut a b from out 0 out
+    put-second-long h = let k = le-leb (length a) 16777216 sa in let l = lt-leb (length b) 16777216 h in record { told = rw (k, l); bytes = rw (k, l) }
 
     module _ (sb : length b ≤ 16777216) where
-      pub long-both : 16777216 < front + length (all a b) → NotesWoven front a b out woven.TooLong out
-      unfolding wovenSaid
-      long-both h =
-          let l = lt-leb (front + length (all a b)) 16777216 h in
-          record { told = rw (le-leb (length a) 16777216 sa, le-leb (length b) 16777216 sb, l); bytes = rw (le-leb (length a) 16777216 sa, le-leb (length b) 16777216 sb, l) }
+      pub put-front-long : 16777216 < from → NotesPut a b from out 0 out
+      put-front-long h =
+          let k = le-leb (length a) 16777216 sa in
+          let l = le-leb (length b) 16777216 sb in
+          let m = lt-leb from 16777216 h in
+          record { told = rw (k, l, m); bytes = rw (k, l, m) }
 
-      module _ (n : ℕ) (e : n ≡ front + length (all a b)) (s : n ≤ 16777216) where
-        pub no-room : length out < n → NotesWoven front a b out woven.NoRoom out
-        unfolding wovenSaid
-        no-room h =
-            let w = le-leb (front + length (all a b)) 16777216 (omega arith) in
-            let l = lt-leb (front + length (all a b)) (length out) (omega arith) in
-            record { told = rw (le-leb (length a) 16777216 sa, le-leb (length b) 16777216 sb, w, l); bytes = rw (le-leb (length a) 16777216 sa, le-leb (length b) 16777216 sb, w, l) }
+      module _ (sf : from ≤ 16777216) (r : ℕ) (after : List ℕ) where
+        pub put-walked : Walked a b from out after r → NotesPut a b from out r after
+        put-walked w =
+            let k = le-leb (length a) 16777216 sa in
+            let l = le-leb (length b) 16777216 sb in
+            let m = le-leb from 16777216 sf in
+            record { told = rw (k, l, m) (w .is); bytes = rw (k, l, m) (w .fills .is) }
 
-        pub all-put : n ≤ length out → (m : ℕ) (out₁ : List ℕ) → Walked a b front out out₁ m → NotesWoven front a b out (woven.Put n) out₁
-        unfolding wovenSaid
-        all-put h m out₁ v =
-            let w = le-leb (front + length (all a b)) 16777216 (omega arith) in
-            let l = le-leb (front + length (all a b)) (length out) (omega arith) in
-            let p = v .fills .is (omega arith) in
-            record {
-              told = rw (le-leb (length a) 16777216 sa, le-leb (length b) 16777216 sb, w, l, e);
-              bytes = rw (le-leb (length a) 16777216 sa, le-leb (length b) 16777216 sb, w, l) p;
-            }
-
-      -- the output has room for all notes of both, whatever they are
-      pub all-fit : (most : ℕ) → most ≡ front + length a + length b + 4 → (r : Bool) → r ≡ (leb most 16777216 && leb most (length out)) → r ≡ true → (n : ℕ) (out₁ : List ℕ) → Walked a b front out out₁ n
-          → NotesWoven front a b out (woven.Put n) out₁
-      all-fit most m r e t n out₁ v =
-          let w = and-inv (leb most 16777216) (leb most (length out)) (sym e ∙ t) in
-          let l = leb-true most 16777216 (w .0) in
-          let o = leb-true most (length out) (w .1) in
-          let s = all-size a b in
-          all-put n (v .is) (omega (arith, v .is)) (omega (arith, v .is)) n out₁ v
+        -- and so it is, where nothing is too long
+        pub walked-put : NotesPut a b from out r after → Walked a b from out after r
+        walked-put p =
+            let k = le-leb (length a) 16777216 sa in
+            let l = le-leb (length b) 16777216 sb in
+            let m = le-leb from 16777216 sf in
+            let e = rw (k, l, m) at (p .bytes) in
+            record { is = rw (k, l, m) at (p .told); fills = record { size = ap length e ∙ length-sets out from (all a b); is = e } }

@@ -1,13 +1,13 @@
--- `weave::emit` meets its contract: what is left of the text, and CR LF. Assumes nothing.
+-- `loom::emit` meets its contract: what is left of the text, and CR LF. Assumes nothing.
 use Prim.Native.Nat.{_-_}
 use mathlib.Core.Path.{sym, _∙_}
 use native.Mathlib.Omega.{arith}
 use lib.ListN.{length}
 use Rattle.compare.proofs.Letters.{in-inside}
-use Rattle.weave.proofs.Reading.{Putting, putting-first, putting-next, putting-end}
+use Rattle.loom.proofs.Reading.{Putting, putting-first, putting-next, putting-end}
 use borrow.Author.Needs.{needs}
-use Rattle.weave.proofs.emit.Statement.{statement}
-use Rattle.weave.proofs.emit.Tie as tie
+use Rattle.loom.proofs.emit.Statement.{statement}
+use Rattle.loom.proofs.emit.Tie as tie
 
 abbrev Inv-loop : tie.InvT-loop
 Inv-loop s i out₀ at x₀ to₀ out x to = Putting s i out₀ at out x to

@@ -1,9 +1,9 @@
--- `weave::ready` meets its contract: the run goes on, or a new one is made. Assumes nothing.
+-- `loom::ready` meets its contract: the run goes on, or a new one is made. Assumes nothing.
 use mathlib.Core.Path.{refl}
-use Rattle.weave.proofs.Reading.{fresh-same, fresh-filled}
+use Rattle.loom.proofs.Reading.{fresh-same, fresh-filled}
 use borrow.Author.Needs.{needs}
-use Rattle.weave.proofs.ready.Statement.{statement}
-use Rattle.weave.proofs.ready.Tie as tie
+use Rattle.loom.proofs.ready.Statement.{statement}
+use Rattle.loom.proofs.ready.Tie as tie
 
 returns : tie.Need-returns
 returns c = fresh-same _ _ _ (c .before .before .before .before .pre .0) (c .if1 .taken)
