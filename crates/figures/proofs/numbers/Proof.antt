@@ -1,9 +1,9 @@
--- `numbers` meets its contract. Assumes nothing.
+-- `figures::numbers` meets its contract. Assumes nothing.
 use borrow.Author.Needs.{needs}
-use Rattle.calls_file.specs.Calls.{checkedNumbers}
-use Rattle.calls_file.proofs.Laws.{outcome-good, outcome-bad}
-use Rattle.calls_file.proofs.numbers.Statement.{statement}
-use Rattle.calls_file.proofs.numbers.Tie as tie
+use Rattle.figures.specs.Figures.{checkedNumbers}
+use Rattle.figures.proofs.Laws.{outcome-good, outcome-bad}
+use Rattle.figures.proofs.numbers.Statement.{statement}
+use Rattle.figures.proofs.numbers.Tie as tie
 
 pub numbers-spec : {M : Type 1} → statement M
 unfolding checkedNumbers

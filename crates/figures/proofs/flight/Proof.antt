@@ -1,7 +1,7 @@
--- `flight` meets its contract. Assumes nothing.
+-- `figures::flight` meets its contract. Assumes nothing.
 use borrow.Author.Needs.{needs}
-use Rattle.calls_file.proofs.flight.Statement.{statement}
-use Rattle.calls_file.proofs.flight.Tie as tie
+use Rattle.figures.proofs.flight.Statement.{statement}
+use Rattle.figures.proofs.flight.Tie as tie
 
 returns : tie.Need-returns
 returns c =
