@@ -1,8 +1,8 @@
--- `igc::first_option` meets its contract: the words left grow fewer. Assumes nothing.
+-- `console::words::first_option` meets its contract: the words left grow fewer. Assumes nothing.
 use Prim.Native.Nat.{_-_}
 use borrow.Author.Needs.{needs}
-use Rattle.igc.proofs.first_option.Statement.{statement}
-use Rattle.igc.proofs.first_option.Tie as tie
+use Rattle.console.proofs.words.first_option.Statement.{statement}
+use Rattle.console.proofs.words.first_option.Tie as tie
 
 abbrev Inv-loop : tie.InvT-loop
 Inv-loop from n i₀ i = Unit {0}
