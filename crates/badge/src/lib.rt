@@ -5,8 +5,6 @@ use console::print_fit;
 use console::print_refused;
 use libc::STDERR_FILENO;
 use libc::STDOUT_FILENO;
-use named::begins_names_at;
-use named::first_option;
 use named::read_named;
 use rules::Outcome;
 use rules::Seal;
@@ -81,31 +79,19 @@ fn on_each(n: usize, dashes: usize, input: &mut [u8]) -> u32 {
     status
 }
 
-// Words that are not those of the help text: nothing is done.
-fn refuse_words() -> u32 {
-    print_usage(STDERR_FILENO);
-    2
-}
-
-// Whether the word at a place asks for the help text.
-fn asks_help_at(i: usize) -> bool {
-    let mut word = io::buffer();
-    let k = os::arg(i, &mut word);
-    match verbs::verb_of(&word[..k]) {
-        Verb::Help => true,
-        _ => false,
-    }
-}
-
-// A word that begins with a dash, at a place: `--help` alone is told, and all else refused.
-fn on_option(i: usize, n: usize) -> u32 {
+// Words that name no file: `--help` alone is told, and all else refused; then nothing is done.
+fn on_no_names(n: usize) -> u32 {
     if n != 2 {
-        return refuse_words();
+        print_usage(STDERR_FILENO);
+        return 2;
     }
-    if !asks_help_at(i) {
-        return refuse_words();
+    match console::verb_at(1) {
+        Verb::Help => verbs::status_of(fate_of(print_usage(STDOUT_FILENO), Fate::Accepted)),
+        _ => {
+            print_usage(STDERR_FILENO);
+            2
+        }
     }
-    verbs::status_of(fate_of(print_usage(STDOUT_FILENO), Fate::Accepted))
 }
 
 // Runs the program on the arguments that it was started with, the names of files. `input` takes one file: it has one byte more than the most that a file may have. The
@@ -113,16 +99,9 @@ fn on_option(i: usize, n: usize) -> u32 {
 #[no_mangle]
 pub extern "C" fn badge_run(input: &mut [u8]) -> u32 {
     let n = os::arg_count();
-    let dashes = first_option(1, n);
-    let mut names = 1;
-    if dashes < n {
-        if !begins_names_at(dashes) {
-            return on_option(dashes, n);
-        }
-        names += 1;
+    let names = console::names_from(1, n);
+    if names.count == 0 {
+        return on_no_names(n);
     }
-    if n <= names {
-        return refuse_words();
-    }
-    on_each(n, dashes, input)
+    on_each(n, names.dashes, input)
 }

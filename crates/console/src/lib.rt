@@ -1,9 +1,18 @@
-// What igc and badge write: their answers on standard output, and what is no answer on standard error.
+// What igc and badge write, their answers on standard output and what is no answer on standard error; the words that they were started with, and a new file made.
+mod making;
+mod words;
+
 use libc::STDERR_FILENO;
 use libc::STDOUT_FILENO;
+pub use making::make;
 use rules::Flight;
 use rules::Refusal;
 use verbs::Fate;
+pub use words::Names;
+pub use words::names_from;
+pub use words::refuse_words;
+pub use words::tell;
+pub use words::verb_at;
 
 const USAGE: [u8; 475] = *b"\
     usage: igc [list] FILE...\n       igc check FILE...\n       igc merge FIRST SECOND NEW\n       igc help | version\n\
@@ -15,11 +24,11 @@ const USAGE: [u8; 475] = *b"\
 ";
 
 // Whether all of it was written, as everywhere here.
-pub fn write(text: &[u8]) -> bool {
+pub(crate) fn write(text: &[u8]) -> bool {
     io::write_all(STDOUT_FILENO, text)
 }
 
-pub fn print_usage(fd: i32) -> bool {
+pub(crate) fn print_usage(fd: i32) -> bool {
     let text = USAGE;
     io::write_all(fd, &text)
 }
@@ -96,15 +105,15 @@ pub fn say_unopened(name: &[u8]) {
     say_failed(name, b"cannot be opened");
 }
 
-pub fn say_unmade(name: &[u8]) {
+pub(crate) fn say_unmade(name: &[u8]) {
     say_failed(name, b"cannot be made");
 }
 
-pub fn say_unfilled(name: &[u8]) {
+pub(crate) fn say_unfilled(name: &[u8]) {
     say_failed(name, b"cannot be written whole");
 }
 
-pub fn say_left(name: &[u8]) {
+pub(crate) fn say_left(name: &[u8]) {
     say_failed(name, b"what was written of it cannot be removed");
 }
 

@@ -3,47 +3,9 @@ use console::fate_of;
 use console::print_noted;
 use console::print_refused;
 use console::print_unmerged;
-use console::say_left;
-use console::say_unfilled;
-use console::say_unmade;
 use merge::Brought;
 use named::read_named;
 use verbs::Fate;
-
-// Whether all of the bytes were written, and have reached the file's device.
-fn is_kept(fd: i32, made: &[u8]) -> bool {
-    if !io::write_all(fd, made) {
-        return false;
-    }
-    libc::fsync(fd) == 0
-}
-
-// The bytes put into a file that is open. What failed is said before the file is closed, while the system still tells it.
-fn fill(name: &[u8], fd: i32, made: &[u8]) -> bool {
-    let kept = is_kept(fd, made);
-    if !kept {
-        say_unfilled(name);
-    }
-    libc::close(fd);
-    kept
-}
-
-// A new file of these bytes; where there is one by that name, it stays as it is. One that cannot be written whole is removed again: cut off behind a note, it would pass for a
-// file that has no more.
-fn make(name: &[u8], made: &[u8]) -> bool {
-    let fd = os::create(name);
-    if fd < 0 {
-        say_unmade(name);
-        return false;
-    }
-    if fill(name, fd, made) {
-        return true;
-    }
-    if os::unlink(name) < 0 {
-        say_left(name);
-    }
-    false
-}
 
 // How many notes each copy has, and the new file.
 fn print_notes(
@@ -64,7 +26,7 @@ fn print_notes(
 }
 
 fn keep(first: &[u8], second: &[u8], new: &[u8], one: &[u8], two: &[u8], made: &[u8]) -> Fate {
-    if !make(new, made) {
+    if !console::make(new, made) {
         return Fate::Unwritten;
     }
     fate_of(

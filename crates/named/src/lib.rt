@@ -1,32 +1,7 @@
-// The files that the words of a program name: where a word begins with a dash, and a file read whole.
+// A file by its name, read whole.
 ghost use Rattle.io.specs.Counts.{Counts};
 use console::say_unopened;
 use console::say_unread;
-
-fn is_option_at(i: usize) -> bool {
-    let mut word = io::buffer();
-    let k = os::arg(i, &mut word);
-    verbs::is_option(&word[..k])
-}
-
-// Whether a word is the one behind which every word is a name.
-pub fn begins_names_at(i: usize) -> bool {
-    let mut word = io::buffer();
-    let k = os::arg(i, &mut word);
-    verbs::begins_names(&word[..k])
-}
-
-// Where the first word that begins with a dash stands, of those from a place on; n where none does.
-pub fn first_option(from: usize, n: usize) -> usize {
-    let mut i = from;
-    while i < n {
-        if is_option_at(i) {
-            return i;
-        }
-        i += 1;
-    }
-    n
-}
 
 // How many bytes of the input are the file's, and whether they are all that it has.
 pub struct Got {
