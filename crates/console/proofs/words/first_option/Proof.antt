@@ -1,16 +1,8 @@
-<<<<<<<< HEAD:crates/named/proofs/first_option/Proof.antt
--- `named::first_option` meets its contract: the words left grow fewer. Assumes nothing.
-use Prim.Native.Nat.{_-_}
-use borrow.Author.Needs.{needs}
-use Rattle.named.proofs.first_option.Statement.{statement}
-use Rattle.named.proofs.first_option.Tie as tie
-========
 -- `console::words::first_option` meets its contract: the words left grow fewer. Assumes nothing.
 use Prim.Native.Nat.{_-_}
 use borrow.Author.Needs.{needs}
 use Rattle.console.proofs.words.first_option.Statement.{statement}
 use Rattle.console.proofs.words.first_option.Tie as tie
->>>>>>>> quick:crates/console/proofs/words/first_option/Proof.antt
 
 abbrev Inv-loop : tie.InvT-loop
 Inv-loop from n i₀ i = Unit {0}
