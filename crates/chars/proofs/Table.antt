@@ -1,6 +1,6 @@
 -- The table of the characters agrees with the rule: one test, computed over the whole table, and what it says of each byte. Assumes nothing.
 use Prim.Native.Nat.{ℕ, zero, suc, _+_, _<_}
-use mathlib.Core.Bool.{Bool, true, false, not, _&&_, _||_, cond}
+use mathlib.Core.Bool.{Bool, true, false, not, _&&_, _||_, cond, and-true}
 use mathlib.Core.List.{List, [], _∷_}
 use mathlib.Core.Path.{_≡_, refl, sym, _∙_}
 use native.Mathlib.Omega.{arith}
@@ -36,14 +36,10 @@ agrees table n t =
 
 -- ---- what a number says of its byte
 
-and-right : (t : Bool) → (t && true) ≡ t
-and-right true = refl
-and-right false = refl
-
 -- outside H lines a byte is valid where it is valid in them and no comma
 but-comma : (inH : Bool) (b : ℕ) → isValid inH b ≡ (isValid true b && (inH || not (eqb b 0x2C)))
 unfolding isValid
-but-comma inH b = rw and-right
+but-comma inH b = rw and-true
 
 -- the number of a byte that is valid in H lines (a), and no comma (n)
 abbrev said : Bool → Bool → ℕ
