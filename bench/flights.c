@@ -7,15 +7,16 @@
 static const char usual[] = "I033638FXA3940SIU4143ENL";
 
 const struct flight flights[FLIGHTS] = {
-    {"B lines, FXA SIU ENL", usual, NULL, DIGITS, 0, 0},
-    {"B lines, no columns", NULL, NULL, DIGITS, 0, 0},
-    {"B lines, DAN LOD DAE, digits only", "I033638DAN3940LOD4143DAE", NULL, DIGITS, 0, 0},
-    {"B and K lines in turn", usual, "J020812HDT1315TDS", DIGITS, 0, 0},
-    {"B lines, FXA SIU DAN, half below zero", "I033638FXA3940SIU4146DAN", NULL, SIGNED, 0, 0},
-    {"B lines, unlisted: A to Z, digits", "I033638ZZA3940ZZB4143ZZC", NULL, LETTERS, 0, 0},
-    {"B lines, unlisted: a to z, spaces", "I033638ZZA3940ZZB4143ZZC", NULL, TEXT, 0, 0},
-    {"B lines, E, F and L lines between", usual, NULL, DIGITS, 1, 0},
-    {"B lines, last one's latitude bad", usual, NULL, DIGITS, 0, 1},
+    {"B lines, FXA SIU ENL", usual, NULL, DIGITS, 0, 0, 0},
+    {"B lines, no columns", NULL, NULL, DIGITS, 0, 0, 0},
+    {"B lines, DAN LOD DAE, digits only", "I033638DAN3940LOD4143DAE", NULL, DIGITS, 0, 0, 0},
+    {"B and K lines in turn", usual, "J020812HDT1315TDS", DIGITS, 0, 0, 0},
+    {"B lines, FXA SIU DAN, half below zero", "I033638FXA3940SIU4146DAN", NULL, SIGNED, 0, 0, 0},
+    {"B lines, unlisted: A to Z, digits", "I033638ZZA3940ZZB4143ZZC", NULL, LETTERS, 0, 0, 0},
+    {"B lines, unlisted: a to z, spaces", "I033638ZZA3940ZZB4143ZZC", NULL, TEXT, 0, 0, 0},
+    {"B lines, E, F and L lines between", usual, NULL, DIGITS, 1, 0, 0},
+    {"B lines, last one's latitude bad", usual, NULL, DIGITS, 0, 1, 0},
+    {"B lines, four L lines behind each", usual, NULL, DIGITS, 0, 0, 4},
 };
 
 enum { MOST_TURN = 512 };
@@ -65,6 +66,11 @@ static char *put_fix(char *line, unsigned second, const struct flight *flight, u
     return line + sprintf(line, "\r\n");
 }
 
+static char *put_remark(char *line, unsigned long number)
+{
+    return line + sprintf(line, "LXYZ remark number %lu of the recorder\r\n", number);
+}
+
 /* The lines of one second: the fix, and what stands behind it. */
 static size_t put_turn(char *turn, unsigned long number, unsigned second, const struct flight *flight, uint32_t *random)
 {
@@ -81,8 +87,10 @@ static size_t put_turn(char *turn, unsigned long number, unsigned second, const 
     if (flight->has_events && number % 30 == 29) {
         line = put_time(line, 'E', second);
         line += sprintf(line, "PEV pilot\r\n");
-        line += sprintf(line, "LXYZ remark number %lu of the recorder\r\n", number);
+        line = put_remark(line, number);
     }
+    for (int n = 0; n < flight->remarks; n++)
+        line = put_remark(line, number);
     return line - turn;
 }
 
