@@ -39,13 +39,19 @@ static size_t width_of(const char *layout, size_t start)
     return (last[0] - '0') * 10u + (last[1] - '0') - start + 1;
 }
 
+/* So many characters, each one of those given. */
+static char *put_text(char *line, size_t width, const char *from, uint32_t *random)
+{
+    for (size_t n = 0; n < width; n++)
+        line[n] = from[next(random) % strlen(from)];
+    return line + width;
+}
+
 /* The columns of one line, side by side. */
 static char *put_columns(char *line, size_t width, const struct flight *flight, uint32_t *random)
 {
     static const char *const characters[] = {"0123456789", "0123456789ABCDEFGHIJKLMNOPQRSTUVWXYZ", "abcdefghijklmnopqrstuvwxyz    ", "0123456789"};
-    const char *from = characters[flight->columns];
-    for (size_t n = 0; n < width; n++)
-        line[n] = from[next(random) % strlen(from)];
+    put_text(line, width, characters[flight->columns], random);
     if (flight->columns == SIGNED && next(random) & 1)
         line[width - 6] = '-';
     return line + width;
@@ -66,9 +72,12 @@ static char *put_fix(char *line, unsigned second, const struct flight *flight, u
     return line + sprintf(line, "\r\n");
 }
 
-static char *put_remark(char *line, unsigned long number)
+/* An L line of random words. */
+static char *put_remark(char *line, uint32_t *random)
 {
-    return line + sprintf(line, "LXYZ remark number %lu of the recorder\r\n", number);
+    line += sprintf(line, "LXYZ");
+    line = put_text(line, 40, "ABCDEabcdefghijklmnopqrstuvwxyz.123      ", random);
+    return line + sprintf(line, "\r\n");
 }
 
 /* The lines of one second: the fix, and what stands behind it. */
@@ -87,10 +96,10 @@ static size_t put_turn(char *turn, unsigned long number, unsigned second, const 
     if (flight->has_events && number % 30 == 29) {
         line = put_time(line, 'E', second);
         line += sprintf(line, "PEV pilot\r\n");
-        line = put_remark(line, number);
+        line += sprintf(line, "LXYZ remark number %lu of the recorder\r\n", number);
     }
     for (int n = 0; n < flight->remarks; n++)
-        line = put_remark(line, number);
+        line = put_remark(line, random);
     return line - turn;
 }
 
