@@ -141,6 +141,7 @@ fn summary(met: &Met, options: &Options) {
     println!("outside: refusals by number: {}", met.reached.by_number());
     println!("outside: fields that a refusal names, by number, kind of line and byte: {}", met.reached.by_field());
     println!("outside: branches of the rules on layouts: {}", met.reached.by_branch());
+    println!("outside: byte values reached as characters: {}", met.reached.by_character());
     println!("outside: {} pairs of copies brought together, {} refused: {}", met.pairs.merged, met.pairs.refused, met.pairs.told());
     for (operation, count) in &met.tally.answers {
         let numbers: Vec<String> =

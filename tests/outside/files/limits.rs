@@ -13,7 +13,7 @@ use crate::reading::{Entry, Family, LISTED, Layout, Layouts, Role};
 pub enum Limit {
     /// A text put at a byte of a line.
     Text(Role, usize, Vec<u8>),
-    /// A character put at a line's end.
+    /// A character put at a line's end, or in place of its last where there is no room for one more.
     Character(Role, u8),
     /// A line cut or filled to a length.
     Length(Role, usize),
@@ -70,17 +70,24 @@ pub fn all() -> Vec<Limit> {
     ROLES.into_iter().enumerate().flat_map(of_role).chain(FAMILIES.into_iter().flat_map(of_family)).chain(neighbours).collect()
 }
 
-/// The characters around those that are not valid, and some that are far off.
+/// The characters around those that are not valid, and some that are far off. H lines, in which the comma is valid, and L lines have every byte value.
 const CHARACTERS: &[u8] = b"\0\t\x1F !\"#$%)*+,-[\\]^_`|}~\x7F\x80\xA0\xFF";
 
-/// The limits of a role; the nth role of the list has every fifth character, H and L lines all of them.
+/// The characters that the nth role has at its limits: every fifth, or all.
+fn characters(n: usize, role: Role) -> Vec<u8> {
+    match role {
+        Role::Header | Role::Remark => (0..=255).collect(),
+        _ => CHARACTERS.iter().skip(n % 5).step_by(5).copied().collect(),
+    }
+}
+
+/// The limits of the nth role of the list.
 fn of_role((n, role): (usize, Role)) -> Vec<Limit> {
     let mut limits = texts(role);
     let (least, most) = lengths(role);
     let near = [least - 1, least, most, most + 1];
     limits.extend(near.into_iter().filter(|&n| n > 0).map(|n| Limit::Length(role, n)));
-    let (from, by) = if matches!(role, Role::Header | Role::Remark) { (0, 1) } else { (n % 5, 5) };
-    limits.extend(CHARACTERS.iter().skip(from).step_by(by).map(|&c| Limit::Character(role, c)));
+    limits.extend(characters(n, role).into_iter().map(|c| Limit::Character(role, c)));
     if role.is_timed() {
         for before in ROLES.into_iter().filter(|before| before.is_timed()) {
             limits.extend([0, 1, HALF_DAY - 1, HALF_DAY, HALF_DAY + 1, DAY - 1].map(|fall| Limit::Fall(before, role, fall)));
@@ -197,7 +204,7 @@ pub fn file(random: &mut Random, limit: &Limit) -> Vec<u8> {
     let line = &mut sample.lines[at].text;
     match limit {
         Limit::Text(_, first, text) => line[first - 1..first - 1 + text.len()].copy_from_slice(text),
-        Limit::Character(Role::Fix | Role::Extra | Role::Unsigned, c) => *line.last_mut().unwrap() = *c,
+        Limit::Character(role, c) if line.len() == lengths(*role).1 => *line.last_mut().unwrap() = *c,
         Limit::Character(_, c) => line.push(*c),
         Limit::Length(_, length) => set_length(random, role, line, *length),
         Limit::Columns(..) | Limit::After(..) => {}

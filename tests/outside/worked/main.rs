@@ -10,6 +10,7 @@ mod made;
 mod marked;
 mod merged;
 mod places;
+mod printed;
 mod programs;
 mod readers;
 mod unsigned;
