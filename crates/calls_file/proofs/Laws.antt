@@ -1,4 +1,4 @@
--- An outcome with its values beside it, in numbers; and the check of a file, told the caller. Assumes nothing.
+-- The check of a file, told the caller in numbers. Assumes nothing.
 use Prim.Native.Nat.{ℕ}
 use native.Mathlib.Omega.{arith}
 use mathlib.Core.List.{List}
@@ -9,25 +9,18 @@ use borrow.Author.Tests.{eq-eqb, ne-eqb}
 use Rattle.rules.specs.Files.{verdict}
 use Rattle.rules.specs.Order.{noFlight}
 use Rattle.rules.specs.Promises.{FileChecked}
-use Rattle.rules.specs.Refusals.{Said, says, refuses, number, outcome, outcomeTold, valueOr}
+use Rattle.rules.specs.Refusals.{Said, says, refuses, outcome, outcomeTold, valueOr}
 use Rattle.rules.specs.declared.Checked.{Checked}
 use Rattle.rules.specs.declared.Outcome.{Outcome}
 use Rattle.rules.specs.declared.Outcome.the-variants as outcomes
-use Rattle.rules.specs.declared.Refusal.{Refusal}
 use Rattle.rules.specs.declared.Seal.the-variants as seal
-use Rattle.answers.specs.Answers.{size, AnswerGiven, accepting, refusing, inNumbers, outcomeNumbers}
+use Rattle.answers.specs.Answers.{size, AnswerGiven, inNumbers, outcomeNumbers}
 use Rattle.answers.specs.declared.Numbers.{Numbers}
 use Rattle.answers.proofs.Laws.{no-room, same-numbers}
-use Rattle.calls_file.specs.Calls.{flightNumbers, checkedNumbers, CheckAnswered}
+use Rattle.figures.specs.Figures.{flightNumbers, checkedNumbers}
+use Rattle.calls_file.specs.Calls.{CheckAnswered}
 
--- ---- an outcome, with its values beside it
-
-module _ (values : List ℕ) (o : Outcome) (x : Numbers) where
-  pub outcome-good : o ≡ outcomes.Accepted → x ≡ accepting values → x ≡ outcomeNumbers values o
-  outcome-good e h = rw e h
-
-  pub outcome-bad : (w : Refusal) → o ≡ outcomes.Refused w → x ≡ refusing (number (w .reason)) (w .line) (w .byte) → x ≡ outcomeNumbers values o
-  outcome-bad w e h = rw e h
+-- ---- what the check says
 
 pub numbers-said : {A : Type 0} (values : A → List ℕ) (d v : A) (o : Outcome) (s : Said A) → outcomeTold o ≡ outcome s → v ≡ valueOr d s → outcomeNumbers (values v) o ≡ inNumbers values s
 unfolding outcomeTold

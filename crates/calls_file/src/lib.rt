@@ -1,59 +1,7 @@
 // The call from C on a whole file: its check, with the table of its lines' offsets.
-ghost use mathlib.Core.Path.{_≡_};
-ghost use Rattle.answers.specs.Answers.{accepting};
-ghost use Rattle.calls_file.specs.Calls.{flightNumbers, checkedNumbers, CheckAnswered};
-use answers::Numbers;
+ghost use Rattle.calls_file.specs.Calls.{CheckAnswered};
 use answers::SIZE;
-use answers::accepted;
-use answers::refused;
-use rules::Checked;
-use rules::Extra;
-use rules::Family;
-use rules::Flight;
-use rules::Outcome;
 use rules::Seal;
-
-// What an accepted file says.
-fn flight(f: Flight) -> Numbers
-    ensures { λ r. ⌜ r ≡ accepting (flightNumbers f) ⌝ }
-{
-    let date = f.date;
-    let layouts = f.layouts;
-    let counts = f.counts;
-    let b = layout::line_length(Family::B, layouts.b) as u64;
-    let k = layout::line_length(Family::Extra(Extra::K), layouts.k) as u64;
-    let n = layout::line_length(Family::Extra(Extra::N), layouts.n) as u64;
-    let day = date.day as u64;
-    let month = date.month as u64;
-    let year = date.year as u64;
-    let lines = f.lines as u64;
-    accepted(
-        &[
-            day,
-            month,
-            year,
-            lines,
-            counts.b as u64,
-            counts.k as u64,
-            b,
-            k,
-            counts.n as u64,
-            n,
-        ],
-    )
-}
-
-// What is said of a file.
-fn numbers(c: Checked) -> Numbers
-    ensures { λ r. ⌜ r ≡ checkedNumbers c ⌝ }
-{
-    let outcome = c.outcome;
-    let f = c.flight;
-    match outcome {
-        Outcome::Accepted => flight(f),
-        Outcome::Refused(why) => refused(why),
-    }
-}
 
 // The check of a whole file, with the table of its lines' offsets.
 pub fn check(file: &[u8], table: &mut [u32], answer: &mut [u64]) -> u32
@@ -63,5 +11,5 @@ pub fn check(file: &[u8], table: &mut [u32], answer: &mut [u64]) -> u32
         return 17;
     }
     let checked = file::check(Seal::Strict, file, table);
-    answers::give(answer, numbers(checked))
+    answers::give(answer, figures::numbers(checked))
 }

@@ -2,65 +2,13 @@
 // It is one exported function: C's `main` lends the memory and returns the status (c/igc.c).
 mod files;
 mod merging;
-mod output;
 
 ghost use Prim.Native.Nat.{_≤_};
 use files::check_named;
 use files::list_named;
-use libc::STDERR_FILENO;
-use libc::STDOUT_FILENO;
 use merging::merge_named;
-use output::fate_of;
-use output::print_usage;
 use verbs::Fate;
 use verbs::Verb;
-
-fn verb_at(i: usize) -> Verb {
-    let mut word = io::buffer();
-    let k = os::arg(i, &mut word);
-    verbs::verb_of(&word[..k])
-}
-
-fn is_option_at(i: usize) -> bool {
-    let mut word = io::buffer();
-    let k = os::arg(i, &mut word);
-    verbs::is_option(&word[..k])
-}
-
-fn begins_names_at(i: usize) -> bool {
-    let mut word = io::buffer();
-    let k = os::arg(i, &mut word);
-    verbs::begins_names(&word[..k])
-}
-
-// Words that are not those of the help text: nothing is done.
-fn refuse_words() -> u32 {
-    print_usage(STDERR_FILENO);
-    2
-}
-
-// The help text or the version, where no further word stands behind the verb.
-fn tell(version: bool, n: usize) -> u32 {
-    if 2 < n {
-        return refuse_words();
-    }
-    if version {
-        return verbs::status_of(fate_of(output::write(b"igc 1, of Hivebasket\n"), Fate::Accepted));
-    }
-    verbs::status_of(fate_of(print_usage(STDOUT_FILENO), Fate::Accepted))
-}
-
-// Where the first word that begins with a dash stands, of those from a place on; n where none does.
-fn first_option(from: usize, n: usize) -> usize {
-    let mut i = from;
-    while i < n {
-        if is_option_at(i) {
-            return i;
-        }
-        i += 1;
-    }
-    n
-}
 
 // A verb on the file that a word names.
 fn on_file(verb: Verb, i: usize, several: bool, input: &mut [u8], table: &mut [u32]) -> Fate {
@@ -119,21 +67,12 @@ fn on_each(
 }
 
 // A verb on the files that the words from a place on name. A word that begins with a dash names none, but for those behind `--`.
-fn on_files(verb: Verb, first: usize, n: usize, input: &mut [u8], table: &mut [u32]) -> u32
-    requires { ⌜ first ≤ 2 ⌝ }
-{
-    let dashes = first_option(first, n);
-    let mut names = first;
-    if dashes < n {
-        if !begins_names_at(dashes) {
-            return refuse_words();
-        }
-        names += 1;
+fn on_files(verb: Verb, first: usize, n: usize, input: &mut [u8], table: &mut [u32]) -> u32 {
+    let names = console::names_from(first, n);
+    if names.count == 0 {
+        return console::refuse_words();
     }
-    if n <= names {
-        return refuse_words();
-    }
-    on_each(verb, first, n, dashes, 1 < n - names, input, table)
+    on_each(verb, first, n, names.dashes, 1 < names.count, input, table)
 }
 
 // The place of a word that names a file, of those from the verb on: one further where `--` stands before it.
@@ -166,20 +105,13 @@ fn merge_at(
 
 // The verb merge, where there are just three names behind it.
 fn on_three(n: usize, input: &mut [u8], other: &mut [u8], out: &mut [u8]) -> u32 {
-    let dashes = first_option(2, n);
-    let mut words = 5;
-    if dashes < n {
-        if !begins_names_at(dashes) {
-            return refuse_words();
-        }
-        words += 1;
+    let names = console::names_from(2, n);
+    if names.count != 3 {
+        return console::refuse_words();
     }
-    if n != words {
-        return refuse_words();
-    }
-    let i = place_of(2, dashes);
-    let j = place_of(3, dashes);
-    let k = place_of(4, dashes);
+    let i = place_of(2, names.dashes);
+    let j = place_of(3, names.dashes);
+    let k = place_of(4, names.dashes);
     verbs::status_of(merge_at(i, j, k, input, other, out))
 }
 
@@ -195,15 +127,14 @@ pub extern "C" fn igc_run(
 ) -> u32 {
     let n = os::arg_count();
     if n < 2 {
-        return refuse_words();
+        return console::refuse_words();
     }
-    let verb = verb_at(1);
+    let verb = console::verb_at(1);
     match verb {
-        Verb::List => on_files(verb, 2, n, input, table),
-        Verb::Check => on_files(verb, 2, n, input, table),
         Verb::Merge => on_three(n, input, other, out),
-        Verb::Help => tell(false, n),
-        Verb::Version => tell(true, n),
+        Verb::Help => console::tell(false, n),
+        Verb::Version => console::tell(true, n),
         Verb::NoVerb => on_files(Verb::List, 1, n, input, table),
+        _ => on_files(verb, 2, n, input, table),
     }
 }

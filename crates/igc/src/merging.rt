@@ -1,49 +1,11 @@
 // Two copies of a file by their names: merged into a new file, which takes no other file's place.
 use crate::files::read_named;
-use crate::output::fate_of;
-use crate::output::print_noted;
-use crate::output::print_refused;
-use crate::output::print_unmerged;
-use crate::output::say_left;
-use crate::output::say_unfilled;
-use crate::output::say_unmade;
+use console::fate_of;
+use console::print_noted;
+use console::print_refused;
+use console::print_unmerged;
 use merge::Brought;
 use verbs::Fate;
-
-// Whether all of the bytes were written, and have reached the file's device.
-fn is_kept(fd: i32, made: &[u8]) -> bool {
-    if !io::write_all(fd, made) {
-        return false;
-    }
-    libc::fsync(fd) == 0
-}
-
-// The bytes put into a file that is open. What failed is said before the file is closed, while the system still tells it.
-fn fill(name: &[u8], fd: i32, made: &[u8]) -> bool {
-    let kept = is_kept(fd, made);
-    if !kept {
-        say_unfilled(name);
-    }
-    libc::close(fd);
-    kept
-}
-
-// A new file of these bytes; where there is one by that name, it stays as it is. One that cannot be written whole is removed again: cut off behind a note, it would pass for a
-// file that has no more.
-fn make(name: &[u8], made: &[u8]) -> bool {
-    let fd = os::create(name);
-    if fd < 0 {
-        say_unmade(name);
-        return false;
-    }
-    if fill(name, fd, made) {
-        return true;
-    }
-    if os::unlink(name) < 0 {
-        say_left(name);
-    }
-    false
-}
 
 // How many notes each copy has, and the new file.
 fn print_notes(
@@ -64,7 +26,7 @@ fn print_notes(
 }
 
 fn keep(first: &[u8], second: &[u8], new: &[u8], one: &[u8], two: &[u8], made: &[u8]) -> Fate {
-    if !make(new, made) {
+    if !console::make(new, made) {
         return Fate::Unwritten;
     }
     fate_of(

@@ -12,7 +12,7 @@ use Rattle.sorted.specs.Ways.{insert, into, after, rest, meet, weave}
 use Rattle.sorted.proofs.Sorting.{by, split}
 use Rattle.notes.specs.Notes.{notAfter, joined}
 use Rattle.notes.specs.Places.{upToCR, textAt, earlier, starts, inside, skip}
-use Rattle.weave.specs.Weave.{texts, all}
+use Rattle.loom.specs.Loom.{texts, all}
 
 -- ---- two lists of texts woven
 

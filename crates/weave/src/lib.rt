@@ -1,173 +1,9 @@
-// The notes of two slices woven into one: each slice is read in runs of up to 4,096 notes in order, and of the two that come next the one that comes first is put into the
-// output, once where both have it.
+// The notes of two slices woven into one and put into an output, where they have room there.
 ghost use mathlib.Core.Bool.{_&&_};
-ghost use mathlib.Core.List.{_∷_, []};
 ghost use mathlib.Core.Path.{_≡_};
 ghost use lib.Dec.{leb};
-ghost use Prim.Native.Nat.{_≤_, _<_};
-ghost use lib.ListN.{length};
-ghost use Rattle.weave.specs.Weave.{Ready, Fine, Fresh, Taken, Fills, Emitted, Chosen, Turned, Over, Walked, NotesWoven};
-
-// Where a slice is read on: the i-th of n notes of its run, and the last one taken.
-pub struct Place {
-    pub n: usize,
-    pub i: usize,
-    pub last: usize,
-}
-
-// A run that has a note, or no note is left.
-fn ready(s: &[u8], heads: &mut [usize], p: Place) -> Place
-    requires { ⌜ Ready (now s) (now heads) p × (0 < length (now heads)) ⌝ }
-    ensures { λ r. ⌜ Fresh (now (s .entry)) (now (heads .entry)) p (now (heads .exit)) r ⌝ }
-{
-    if p.i < p.n {
-        return p;
-    }
-    let last = p.last;
-    let n = runs::refill(s, last, heads);
-    Place { n, i: 0, last }
-}
-
-// The next note taken.
-fn advance(s: &[u8], heads: &[usize], p: Place) -> Place
-    requires { ⌜ Ready (now s) (now heads) p × (p .i < p .n) ⌝ }
-    ensures { λ r. ⌜ Taken (now (s .entry)) (now (heads .entry)) p r ⌝ }
-{
-    let i = p.i;
-    Place {
-        n: p.n,
-        i: i + 1,
-        last: heads[i],
-    }
-}
-
-// One byte put into the output, where it has room.
-fn byte(out: &mut [u8], at: usize, b: u8)
-    ensures { λ _. ⌜ Fills (now (out .entry)) at (b ∷ []) (now (out .exit)) ⌝ }
-{
-    if out.len() <= at {
-        return;
-    }
-    out[at] = b;
-}
-
-// A note with CR LF put into the output, where it has room. No place is past 562950037307392: that is 16,777,216 bytes, and 33,554,432 notes of up to 16,777,218 bytes each.
-fn emit(s: &[u8], i: usize, out: &mut [u8], at: usize) -> usize
-    requires { ⌜ (length (now s) ≤ 16777216) × (at ≤ 562950037307392) ⌝ }
-    ensures { λ r. ⌜ Emitted (now (s .entry)) i (now (out .entry)) at (now (out .exit)) r ⌝ }
-{
-    let mut x = i;
-    let mut to = at;
-    while compare::in_text(s, x) {
-        byte(out, to, s[x]);
-        x += 1;
-        to += 1;
-    }
-    byte(out, to, 13);
-    byte(out, to + 1, 10);
-    to + 2
-}
-
-// Whose note comes next: 0 the first slice's, 2 the second's, 1 that of both.
-fn which(a: &[u8], b: &[u8], ha: &[usize], hb: &[usize], x: Place, y: Place) -> u32
-    requires { ⌜ Fine (now a) (now ha) x × Fine (now b) (now hb) y × (x .n ≤ x .i → y .i < y .n) ⌝ }
-    ensures { λ r. ⌜ Chosen (now (a .entry)) (now (b .entry)) x y r ⌝ }
-{
-    let i = x.i;
-    let j = y.i;
-    if x.n <= i {
-        return 2;
-    }
-    if y.n <= j {
-        return 0;
-    }
-    let g = ha[i];
-    let h = hb[j];
-    if compare::at_most(a, g, b, h) {
-        if compare::at_most(b, h, a, g) {
-            return 1;
-        }
-        return 0;
-    }
-    2
-}
-
-// Where both slices are read on, and where the output is written on.
-pub struct Turn {
-    pub x: Place,
-    pub y: Place,
-    pub at: usize,
-}
-
-// The next note of the two put into the output.
-fn take_turn(
-    a: &[u8],
-    b: &[u8],
-    ha: &[usize],
-    hb: &[usize],
-    x: Place,
-    y: Place,
-    out: &mut [u8],
-    at: usize,
-) -> Turn
-    requires { ⌜ Fine (now a) (now ha) x × Fine (now b) (now hb) y × (x .n ≤ x .i → y .i < y .n) × (length (now a) ≤ 16777216) × (length (now b) ≤ 16777216) × (at ≤ 562950037307392) ⌝ }
-    ensures { λ r. ⌜ Turned (now (a .entry)) (now (b .entry)) (now (ha .entry)) (now (hb .entry)) x y (now (out .entry)) at (now (out .exit)) (r .x) (r .y) (r .at) ⌝ }
-{
-    let w = which(a, b, ha, hb, x, y);
-    if w == 2 {
-        let q = advance(b, hb, y);
-        let to = emit(b, q.last, out, at);
-        return Turn { x, y: q, at: to };
-    }
-    let p = advance(a, ha, x);
-    let to = emit(a, p.last, out, at);
-    if w == 0 {
-        return Turn { x: p, y, at: to };
-    }
-    let q = advance(b, hb, y);
-    Turn { x: p, y: q, at: to }
-}
-
-// Whether both are through.
-fn is_over(x: Place, y: Place) -> bool
-    ensures { λ r. ⌜ Over x y r ⌝ }
-{
-    if x.i < x.n {
-        return false;
-    }
-    y.n <= y.i
-}
-
-// All notes of the two put into the output behind `from` bytes, where they have room; the place after them.
-fn walk(a: &[u8], b: &[u8], from: usize, out: &mut [u8]) -> usize
-    requires { ⌜ (length (now a) ≤ 16777216) × (length (now b) ≤ 16777216) × (from ≤ 16777216) ⌝ }
-    ensures { λ r. ⌜ Walked (now (a .entry)) (now (b .entry)) from (now (out .entry)) (now (out .exit)) r ⌝ }
-{
-    let mut ha = [0usize; 4096];
-    let mut hb = [0usize; 4096];
-    let mut x = Place {
-        n: 0,
-        i: 0,
-        last: a.len(),
-    };
-    let mut y = Place {
-        n: 0,
-        i: 0,
-        last: b.len(),
-    };
-    let mut at = from;
-    loop {
-        x = ready(a, &mut ha, x);
-        y = ready(b, &mut hb, y);
-        if is_over(x, y) {
-            return at;
-        }
-        let t = take_turn(a, b, &ha, &hb, x, y, out, at);
-        x = t.x;
-        y = t.y;
-        at = t.at;
-    }
-}
+ghost use Rattle.weave.specs.Weave.{NotesWoven};
+use loom::put_notes;
 
 // Whether so many bytes are allowed and have room.
 fn has_room(most: usize, room: usize) -> bool
@@ -200,16 +36,16 @@ pub fn weave(front: usize, a: &[u8], b: &[u8], out: &mut [u8]) -> Woven
     // each slice may lack the CR LF of its last note: 4 bytes more
     let most = front + a.len() + b.len() + 4;
     if has_room(most, out.len()) {
-        return Woven::Put(walk(a, b, front, out));
+        return Woven::Put(put_notes(a, b, front, out));
     }
     let mut none = [0u8; 1];
-    let n = walk(a, b, front, &mut none);
+    let n = put_notes(a, b, front, &mut none);
     if 16777216 < n {
         return Woven::TooLong;
     }
     if out.len() < n {
         return Woven::NoRoom;
     }
-    walk(a, b, front, out);
+    put_notes(a, b, front, out);
     Woven::Put(n)
 }

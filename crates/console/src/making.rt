@@ -1,0 +1,39 @@
+// A new file made, or what failed said.
+use crate::say_left;
+use crate::say_unfilled;
+use crate::say_unmade;
+
+// Whether all of the bytes were written, and have reached the file's device.
+fn is_kept(fd: i32, made: &[u8]) -> bool {
+    if !io::write_all(fd, made) {
+        return false;
+    }
+    libc::fsync(fd) == 0
+}
+
+// The bytes put into a file that is open. What failed is said before the file is closed, while the system still tells it.
+fn fill(name: &[u8], fd: i32, made: &[u8]) -> bool {
+    let kept = is_kept(fd, made);
+    if !kept {
+        say_unfilled(name);
+    }
+    libc::close(fd);
+    kept
+}
+
+// A new file of these bytes; where there is one by that name, it stays as it is. One that cannot be written whole is removed again: cut off behind a note, it would pass for a
+// file that has no more.
+pub fn make(name: &[u8], made: &[u8]) -> bool {
+    let fd = os::create(name);
+    if fd < 0 {
+        say_unmade(name);
+        return false;
+    }
+    if fill(name, fd, made) {
+        return true;
+    }
+    if os::unlink(name) < 0 {
+        say_left(name);
+    }
+    false
+}

@@ -1,0 +1,2 @@
+-- What the check says of a file, in numbers.
+pub mod Figures
