@@ -1,12 +1,12 @@
 // A file by its name: read whole, then listed or checked.
 ghost use Rattle.io.specs.Counts.{Counts};
-use crate::output::fate_of;
-use crate::output::print_accepted;
-use crate::output::print_heading;
-use crate::output::print_refusal;
-use crate::output::print_refused;
-use crate::output::say_unopened;
-use crate::output::say_unread;
+use console::fate_of;
+use console::print_accepted;
+use console::print_heading;
+use console::print_refusal;
+use console::print_refused;
+use console::say_unopened;
+use console::say_unread;
 use rules::Outcome;
 use rules::Seal;
 use verbs::Fate;

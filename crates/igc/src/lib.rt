@@ -2,16 +2,15 @@
 // It is one exported function: C's `main` lends the memory and returns the status (c/igc.c).
 mod files;
 mod merging;
-mod output;
 
 ghost use Prim.Native.Nat.{_≤_};
+use console::fate_of;
+use console::print_usage;
 use files::check_named;
 use files::list_named;
 use libc::STDERR_FILENO;
 use libc::STDOUT_FILENO;
 use merging::merge_named;
-use output::fate_of;
-use output::print_usage;
 use verbs::Fate;
 use verbs::Verb;
 
@@ -45,7 +44,7 @@ fn tell(version: bool, n: usize) -> u32 {
         return refuse_words();
     }
     if version {
-        return verbs::status_of(fate_of(output::write(b"igc 1, of Hivebasket\n"), Fate::Accepted));
+        return verbs::status_of(fate_of(console::write(b"igc 1, of Hivebasket\n"), Fate::Accepted));
     }
     verbs::status_of(fate_of(print_usage(STDOUT_FILENO), Fate::Accepted))
 }

@@ -1,12 +1,12 @@
 // Two copies of a file by their names: merged into a new file, which takes no other file's place.
 use crate::files::read_named;
-use crate::output::fate_of;
-use crate::output::print_noted;
-use crate::output::print_refused;
-use crate::output::print_unmerged;
-use crate::output::say_left;
-use crate::output::say_unfilled;
-use crate::output::say_unmade;
+use console::fate_of;
+use console::print_noted;
+use console::print_refused;
+use console::print_unmerged;
+use console::say_left;
+use console::say_unfilled;
+use console::say_unmade;
 use merge::Brought;
 use verbs::Fate;
 

@@ -1,8 +1,8 @@
--- `igc::output::print_unmerged` meets its contract: the part of the buffer that it names the files by is the two names. Assumes nothing.
+-- `console::print_unmerged` meets its contract: the part of the buffer that it names the files by is the two names. Assumes nothing.
 use borrow.Author.Needs.{needs}
 use Rattle.notice.proofs.Callers.{piece-fits, piece-counts}
-use Rattle.igc.proofs.output.print_unmerged.Statement.{statement}
-use Rattle.igc.proofs.output.print_unmerged.Tie as tie
+use Rattle.console.proofs.print_unmerged.Statement.{statement}
+use Rattle.console.proofs.print_unmerged.Tie as tie
 
 pub print-unmerged-spec : {M : Type 1} → statement M
 print-unmerged-spec =

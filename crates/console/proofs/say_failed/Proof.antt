@@ -1,8 +1,8 @@
--- `igc::output::say_failed` meets its contract: the part of the buffer that it writes is the message. Assumes nothing.
+-- `console::say_failed` meets its contract: the part of the buffer that it writes is the message. Assumes nothing.
 use borrow.Author.Needs.{needs}
 use Rattle.notice.proofs.Callers.{piece-fits, piece-counts}
-use Rattle.igc.proofs.output.say_failed.Statement.{statement}
-use Rattle.igc.proofs.output.say_failed.Tie as tie
+use Rattle.console.proofs.say_failed.Statement.{statement}
+use Rattle.console.proofs.say_failed.Tie as tie
 
 pub say-failed-spec : {M : Type 1} → statement M
 say-failed-spec =

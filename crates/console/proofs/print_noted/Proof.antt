@@ -1,8 +1,8 @@
--- `igc::output::print_noted` meets its contract: the part of the buffer that it writes is the text. Assumes nothing.
+-- `console::print_noted` meets its contract: the part of the buffer that it writes is the text. Assumes nothing.
 use borrow.Author.Needs.{needs}
 use Rattle.notice.proofs.Callers.{piece-fits, piece-counts}
-use Rattle.igc.proofs.output.print_noted.Statement.{statement}
-use Rattle.igc.proofs.output.print_noted.Tie as tie
+use Rattle.console.proofs.print_noted.Statement.{statement}
+use Rattle.console.proofs.print_noted.Tie as tie
 
 pub print-noted-spec : {M : Type 1} → statement M
 print-noted-spec =

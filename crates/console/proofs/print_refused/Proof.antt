@@ -1,8 +1,8 @@
--- `igc::output::print_refused` meets its contract: the part of the buffer that it writes is the text. Assumes nothing.
+-- `console::print_refused` meets its contract: the part of the buffer that it writes is the text. Assumes nothing.
 use borrow.Author.Needs.{needs}
 use Rattle.notice.proofs.Callers.{piece-fits, piece-counts}
-use Rattle.igc.proofs.output.print_refused.Statement.{statement}
-use Rattle.igc.proofs.output.print_refused.Tie as tie
+use Rattle.console.proofs.print_refused.Statement.{statement}
+use Rattle.console.proofs.print_refused.Tie as tie
 
 pub print-refused-spec : {M : Type 1} → statement M
 print-refused-spec =

@@ -15,17 +15,17 @@ const USAGE: [u8; 475] = *b"\
 ";
 
 // Whether all of it was written, as everywhere here.
-pub(crate) fn write(text: &[u8]) -> bool {
+pub fn write(text: &[u8]) -> bool {
     io::write_all(STDOUT_FILENO, text)
 }
 
-pub(crate) fn print_usage(fd: i32) -> bool {
+pub fn print_usage(fd: i32) -> bool {
     let text = USAGE;
     io::write_all(fd, &text)
 }
 
 // What became of a file whose answer was written, or was not: then that is said, once.
-pub(crate) fn fate_of(written: bool, fate: Fate) -> Fate {
+pub fn fate_of(written: bool, fate: Fate) -> Fate {
     if !written {
         os::fail(b"igc: the output could not be written");
         return Fate::Unwritten;
@@ -34,41 +34,41 @@ pub(crate) fn fate_of(written: bool, fate: Fate) -> Fate {
 }
 
 // The line before a file's listing, where several are listed.
-pub(crate) fn print_heading(name: &[u8]) -> bool {
+pub fn print_heading(name: &[u8]) -> bool {
     let mut out = [0u8; 4608];
     let n = notice::heading(name, &mut out);
     write(&out[..n])
 }
 
 // A refusal explained, with no name before it.
-pub(crate) fn print_refusal(file: &[u8], why: Refusal) -> bool {
+pub fn print_refusal(file: &[u8], why: Refusal) -> bool {
     let mut out = [0u8; 400];
     let n = explain::refused(file, why, &mut out);
     write(&out[..n])
 }
 
 // There is room for two names.
-pub(crate) fn print_refused(name: &[u8], file: &[u8], why: Refusal) -> bool {
+pub fn print_refused(name: &[u8], file: &[u8], why: Refusal) -> bool {
     let mut out = [0u8; 9216];
     let n = notice::refused(name, file, why, &mut out);
     write(&out[..n])
 }
 
 // Why two files are not merged, where that is of neither: it names no line.
-pub(crate) fn print_unmerged(first: &[u8], second: &[u8], why: Refusal) -> bool {
+pub fn print_unmerged(first: &[u8], second: &[u8], why: Refusal) -> bool {
     let mut names = [0u8; 8704];
     let n = notice::both(first, second, &mut names);
     print_refused(&names[..n], b"", why)
 }
 
-pub(crate) fn print_noted(name: &[u8], notes: usize) -> bool {
+pub fn print_noted(name: &[u8], notes: usize) -> bool {
     let mut out = [0u8; 4608];
     let n = notice::noted(name, notes, &mut out);
     write(&out[..n])
 }
 
 // The check that igc makes accepts no file without a G line, so each one that it accepts is signed.
-pub(crate) fn print_accepted(name: &[u8], flight: Flight) -> bool {
+pub fn print_accepted(name: &[u8], flight: Flight) -> bool {
     let mut out = [0u8; 4608];
     let n = notice::accepted(name, flight, true, &mut out);
     write(&out[..n])
@@ -81,23 +81,23 @@ fn say_failed(name: &[u8], what: &[u8]) {
     os::fail(&out[..n]);
 }
 
-pub(crate) fn say_unopened(name: &[u8]) {
+pub fn say_unopened(name: &[u8]) {
     say_failed(name, b"cannot be opened");
 }
 
-pub(crate) fn say_unmade(name: &[u8]) {
+pub fn say_unmade(name: &[u8]) {
     say_failed(name, b"cannot be made");
 }
 
-pub(crate) fn say_unfilled(name: &[u8]) {
+pub fn say_unfilled(name: &[u8]) {
     say_failed(name, b"cannot be written whole");
 }
 
-pub(crate) fn say_left(name: &[u8]) {
+pub fn say_left(name: &[u8]) {
     say_failed(name, b"what was written of it cannot be removed");
 }
 
-pub(crate) fn say_unread(name: &[u8]) {
+pub fn say_unread(name: &[u8]) {
     let mut out = [0u8; 4608];
     let n = notice::failed(name, b"cannot be read to its end\n", &mut out);
     io::write_all(STDERR_FILENO, &out[..n]);

@@ -1,8 +1,8 @@
--- `igc::output::say_unread` meets its contract: the part of the buffer that it writes is the message. Assumes nothing.
+-- `console::say_unread` meets its contract: the part of the buffer that it writes is the message. Assumes nothing.
 use borrow.Author.Needs.{needs}
 use Rattle.notice.proofs.Callers.{piece-fits, piece-counts}
-use Rattle.igc.proofs.output.say_unread.Statement.{statement}
-use Rattle.igc.proofs.output.say_unread.Tie as tie
+use Rattle.console.proofs.say_unread.Statement.{statement}
+use Rattle.console.proofs.say_unread.Tie as tie
 
 pub say-unread-spec : {M : Type 1} → statement M
 say-unread-spec =
