@@ -5,10 +5,11 @@ use rules::Flight;
 use rules::Refusal;
 use verbs::Fate;
 
-const USAGE: [u8; 475] = *b"\
-    usage: igc [list] FILE...\n       igc check FILE...\n       igc merge FIRST SECOND NEW\n       igc help | version\n\
+const USAGE: [u8; 598] = *b"\
+    usage: igc [list] FILE...\n       igc check FILE...\n       igc track FILE...\n       igc merge FIRST SECOND NEW\n       igc help | version\n\
     list   each file's OK, FIX and COL lines, or why it is refused\n\
     check  one line a file: accepted, with its date and counts, or why it is refused\n\
+    track  one line a fix: line, day, time, latitude and longitude in degrees, A or V, both altitudes\n\
     merge  two copies of a file into NEW, with the evening notes of both; NEW must not exist\n\
     Behind -- every word is a file's name.\n\
     Status: 0 all accepted, 1 some file refused, 2 not all was read or written, or wrong words.\n\

@@ -1,13 +1,14 @@
-// Checks, lists or merges the IGC files that its words name: igc check FILE..., igc list FILE..., igc merge FIRST SECOND NEW
+// Checks, lists or merges the IGC files that its words name, or prints their tracks: igc check FILE..., igc list FILE..., igc track FILE..., igc merge FIRST SECOND NEW
 // It is one exported function: C's `main` lends the memory and returns the status (c/igc.c).
 mod files;
 mod merging;
+mod tracks;
 
 ghost use Prim.Native.Nat.{_≤_};
 use console::fate_of;
 use console::print_usage;
 use files::check_named;
-use files::list_named;
+use files::show_named;
 use libc::STDERR_FILENO;
 use libc::STDOUT_FILENO;
 use merging::merge_named;
@@ -67,7 +68,7 @@ fn on_file(verb: Verb, i: usize, several: bool, input: &mut [u8], table: &mut [u
     let k = os::arg(i, &mut name);
     match verb {
         Verb::Check => check_named(&name[..k], input, table),
-        _ => list_named(&name[..k], several, input, table),
+        _ => show_named(verb, &name[..k], several, input, table),
     }
 }
 
@@ -200,6 +201,7 @@ pub extern "C" fn igc_run(
     match verb {
         Verb::List => on_files(verb, 2, n, input, table),
         Verb::Check => on_files(verb, 2, n, input, table),
+        Verb::Track => on_files(verb, 2, n, input, table),
         Verb::Merge => on_three(n, input, other, out),
         Verb::Help => tell(false, n),
         Verb::Version => tell(true, n),
