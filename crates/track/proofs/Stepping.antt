@@ -47,13 +47,13 @@ sized start layout t e =
     omega (arith, leb-true (lineLength start layout) (length t) (b .0), leb-true (length t) (lineLength start layout) (b .1))
 
 -- its letter, its length, its fields by themselves, its time, and its fix
-record Fixed (layout : Layout) (t : List ℕ) (f : Fix) : Type 0 where
-  letter : getD t 0 0 ≡ code "B"
-  long : length t ≡ lineLength 36 layout
-  fields : fixFields t ≡ says (fieldsOf f)
-  time : timeOn t ≡ some (fieldsOf f .time)
+pub record Fixed (layout : Layout) (t : List ℕ) (f : Fix) : Type 0 where
+  pub letter : getD t 0 0 ≡ code "B"
+  pub long : length t ≡ lineLength 36 layout
+  pub fields : fixFields t ≡ says (fieldsOf f)
+  pub time : timeOn t ≡ some (fieldsOf f .time)
 
-fixed : (layout : Layout) (t : List ℕ) (f : Fix) → fixSaid t layout ≡ says f → Fixed layout t f
+pub fixed : (layout : Layout) (t : List ℕ) (f : Fix) → fixSaid t layout ≡ says f → Fixed layout t f
 unfolding kindOf
 fixed layout t f e =
     let v = fieldsOf f in
@@ -89,6 +89,33 @@ first-there file (x ∷ t) at b e k =
     let z : at + 0 ≡ at = omega arith in
     rw z at (sym (getD-drop at file 0 0) ∙ sym (getD-take (at + length (x ∷ t) - at) (drop at file) 0 0 n) ∙ ap (λ l. getD l 0 0) e ∙ k)
 
+-- ---- lines whose B lines all read
+
+module _ (layout : Layout) where
+  -- each B line reads
+  abbrev pub AllRead : Lines → Type 0
+  AllRead end = Unit {0}
+  AllRead (broken n) = Unit {0}
+  AllRead (line t ls) = (getD t 0 0 ≡ code "B" → (f : Fix) × (fixSaid t layout ≡ says f)) × AllRead ls
+
+  pub other-said : (t : List ℕ) → (getD t 0 0 ≡ code "B" → ⊥) → (w : Walk) → recordsOf w (fixSaid t layout) ≡ []
+  unfolding fixSaid
+  other-said t d w = rw (ne-eqb (getD t 0 0) (code "B") d)
+
+  -- how many they are: one for each B line
+  pub as-many : (k : Lines) (w : Walk) → AllRead k → length (trackFrom layout w k) ≡ beginning (code "B") (textsOf k)
+  unfolding trackFrom on beginning
+  as-many end w r = refl
+  as-many (broken n) w r = refl
+  as-many (line t ls) w r = by (eqb (getD t 0 0) (code "B")) refl (as-many ls (walked t w) (r .1))
+    where
+      by : (b : Bool) → eqb (getD t 0 0) (code "B") ≡ b → length (trackFrom layout (walked t w) ls) ≡ beginning (code "B") (textsOf ls)
+          → length (recordsOf (walked t w) (fixSaid t layout) ++ trackFrom layout (walked t w) ls) ≡ cond (eqb (getD t 0 0) (code "B")) 1 0 + beginning (code "B") (textsOf ls)
+      by true e later =
+          let q = r .0 (eqb-true (getD t 0 0) (code "B") e) in
+          rw (q .1, e) (omega (arith, later))
+      by false e later = rw (other-said t (eqb-false (getD t 0 0) (code "B") e) (walked t w), e) (omega (arith, later))
+
 module _ (file : List ℕ) (short : length file ≤ 16777216) (layout : Layout) where
   -- where the steps are: the lines that are left, and numbers that fit
   pub record Here (p : Progress) (k : Lines) : Type 0 where
@@ -97,12 +124,6 @@ module _ (file : List ℕ) (short : length file ≤ 16777216) (layout : Layout) 
     pub passed : p .lines ≤ p .at
     pub days : p .day ≤ p .lines
     pub size : p .size ≡ lineLength 36 layout
-
-  -- each B line reads
-  abbrev pub AllRead : Lines → Type 0
-  AllRead end = Unit {0}
-  AllRead (broken n) = Unit {0}
-  AllRead (line t ls) = (getD t 0 0 ≡ code "B" → (f : Fix) × (fixSaid t layout ≡ says f)) × AllRead ls
 
   few : (p : Progress) (k : Lines) → Here p k → isFew (length file) p ≡ true
   unfolding isFew
@@ -147,12 +168,8 @@ module _ (file : List ℕ) (short : length file ≤ 16777216) (layout : Layout) 
   abbrev Found : Progress → Lines → Type 0
   Found p k = fixesFrom (stepOf file) p (length (left p k)) ≡ left p k
 
-  other-said : (t : List ℕ) → (getD t 0 0 ≡ code "B" → ⊥) → (w : Walk) → recordsOf w (fixSaid t layout) ≡ []
-  unfolding fixSaid
-  other-said t d w = rw (ne-eqb (getD t 0 0) (code "B") d)
-
   -- the records of the lines that are left are what the steps find
-  pub steps-find : (k : Lines) (p : Progress) → Here p k → AllRead k → Found p k
+  pub steps-find : (k : Lines) (p : Progress) → Here p k → AllRead layout k → Found p k
   unfolding trackFrom fixesFrom on
   steps-find end p h r = refl
   steps-find (broken n) p h r = refl
@@ -172,18 +189,4 @@ module _ (file : List ℕ) (short : length file ≤ 16777216) (layout : Layout) 
           let next = behind (timeOn t) p (p .at + length t + 2) in
           let more = later next (here-next p t ls (timeOn t) (p .at + length t + 2) h refl) in
           let same : left next ls ≡ trackFrom layout (walked t (walkOf p)) ls = ap (λ (w : Walk). trackFrom layout w ls) (walk-behind (timeOn t) p (p .at + length t + 2)) in
-          rw (other-said t d (walked t (walkOf p)), ← same) (from-alike (stepOf file) p next (length (left next ls)) (step-over p t ls h d) ∙ more)
-
-  -- how many they are: one for each B line
-  pub as-many : (k : Lines) (w : Walk) → AllRead k → length (trackFrom layout w k) ≡ beginning (code "B") (textsOf k)
-  unfolding trackFrom on beginning
-  as-many end w r = refl
-  as-many (broken n) w r = refl
-  as-many (line t ls) w r = by (eqb (getD t 0 0) (code "B")) refl (as-many ls (walked t w) (r .1))
-    where
-      by : (b : Bool) → eqb (getD t 0 0) (code "B") ≡ b → length (trackFrom layout (walked t w) ls) ≡ beginning (code "B") (textsOf ls)
-          → length (recordsOf (walked t w) (fixSaid t layout) ++ trackFrom layout (walked t w) ls) ≡ cond (eqb (getD t 0 0) (code "B")) 1 0 + beginning (code "B") (textsOf ls)
-      by true e later =
-          let q = r .0 (eqb-true (getD t 0 0) (code "B") e) in
-          rw (q .1, e) (omega (arith, later))
-      by false e later = rw (other-said t (eqb-false (getD t 0 0) (code "B") e) (walked t w), e) (omega (arith, later))
+          rw (other-said layout t d (walked t (walkOf p)), ← same) (from-alike (stepOf file) p next (length (left next ls)) (step-over p t ls h d) ∙ more)

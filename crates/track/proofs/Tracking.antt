@@ -42,10 +42,10 @@ use Rattle.track.proofs.Accepted.{file-short, texts-read, letters-count
 -- ---- an accepted file
 
 -- each B line of lines that all read
-all-read : (layouts : Layouts) (file : List ℕ) (short : length file ≤ 16777216) (k : Lines) → Each (ReadsLine layouts) (textsOf k) → AllRead file short (layouts .b) k
-all-read layouts file short end r = tt
-all-read layouts file short (broken n) r = tt
-all-read layouts file short (line t ls) r = ((λ e. let x = r .0 .columned family.B e in (x .fix, x .reads)), all-read layouts file short ls (r .1))
+pub all-read : (layouts : Layouts) (k : Lines) → Each (ReadsLine layouts) (textsOf k) → AllRead (layouts .b) k
+all-read layouts end r = tt
+all-read layouts (broken n) r = tt
+all-read layouts (line t ls) r = ((λ e. let x = r .0 .columned family.B e in (x .fix, x .reads)), all-read layouts ls (r .1))
 
 module _ (file : List ℕ) (f : Flight) (accepted : verdict trackSeal file none ≡ says f) where
   abbrev layout : Layout
@@ -54,11 +54,11 @@ module _ (file : List ℕ) (f : Flight) (accepted : verdict trackSeal file none 
   short : length file ≤ 16777216
   short = file-short trackSeal file f accepted
 
-  read : AllRead file short layout (linesOf file)
-  read = all-read (f .layouts) file short (linesOf file) (texts-read trackSeal file f accepted)
+  pub read : AllRead layout (linesOf file)
+  read = all-read (f .layouts) (linesOf file) (texts-read trackSeal file f accepted)
 
   pub counted-all : length (trackOf file layout) ≡ countOf family.B (f .counts)
-  counted-all = as-many file short layout (linesOf file) setOut read ∙ sym (letters-counted trackSeal file f accepted family.B)
+  counted-all = as-many layout (linesOf file) setOut read ∙ sym (letters-counted trackSeal file f accepted family.B)
 
   pub found-all : fixesFrom (stepOf file) (startBy (fixSize f)) (countOf family.B (f .counts)) ≡ trackOf file layout
   found-all = rw (← counted-all) (steps-find file short layout (linesOf file) (startBy (fixSize f)) here read)
@@ -68,21 +68,21 @@ module _ (file : List ℕ) (f : Flight) (accepted : verdict trackSeal file none 
 
 -- ---- the whole track
 
-module _ (file : List ℕ) (list : List Record) (p : Course) where
-  -- a file whose plan is good is accepted
-  planned-accepted : (room : ℕ) (f : Flight) → flightTracked file room ≡ says f → verdict trackSeal file none ≡ says f
-  unfolding flightTracked
-  planned-accepted room f e =
-      let v = then-inv (verdict trackSeal file none) f _ e in
-      let n = need-inv (leb (countOf family.B (v .0 .counts)) room) _ (says f) _ refuses-says (v .2) in
-      let i : v .0 ≡ f = cc in
-      v .1 ∙ ap says i
+-- a file whose plan is good is accepted, and its fixes have room
+pub planned-accepted : (file : List ℕ) (room : ℕ) (f : Flight) → flightTracked file room ≡ says f → (verdict trackSeal file none ≡ says f) × (countOf family.B (f .counts) ≤ room)
+unfolding flightTracked
+planned-accepted file room f e =
+    let v = then-inv (verdict trackSeal file none) f _ e in
+    let n = need-inv (leb (countOf family.B (v .0 .counts)) room) _ (says f) _ refuses-says (v .2) in
+    let i : v .0 ≡ f = cc in
+    (v .1 ∙ ap says i, subst (λ (x : Flight). countOf family.B (x .counts) ≤ room) i (leb-true _ _ (n .0)))
 
+module _ (file : List ℕ) (list : List Record) (p : Course) where
   by-said : (s : Said Flight) → flightTracked file (length list) ≡ s → CourseTold s p → FileTracked file list (p .answer) (stored (stepOf file) (p .start) (p .count) list)
   unfolding fixesFrom
   by-said (refuses n l b) e w = record { told = rw e (w .told); records = rw (e, w .count) }
   by-said (says f) e w =
-      let a = planned-accepted (length list) f e in
+      let a = planned-accepted file (length list) f e .0 in
       record { told = rw e (w .told); records = rw (e, w .count, w .start, counted-all file f a, found-all file f a) }
 
   pub tracked-is : CoursePlanned file (length list) p → FileTracked file list (p .answer) (stored (stepOf file) (p .start) (p .count) list)
