@@ -12,6 +12,7 @@ mod merged;
 mod places;
 mod programs;
 mod readers;
+mod track;
 mod unsigned;
 mod writers;
 
