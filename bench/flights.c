@@ -7,15 +7,16 @@
 static const char usual[] = "I033638FXA3940SIU4143ENL";
 
 const struct flight flights[FLIGHTS] = {
-    {"B lines, FXA SIU ENL", usual, NULL, DIGITS, 0, 0},
-    {"B lines, no columns", NULL, NULL, DIGITS, 0, 0},
-    {"B lines, DAN LOD DAE, digits only", "I033638DAN3940LOD4143DAE", NULL, DIGITS, 0, 0},
-    {"B and K lines in turn", usual, "J020812HDT1315TDS", DIGITS, 0, 0},
-    {"B lines, FXA SIU DAN, half below zero", "I033638FXA3940SIU4146DAN", NULL, SIGNED, 0, 0},
-    {"B lines, unlisted: A to Z, digits", "I033638ZZA3940ZZB4143ZZC", NULL, LETTERS, 0, 0},
-    {"B lines, unlisted: a to z, spaces", "I033638ZZA3940ZZB4143ZZC", NULL, TEXT, 0, 0},
-    {"B lines, E, F and L lines between", usual, NULL, DIGITS, 1, 0},
-    {"B lines, last one's latitude bad", usual, NULL, DIGITS, 0, 1},
+    {"B lines, FXA SIU ENL", usual, NULL, DIGITS, 0, 0, 0},
+    {"B lines, no columns", NULL, NULL, DIGITS, 0, 0, 0},
+    {"B lines, DAN LOD DAE, digits only", "I033638DAN3940LOD4143DAE", NULL, DIGITS, 0, 0, 0},
+    {"B and K lines in turn", usual, "J020812HDT1315TDS", DIGITS, 0, 0, 0},
+    {"B lines, FXA SIU DAN, half below zero", "I033638FXA3940SIU4146DAN", NULL, SIGNED, 0, 0, 0},
+    {"B lines, unlisted: A to Z, digits", "I033638ZZA3940ZZB4143ZZC", NULL, LETTERS, 0, 0, 0},
+    {"B lines, unlisted: a to z, spaces", "I033638ZZA3940ZZB4143ZZC", NULL, TEXT, 0, 0, 0},
+    {"B lines, E, F and L lines between", usual, NULL, DIGITS, 1, 0, 0},
+    {"B lines, last one's latitude bad", usual, NULL, DIGITS, 0, 1, 0},
+    {"B lines, four L lines behind each", usual, NULL, DIGITS, 0, 0, 4},
 };
 
 enum { MOST_TURN = 512 };
@@ -38,13 +39,19 @@ static size_t width_of(const char *layout, size_t start)
     return (last[0] - '0') * 10u + (last[1] - '0') - start + 1;
 }
 
+/* So many characters, each one of those given. */
+static char *put_text(char *line, size_t width, const char *from, uint32_t *random)
+{
+    for (size_t n = 0; n < width; n++)
+        line[n] = from[next(random) % strlen(from)];
+    return line + width;
+}
+
 /* The columns of one line, side by side. */
 static char *put_columns(char *line, size_t width, const struct flight *flight, uint32_t *random)
 {
     static const char *const characters[] = {"0123456789", "0123456789ABCDEFGHIJKLMNOPQRSTUVWXYZ", "abcdefghijklmnopqrstuvwxyz    ", "0123456789"};
-    const char *from = characters[flight->columns];
-    for (size_t n = 0; n < width; n++)
-        line[n] = from[next(random) % strlen(from)];
+    put_text(line, width, characters[flight->columns], random);
     if (flight->columns == SIGNED && next(random) & 1)
         line[width - 6] = '-';
     return line + width;
@@ -62,6 +69,14 @@ static char *put_fix(char *line, unsigned second, const struct flight *flight, u
     line += sprintf(line, "%02u%05u%c%03u%05u%c%c%05u%05u", r % 90, r % 60000, "NS"[r & 1], r % 180, r / 7 % 60000, "EW"[r >> 1 & 1],
                     r % 50 ? 'A' : 'V', r % 9000, r / 3 % 9000);
     line = put_columns(line, width_of(flight->fixes, 36), flight, random);
+    return line + sprintf(line, "\r\n");
+}
+
+/* An L line of random words. */
+static char *put_remark(char *line, uint32_t *random)
+{
+    line += sprintf(line, "LXYZ");
+    line = put_text(line, 40, "ABCDEabcdefghijklmnopqrstuvwxyz.123      ", random);
     return line + sprintf(line, "\r\n");
 }
 
@@ -83,6 +98,8 @@ static size_t put_turn(char *turn, unsigned long number, unsigned second, const 
         line += sprintf(line, "PEV pilot\r\n");
         line += sprintf(line, "LXYZ remark number %lu of the recorder\r\n", number);
     }
+    for (int n = 0; n < flight->remarks; n++)
+        line = put_remark(line, random);
     return line - turn;
 }
 

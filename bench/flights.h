@@ -5,14 +5,14 @@
 #include <stddef.h>
 #include <stdint.h>
 
-/* What a flight is made of: its layouts (a J line or none), what its columns hold, and which lines stand between its fixes. */
+/* What a flight is made of: its layouts (a J line or none), what its columns hold, which lines stand between its fixes, and how many L lines behind each. */
 struct flight {
     const char *name, *fixes, *notes;
     enum { DIGITS, LETTERS, TEXT, SIGNED } columns;
-    int has_events, is_damaged;
+    int has_events, is_damaged, remarks;
 };
 
-enum { FLIGHTS = 9 };
+enum { FLIGHTS = 10 };
 
 extern const struct flight flights[FLIGHTS];
 

@@ -27,6 +27,7 @@ static int64_t number[HIVE_NUMBER];
 static double degrees[HIVE_DEGREES];
 static uint8_t out[48];
 static uint8_t text[HIVE_EXPLANATION];
+static struct hive_record list[5];
 
 static void fresh(void) {
     for (int i = 0; i < HIVE_ANSWER; i++)
@@ -36,6 +37,8 @@ static void fresh(void) {
     degrees[0] = degrees[1] = 9;
     memset(out, '.', sizeof out);
     memset(text, '.', sizeof text);
+    for (int i = 0; i < 5; i++)
+        list[i] = (struct hive_record){9, 9, {9, {9, '.'}, {9, '.'}, '.', 9, 9}};
 }
 
 static void say(const char *name, uint32_t returned) {
@@ -80,6 +83,16 @@ static void say_text(const char *name, uint32_t returned) {
         length--;
     printf("%s: text ", name);
     say_bytes(text, length);
+    say(name, returned);
+}
+
+/* Every record of the list, also those that the call is not lent. */
+static void say_list(const char *name, uint32_t returned) {
+    for (int i = 0; i < 5; i++) {
+        const struct hive_fix_values *fix = &list[i].fix;
+        printf("%s: %u %u %u %llu %c %llu %c %c %d %d\n", name, (unsigned)list[i].line, (unsigned)list[i].day, (unsigned)fix->time, (unsigned long long)fix->lat.count, fix->lat.letter,
+               (unsigned long long)fix->lon.count, fix->lon.letter, fix->validity, (int)fix->pressure, (int)fix->gnss);
+    }
     say(name, returned);
 }
 
@@ -216,6 +229,20 @@ static void merging(void) {
     say_out("merge, answer of 15", hive_merge(TEXT(DAY), TEXT(EVENING), out, sizeof out, answer, 15));
 }
 
+/* Four fixes over two midnights: the first is passed at a K line, the second at an F line, by a fall of 43,201 seconds. */
+static const char NIGHT[] =
+    "AXYZ001\r\nHFDTE150724\r\nB2359585130000N00015000WA0010000120\r\nK000001\r\nB0000020000000S18000000EV-001299999\r\nB1200019000000S00000000WA00000-9999\r\nF000000\r\n"
+    "B0000005130000N00015000WA0010000120\r\nGABC\r\n";
+
+static void tracks(void) {
+    say_list("track", hive_track(TEXT(NIGHT), list, 5, answer, HIVE_ANSWER));
+    say_list("track, list of 4", hive_track(TEXT(NIGHT), list, 4, answer, HIVE_ANSWER));
+    say_list("track, list of 3", hive_track(TEXT(NIGHT), list, 3, answer, HIVE_ANSWER));
+    say_list("track, no fixes and no list", hive_track(TEXT(SHORT), NULL, 0, answer, HIVE_ANSWER));
+    say_list("track, refused", hive_track(TEXT("XYZ"), NULL, 0, answer, HIVE_ANSWER));
+    say_list("track, answer of 15", hive_track(TEXT(NIGHT), list, 5, answer, 15));
+}
+
 static void words(void) {
     say_out("name 9", hive_name(9, out, sizeof out, answer, HIVE_ANSWER));
     say_out("name 21, text of 10", hive_name(21, out, 10, answer, HIVE_ANSWER));
@@ -243,6 +270,7 @@ int main(void) {
     others();
     writers();
     merging();
+    tracks();
     words();
     return 0;
 }

@@ -1,4 +1,5 @@
-// A file by its name, listed or checked: by the usual check.
+// A file by its name, listed, checked, or its track printed: by the usual check.
+use crate::tracks::print_track;
 use console::fate_of;
 use console::print_accepted;
 use console::print_heading;
@@ -8,6 +9,7 @@ use named::read_named;
 use rules::Outcome;
 use rules::Seal;
 use verbs::Fate;
+use verbs::Verb;
 
 fn list(file: &[u8], table: &mut [u32]) -> Fate {
     let checked = file::check(Seal::Usual, file, table);
@@ -29,8 +31,15 @@ fn check(name: &[u8], file: &[u8], table: &mut [u32]) -> Fate {
     }
 }
 
-// The verb list: the listing of an accepted file, or why it is refused. Its name stands before it where there are several, so that one file alone gives just what the listing gives.
-pub(crate) fn list_named(name: &[u8], several: bool, input: &mut [u8], table: &mut [u32]) -> Fate {
+// The verbs list and track: the listing or the track of an accepted file, or why it is refused. Its name stands before it where there are several, so that one file alone gives
+// just what the listing gives, or just its track.
+pub(crate) fn show_named(
+    verb: Verb,
+    name: &[u8],
+    several: bool,
+    input: &mut [u8],
+    table: &mut [u32],
+) -> Fate {
     if several {
         if !print_heading(name) {
             return fate_of(false, Fate::Unwritten);
@@ -41,7 +50,10 @@ pub(crate) fn list_named(name: &[u8], several: bool, input: &mut [u8], table: &m
         return Fate::Unread;
     }
     let n = got.count;
-    list(&input[..n], table)
+    match verb {
+        Verb::Track => print_track(&input[..n]),
+        _ => list(&input[..n], table),
+    }
 }
 
 // The verb check: one line of an accepted file, or why it is refused, with its name before it.

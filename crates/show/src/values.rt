@@ -7,7 +7,7 @@ use pieces::put_shown;
 use rules::Height;
 
 // A space and a letter.
-pub(crate) fn put_letter(out: &mut [u8], at: usize, b: u8) -> usize
+pub fn put_letter(out: &mut [u8], at: usize, b: u8) -> usize
     ensures { λ r. ⌜ PiecePut (now (out .entry)) at (shownLetter b) r (now (out .exit)) ⌝ }
 {
     let next = put_byte(out, at, b' ');
@@ -15,7 +15,7 @@ pub(crate) fn put_letter(out: &mut [u8], at: usize, b: u8) -> usize
 }
 
 // A space and an altitude.
-pub(crate) fn put_metres(out: &mut [u8], at: usize, h: Height) -> usize
+pub fn put_metres(out: &mut [u8], at: usize, h: Height) -> usize
     ensures { λ r. ⌜ PiecePut (now (out .entry)) at (shownMetres (h .metres)) r (now (out .exit)) ⌝ }
 {
     let metres = basics::magnitude(h);

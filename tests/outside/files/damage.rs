@@ -3,6 +3,7 @@
 use super::generate::{Line, Sample, clock, codes, digits, join, text};
 use super::random::Random;
 use super::rules::{Field, fields};
+use crate::reading::characters::is_valid;
 use crate::reading::file::HALF_DAY;
 use crate::reading::layouts::{FAMILIES, listed};
 use crate::reading::{Family, LISTED, Layout, Refusal, Role};
@@ -212,12 +213,19 @@ fn length(random: &mut Random, sample: &Sample) -> Aimed {
     changed(sample, at, text, 7, 0)
 }
 
+/// A character that may not stand in its line: any of them, the comma and the neighbours of valid ones more often.
 fn character(random: &mut Random, sample: &Sample) -> Option<Aimed> {
     let at = find(random, sample, |l| l.text.len() > 1)?;
     let mut text = sample.lines[at].text.clone();
     let byte = random.within(2, text.len());
-    let comma = text[0] != b'H' && random.once_in(3);
-    text[byte - 1] = if comma { b',' } else { *random.pick(b"\0\t\x1F!$*\\^~\x7F\x80\xA0\xFF") };
+    text[byte - 1] = match random.below(3) {
+        0 if text[0] != b'H' => b',',
+        1 => *random.pick(b"\0\t\x1F!$*\\^~\x7F\x80\xA0\xFF"),
+        _ => {
+            let wrong: Vec<u8> = (0..=255).filter(|&c| !is_valid(c, text[0]) && !b"\r\n".contains(&c)).collect();
+            *random.pick(&wrong)
+        }
+    };
     Some(changed(sample, at, text, 8, byte))
 }
 

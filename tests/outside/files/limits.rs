@@ -13,7 +13,7 @@ use crate::reading::{Entry, Family, LISTED, Layout, Layouts, Role};
 pub enum Limit {
     /// A text put at a byte of a line.
     Text(Role, usize, Vec<u8>),
-    /// A character put at a line's end.
+    /// A character put at a line's end, or in place of its last where there is no room for one more.
     Character(Role, u8),
     /// A line cut or filled to a length.
     Length(Role, usize),
@@ -25,6 +25,8 @@ pub enum Limit {
     Fall(Role, Role, u32),
     /// The same, with the line before at the leap second.
     FromLeap(Role, Role, u32),
+    /// A line between two fixes of the same time, so many seconds before them.
+    Between(Role, u32),
     /// A line of the second role straight after one of the first.
     After(Role, Role),
 }
@@ -70,22 +72,30 @@ pub fn all() -> Vec<Limit> {
     ROLES.into_iter().enumerate().flat_map(of_role).chain(FAMILIES.into_iter().flat_map(of_family)).chain(neighbours).collect()
 }
 
-/// The characters around those that are not valid, and some that are far off.
+/// The characters around those that are not valid, and some that are far off. H lines, in which the comma is valid, and L lines have every byte value.
 const CHARACTERS: &[u8] = b"\0\t\x1F !\"#$%)*+,-[\\]^_`|}~\x7F\x80\xA0\xFF";
 
-/// The limits of a role; the nth role of the list has every fifth character, H and L lines all of them.
+/// The characters that the nth role has at its limits: every fifth, or all.
+fn characters(n: usize, role: Role) -> Vec<u8> {
+    match role {
+        Role::Header | Role::Remark => (0..=255).collect(),
+        _ => CHARACTERS.iter().skip(n % 5).step_by(5).copied().collect(),
+    }
+}
+
+/// The limits of the nth role of the list.
 fn of_role((n, role): (usize, Role)) -> Vec<Limit> {
     let mut limits = texts(role);
     let (least, most) = lengths(role);
     let near = [least - 1, least, most, most + 1];
     limits.extend(near.into_iter().filter(|&n| n > 0).map(|n| Limit::Length(role, n)));
-    let (from, by) = if matches!(role, Role::Header | Role::Remark) { (0, 1) } else { (n % 5, 5) };
-    limits.extend(CHARACTERS.iter().skip(from).step_by(by).map(|&c| Limit::Character(role, c)));
+    limits.extend(characters(n, role).into_iter().map(|c| Limit::Character(role, c)));
     if role.is_timed() {
         for before in ROLES.into_iter().filter(|before| before.is_timed()) {
             limits.extend([0, 1, HALF_DAY - 1, HALF_DAY, HALF_DAY + 1, DAY - 1].map(|fall| Limit::Fall(before, role, fall)));
             limits.extend([0, 1, HALF_DAY, HALF_DAY + 1, LEAP].map(|fall| Limit::FromLeap(before, role, fall)));
         }
+        limits.extend([HALF_DAY, HALF_DAY + 1, DAY - 1].map(|fall| Limit::Between(role, fall)));
     }
     limits
 }
@@ -185,7 +195,7 @@ pub fn file(random: &mut Random, limit: &Limit) -> Vec<u8> {
     let role = match *limit {
         Limit::After(before, role) => return neighbours(random, before, role).bytes(),
         Limit::Text(role, ..) | Limit::Character(role, _) | Limit::Length(role, _) => role,
-        Limit::Fall(_, role, _) | Limit::FromLeap(_, role, _) => role,
+        Limit::Fall(_, role, _) | Limit::FromLeap(_, role, _) | Limit::Between(role, _) => role,
         Limit::Columns(family, _) | Limit::Listed(family, ..) => family.role(),
     };
     let mut sample = match limit {
@@ -197,7 +207,7 @@ pub fn file(random: &mut Random, limit: &Limit) -> Vec<u8> {
     let line = &mut sample.lines[at].text;
     match limit {
         Limit::Text(_, first, text) => line[first - 1..first - 1 + text.len()].copy_from_slice(text),
-        Limit::Character(Role::Fix | Role::Extra | Role::Unsigned, c) => *line.last_mut().unwrap() = *c,
+        Limit::Character(role, c) if line.len() == lengths(*role).1 => *line.last_mut().unwrap() = *c,
         Limit::Character(_, c) => line.push(*c),
         Limit::Length(_, length) => set_length(random, role, line, *length),
         Limit::Columns(..) | Limit::After(..) => {}
@@ -208,6 +218,13 @@ pub fn file(random: &mut Random, limit: &Limit) -> Vec<u8> {
             line[1..7].copy_from_slice(&clock(before - fall));
             let text = timed(*role, before, &sample.layouts);
             sample.lines.insert(at, Line { role: *role, text });
+        }
+        Limit::Between(_, fall) => {
+            let fixes = random.within(*fall as usize, DAY as usize - 1) as u32;
+            line[1..7].copy_from_slice(&clock(fixes - fall));
+            let fix = Line { role: Role::Fix, text: timed(Role::Fix, fixes, &sample.layouts) };
+            sample.lines.insert(at + 1, fix.clone());
+            sample.lines.insert(at, fix);
         }
     }
     sample.bytes()

@@ -1,6 +1,7 @@
 //! Files to try the reading and the library on, each made from a seed and its number in a run; and what is known of a file's answer from how it was made.
 
 mod branches;
+mod characters;
 pub mod damage;
 pub mod examples;
 pub mod filled;
@@ -10,6 +11,7 @@ pub mod pairs;
 pub mod random;
 pub mod reached;
 pub mod reached_pairs;
+pub mod reached_track;
 mod rules;
 
 use crate::reading::layouts::FAMILIES;
@@ -82,14 +84,15 @@ impl Run {
     }
 
     pub fn make(&self, random: &mut Random, number: u64) -> Made {
-        let turn = number / 4;
-        let (file, known) = match number % 4 {
+        let (turn, class) = (number / 4, number % 4);
+        let (file, known) = match class {
             0 => self.valid(random),
             1 => self.spoiled(random),
             2 => self.aimed(random, turn),
             _ => self.at_limit(random, turn),
         };
-        let entries = entries(random, &file);
+        // A file at a limit has a table with an entry for every line, so that the limit is reached.
+        let entries = if class == 3 { enough(random, &file) } else { entries(random, &file) };
         Made { known: known.with_table(entries), file, entries }
     }
 
@@ -131,12 +134,16 @@ impl Run {
     }
 }
 
-/// How many entries the lent table has: mostly enough and a few more, now and then too few.
+/// How many entries the lent table has: mostly enough, now and then too few.
 fn entries(random: &mut Random, file: &[u8]) -> usize {
-    let ends = file.iter().filter(|&&c| c == b'\n').count();
-    match random.below(8) {
-        0 => random.below(ends + 1),
-        1 => ends,
-        _ => ends + random.below(6),
-    }
+    if random.once_in(8) { random.below(ends(file) + 1) } else { enough(random, file) }
+}
+
+/// An entry for every line, and mostly a few more.
+fn enough(random: &mut Random, file: &[u8]) -> usize {
+    ends(file) + if random.once_in(8) { 0 } else { random.below(6) }
+}
+
+fn ends(file: &[u8]) -> usize {
+    file.iter().filter(|&&c| c == b'\n').count()
 }

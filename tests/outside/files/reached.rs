@@ -1,7 +1,8 @@
-//! What the files of a run have reached: how many were accepted, how many were refused with each number, which fields had a number that names them, and which branches of the
-//! rules on layouts and on the lines by them.
+//! What the files of a run have reached: how many were accepted, how many were refused with each number, which fields had a number that names them, which branches of the
+//! rules on layouts and on the lines by them, and which characters.
 
 use super::branches::{self, branches};
+use super::characters::Characters;
 use crate::reading::{Accepted, Answer};
 use std::collections::BTreeMap;
 
@@ -37,6 +38,7 @@ pub struct Reached {
     numbers: BTreeMap<u32, u64>,
     fields: BTreeMap<Field, u64>,
     branches: BTreeMap<String, u64>,
+    characters: Characters,
 }
 
 impl Reached {
@@ -44,6 +46,7 @@ impl Reached {
         for branch in branches(file, answer) {
             *self.branches.entry(branch).or_default() += 1;
         }
+        self.characters.add(file, answer);
         let Err(refused) = answer else {
             self.accepted += 1;
             return;
@@ -79,12 +82,17 @@ impl Reached {
         each.join(", ")
     }
 
-    /// What should have been reached and was not: the numbers, the fields, and the branches. `but` are numbers that this run cannot reach.
+    /// How many byte values were reached as characters; a run must reach them all.
+    pub fn by_character(&self) -> String {
+        self.characters.told()
+    }
+
+    /// What should have been reached and was not: the numbers, the fields, the branches, and the characters. `but` are numbers that this run cannot reach.
     pub fn never(&self, but: &[u32]) -> Vec<String> {
         let numbers = NUMBERS.iter().filter(|n| !but.contains(n) && !self.numbers.contains_key(n)).map(u32::to_string);
         let fields = FIELDS.iter().filter(|f| !self.fields.contains_key(f)).map(told);
         let branches = branches::wanted().into_iter().filter(|branch| !self.branches.contains_key(branch));
-        numbers.chain(fields).chain(branches).collect()
+        numbers.chain(fields).chain(branches).chain(self.characters.never()).collect()
     }
 
     /// What should never be reached and was: a number that no file has, or one that names a field where no such field stands.

@@ -1,4 +1,5 @@
-//! Generated files: each is answered as it was made, and every refusal of a file is met, in every field that a refusal names, and every branch of the rules on layouts.
+//! Generated files: each is answered as it was made, and every refusal of a file is met, in every field that a refusal names, every branch of the rules on layouts, and every
+//! byte value as a character of an H line and of another.
 
 use outside::files::Run;
 use outside::files::reached::Reached;
@@ -17,6 +18,7 @@ fn answered_as_made() {
         reached.add(&made.file, &answer);
     }
     println!("{} accepted; {}; {}; {}", reached.accepted, reached.by_number(), reached.by_field(), reached.by_branch());
+    println!("byte values reached as characters: {}", reached.by_character());
     assert_ne!(reached.accepted, 0);
     // 1 and 2 are no file of a run
     assert_eq!(reached.never(&[1, 2]), Vec::<String>::new(), "never met");

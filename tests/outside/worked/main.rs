@@ -10,8 +10,10 @@ mod made;
 mod marked;
 mod merged;
 mod places;
+mod printed;
 mod programs;
 mod readers;
+mod track;
 mod unsigned;
 mod writers;
 

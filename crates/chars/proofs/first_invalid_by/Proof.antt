@@ -1,4 +1,4 @@
--- `chars::first_invalid` meets its contract: what is left of the line decides as the whole line does. Assumes nothing.
+-- `chars::first_invalid_by` meets its contract: what is left of the line decides as the whole line does. Assumes nothing.
 use Prim.Native.Nat.{ℕ, _≤_, _-_}
 use mathlib.Core.Bool.{Bool, not}
 use mathlib.Core.Path.{_≡_, sym, _∙_, ap}
@@ -8,8 +8,8 @@ use Rattle.rules.specs.Choice.{firstOf}
 use Rattle.rules.specs.Chars.{isValid, firstInvalid}
 use Rattle.rules.specs.Promises.{foundTold}
 use Rattle.chars.proofs.Laws.{hit, miss, past}
-use Rattle.chars.proofs.first_invalid.Statement.{statement}
-use Rattle.chars.proofs.first_invalid.Tie as tie
+use Rattle.chars.proofs.first_invalid_by.Statement.{statement}
+use Rattle.chars.proofs.first_invalid_by.Tie as tie
 
 abbrev fails : Bool → ℕ → Bool
 fails inH b = not (isValid inH b)
@@ -18,10 +18,10 @@ abbrev place : ℕ → ℕ → ℕ
 place i b = i
 
 abbrev Inv-loop : tie.InvT-loop
-Inv-loop in-h line i₀ i = (i ≤ length line) × (firstOf (fails in-h) place (drop i line) i ≡ firstInvalid in-h line)
+Inv-loop table in-h line i₀ i = (i ≤ length line) × (firstOf (fails in-h) place (drop i line) i ≡ firstInvalid in-h line)
 
 abbrev μ-loop : tie.MeasureT-loop
-μ-loop in-h line i₀ i = length line - i
+μ-loop table in-h line i₀ i = length line - i
 
 loop-holds : tie.Need-loop-holds Inv-loop μ-loop
 unfolding firstInvalid
@@ -31,19 +31,19 @@ returns : tie.Need-returns Inv-loop μ-loop
 unfolding foundTold
 returns c =
     let l = c .before .before .before .before in
-    sym (hit (fails _) place _ 0 (l .loop .i) _ (c .before .before .before .loop-test .taken) (ap not (sym (c .before .is-valid .ensures)) ∙ c .if1 .taken)) ∙ l .loop .inv .1
+    sym (hit (fails _) place _ 0 (l .loop .i) _ (c .before .before .before .loop-test .taken) (ap not (sym (c .before .is-valid-by .ensures)) ∙ c .if1 .taken)) ∙ l .loop .inv .1
 
 loop-again : tie.Need-loop-again Inv-loop μ-loop
 loop-again c =
     let l = c .before .before .before .before in
-    (search needs, sym (miss (fails _) place _ 0 (l .loop .i) _ (c .before .before .before .loop-test .taken) (ap not (sym (c .before .is-valid .ensures)) ∙ c .if1 .left)) ∙ l .loop .inv .1)
+    (search needs, sym (miss (fails _) place _ 0 (l .loop .i) _ (c .before .before .before .loop-test .taken) (ap not (sym (c .before .is-valid-by .ensures)) ∙ c .if1 .left)) ∙ l .loop .inv .1)
 
 returns-2 : tie.Need-returns-2 Inv-loop μ-loop
 unfolding foundTold
 returns-2 c = sym (past (fails _) place _ 0 (c .before .loop .i) _ (c .loop-test .left)) ∙ c .before .loop .inv .1
 
-pub first-invalid-spec : {M : Type 1} → statement M
-first-invalid-spec =
+pub first-invalid-by-spec : {M : Type 1} → statement M
+first-invalid-by-spec =
     tie.close
     (tie.spec
     Inv-loop

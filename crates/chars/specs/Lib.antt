@@ -1,0 +1,2 @@
+-- What the table of the characters says.
+pub mod Characters
