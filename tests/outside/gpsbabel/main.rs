@@ -98,7 +98,7 @@ fn fix_of(record: &library::Record, line: &[u8], layout: &[u8], follows: bool) -
 /// A file by the library: checked, stepped through, each B and C line read, the B lines also as its track.
 fn flight(file: &[u8]) -> Flight {
     let mut table = vec![0; file.len() / 3 + 1];
-    let told = library::check_file(file, &mut table);
+    let told = library::check_usual(file, &mut table);
     assert_eq!(told.number, 0, "a valid file is accepted: {:?}", told.answer);
     let date = [told.answer[2], told.answer[3], told.answer[4]];
     let mut flight = Flight { date, fixes: Vec::new(), head: None, points: Vec::new() };
@@ -244,14 +244,16 @@ fn expected(file: &[u8]) -> (u32, u64, u64) {
     (0, 0, 0)
 }
 
-/// The library's and the reading's verdict on a file that gpsbabel wrote: number, line and byte.
+/// The library's and the reading's verdict on a file that gpsbabel wrote, by the usual check: number, line and byte. By the strict one they are alike too.
 fn judged(file: &[u8]) -> (u32, u64, u64) {
     let mut table = vec![0; file.len() / 3 + 1];
-    let told = library::check_file(file, &mut table);
-    let ours = (told.number, told.answer[0], told.answer[1]);
-    let theirs = reading::check(file, &mut table).err().map_or((0, 0, 0), |r| (r.number, r.line, r.byte));
-    assert_eq!(ours, theirs, "the library and the reading");
-    ours
+    let alike = |ours: library::Told, theirs: reading::Answer<reading::Accepted>| {
+        let ours = (ours.number, ours.answer[0], ours.answer[1]);
+        assert_eq!(ours, theirs.err().map_or((0, 0, 0), |r| (r.number, r.line, r.byte)), "the library and the reading");
+        ours
+    };
+    alike(library::check_strict(file, &mut table), reading::check_strict(file, &mut table));
+    alike(library::check_usual(file, &mut table), reading::check_usual(file, &mut table))
 }
 
 /// A task of five points and a track of two, from which gpsbabel writes a file of 14 lines: A, H, H, a declaration at 4 to 10, B at 11 and 12, L, G.
