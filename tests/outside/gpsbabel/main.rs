@@ -7,10 +7,10 @@
 #[path = "../library.rs"]
 mod library;
 
-use outside::files::generate::{self, Sample};
+use outside::files::generate::{self, Line, Sample};
 use outside::files::random::Random;
-use outside::reading::fields::days_in;
-use outside::reading::{self, Role};
+use outside::reading::fields::{LEAP, days_in};
+use outside::reading::{self, Family, Role};
 use std::path::Path;
 use std::process::Command;
 
@@ -39,10 +39,12 @@ struct Point {
 }
 
 /// A valid file that gpsbabel reads too: it wants a letter after the A, lines of three bytes or more, no kind past L, no second date line, and takes the years 70 to 79 for 1970 to 1979.
+/// An N line becomes an event of the same time, so that the time order stays.
 fn tamed(random: &mut Random) -> Sample {
     let body = random.within(5, 120);
     let mut sample = generate::sample(random, body);
-    sample.lines.retain(|l| l.role != Role::Other && (l.text.len() >= 3 || l.role == Role::Seal));
+    let unread = [Role::Other, Role::Layout(Family::Unsigned)];
+    sample.lines.retain(|l| !unread.contains(&l.role) && (l.text.len() >= 3 || l.role == Role::Seal));
     for line in &mut sample.lines {
         match line.role {
             Role::Recorder if !line.text[1].is_ascii_alphabetic() => line.text[1] = b'X',
@@ -50,6 +52,7 @@ fn tamed(random: &mut Random) -> Sample {
             Role::Head => move_day(&mut line.text[1..7]),
             Role::Header if &line.text[2..5] == b"DTE" => line.text[2] = b'G',
             Role::Seal if line.text.len() < 3 => line.text.push(b'x'),
+            Role::Unsigned => *line = Line { role: Role::Event, text: [b"E", &line.text[1..7], b"PEV"].concat() },
             _ => {}
         }
     }
@@ -166,7 +169,9 @@ fn next_day([day, month, year]: [u64; 3]) -> [u64; 3] {
     }
 }
 
-fn time_text([day, month, year]: [u64; 3], clock: u64) -> String {
+/// A date and time as gpsbabel writes them: it takes the leap second for the midnight behind it.
+fn time_text(date: [u64; 3], clock: u64) -> String {
+    let ([day, month, year], clock) = if clock == u64::from(LEAP) { (next_day(date), 0) } else { (date, clock) };
     format!("{year:04}-{month:02}-{day:02}T{:02}:{:02}:{:02}Z", clock / 3600, clock / 60 % 60, clock % 60)
 }
 
