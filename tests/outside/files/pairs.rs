@@ -177,7 +177,7 @@ fn refused(random: &mut Random, copies: [Sample; 2]) -> Pair {
             if which == 1 - n {
                 return copy.bytes();
             }
-            let number = *random.pick(&[3, 4, 5, 6, 7, 8, 9, 10, 11, 12, 13, 14, 16, 22, 23, 24, 25]);
+            let number = *random.pick(&[3, 4, 5, 6, 7, 8, 9, 10, 11, 12, 13, 14, 16, 16, 16, 22, 23, 24, 25]);
             let aimed =
                 if number == 16 && random.once_in(2) { Some(damage::unsealed(random, copy)) } else { damage::aimed(random, copy, number) };
             match aimed {
