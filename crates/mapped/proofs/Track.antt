@@ -3,28 +3,24 @@
 -- The claims are about every answer that the contract of `track::track` allows (promise FileTracked), and by `only-file-tracked` that is one. It is told by `trackSaid`: the file's own
 -- refusal, then 18, or the count; the list afterwards is `listAfter`. The file's refusals and its lines are the grammar's (demands: `refused-first`, `accepted-as`).
 use Prim.Native.Nat.{ℕ, _≤_, _<_}
-use Prim.Native.Char.{code}
 use mathlib.Core.List.{List}
 use mathlib.Core.Logic.{_⊎_, _↔_}
 use mathlib.Core.Option.{none, some}
-use mathlib.Core.Path.{_≡_, sym, _∙_, ap, subst}
-use native.Mathlib.Omega.{arith}
-use lib.ListN.{length, getD, take, drop, List·getD-append}
-use lib.Seq.{getD-append-add, take-append-seam, drop-append-seam}
+use mathlib.Core.Path.{_≡_}
+use lib.ListN.{length, getD, take, drop}
 use Rattle.rules.specs.Files.{verdict, tableAfter}
 use Rattle.rules.specs.Reads.{fixSaid}
 use Rattle.rules.specs.Refusals.{says, refuses}
-use Rattle.rules.specs.Split.{linesOf, boundsOf, lineText}
+use Rattle.rules.specs.Split.{boundsOf, lineText}
 use Rattle.rules.specs.declared.Flight.{Flight}
 use Rattle.demands.specs.Faults.{Refused}
 use Rattle.demands.specs.Grammar.{Meets, linesIn}
 use Rattle.next_fix.specs.Steps.{zeroRecord}
-use Rattle.next_fix.specs.Track.{trackSeal, trackOf}
+use Rattle.next_fix.specs.Track.{trackSeal}
 use Rattle.next_fix.specs.declared.Record.{Record}
 use Rattle.track.specs.Tracks.{trackedTold, FileTracked}
 use Rattle.track.specs.declared.Tracked.{Tracked}
-use Rattle.mapped.specs.Mapped.{IsRecord, Ordered, Reached}
-use Rattle.mapped.proofs.Answers.{BLines, Short}
+use Rattle.mapped.specs.Mapped.{BLines, Short, IsRecord, Ordered, Reached}
 use Rattle.mapped.proofs.Answers as answers
 use Rattle.mapped.proofs.Whole as whole
 
