@@ -53,12 +53,13 @@ module _ (file : List ℕ) (list : List Record) (r : Tracked) (after : List Reco
     pub track-in-order : Ordered (take n after)
     track-in-order = whole.ordered file list r after w n e
 
-    -- the line of a record by its number, in a table that the check filled, reads as the record's fix
-    pub track-by-table : (table : List ℕ) (f : Flight) → verdict trackSeal file (some (length table)) ≡ says f → (i : ℕ) → i < n
-        → fixSaid (lineText file (boundsOf file (tableAfter trackSeal file table) (getD after i zeroRecord .line))) (f .layouts .b) ≡ says (getD after i zeroRecord .fix)
+    -- the line got by a record's number, in a table that the check filled, is the record's line, and by the layout that this check says it reads as the record's fix
+    pub track-by-table : (m : Meets trackSeal file) (table : List ℕ) (f : Flight) → verdict trackSeal file (some (length table)) ≡ says f → (i : ℕ)
+        → (x : IsRecord (m .layouts .b) (linesIn (m .parts)) i (getD after i zeroRecord))
+        → (lineText file (boundsOf file (tableAfter trackSeal file table) (getD after i zeroRecord .line)) ≡ x .line) × (fixSaid (x .line) (f .layouts .b) ≡ says (getD after i zeroRecord .fix))
     track-by-table = whole.by-table file list r after w n e
 
-    -- and so does the line that as many steps of the reading place come to
-    pub track-by-steps : (m : Meets trackSeal file) (i : ℕ) → i < n
-        → (l : List ℕ) × Reached file 0 (getD after i zeroRecord .line) l × (fixSaid l (m .layouts .b) ≡ says (getD after i zeroRecord .fix))
+    -- and so is the line that as many steps of the reading place come to
+    pub track-by-steps : (m : Meets trackSeal file) (i : ℕ) (x : IsRecord (m .layouts .b) (linesIn (m .parts)) i (getD after i zeroRecord))
+        → Reached file 0 (getD after i zeroRecord .line) (x .line)
     track-by-steps = whole.by-steps file list r after w n e
