@@ -1,5 +1,6 @@
 /* Calls every function of the library on small inputs and prints what it returns and leaves in what is lent: the number, then the answer.
    c/test holds the output against c/expected/calls, which is worked out from documents 01 and 02 by hand. */
+#include <stddef.h>
 #include <stdio.h>
 #include <string.h>
 
@@ -230,16 +231,27 @@ static void merging(void) {
 }
 
 /* Four fixes over two midnights: the first is passed at a K line, the second at an F line, by a fall of 43,201 seconds. */
-static const char NIGHT[] =
-    "AXYZ001\r\nHFDTE150724\r\nB2359585130000N00015000WA0010000120\r\nK000001\r\nB0000020000000S18000000EV-001299999\r\nB1200019000000S00000000WA00000-9999\r\nF000000\r\n"
-    "B0000005130000N00015000WA0010000120\r\nGABC\r\n";
+#define NIGHT_LINES                                                                                                                                                      \
+    "AXYZ001\r\nHFDTE150724\r\nB2359585130000N00015000WA0010000120\r\nK000001\r\nB0000020000000S18000000EV-001299999\r\nB1200019000000S00000000WA00000-9999\r\nF000000\r\n" \
+    "B0000005130000N00015000WA0010000120\r\nGABC\r\n"
+static const char NIGHT[] = NIGHT_LINES;
+/* A line behind the G line that may not come there. */
+static const char SPOILED[] = NIGHT_LINES "D11234\r\n";
+
+/* A record as the library lays it out; where C does not, this does not compile. */
+typedef char a_record_has_64_bytes[sizeof(struct hive_record) == 64 ? 1 : -1];
+typedef char its_fix_starts_at_8[offsetof(struct hive_record, fix) == 8 ? 1 : -1];
+typedef char its_places_are_plain[offsetof(struct hive_fix_values, lat) == 8 && offsetof(struct hive_fix_values, lon) == 24 && offsetof(struct hive_fix_values, validity) == 40 ? 1 : -1];
+typedef char its_heights_are_plain[offsetof(struct hive_fix_values, pressure) == 44 && offsetof(struct hive_fix_values, gnss) == 48 ? 1 : -1];
 
 static void tracks(void) {
     say_list("track", hive_track(TEXT(NIGHT), list, 5, answer, HIVE_ANSWER));
     say_list("track, list of 4", hive_track(TEXT(NIGHT), list, 4, answer, HIVE_ANSWER));
     say_list("track, list of 3", hive_track(TEXT(NIGHT), list, 3, answer, HIVE_ANSWER));
     say_list("track, no fixes and no list", hive_track(TEXT(SHORT), NULL, 0, answer, HIVE_ANSWER));
-    say_list("track, refused", hive_track(TEXT("XYZ"), NULL, 0, answer, HIVE_ANSWER));
+    say_list("track, with columns", hive_track(TEXT(FIVE), list, 5, answer, HIVE_ANSWER));
+    say_list("track, refused", hive_track(TEXT(SPOILED), list, 5, answer, HIVE_ANSWER));
+    say_list("track, refused and short", hive_track(TEXT(SPOILED), list, 3, answer, HIVE_ANSWER));
     say_list("track, answer of 15", hive_track(TEXT(NIGHT), list, 5, answer, 15));
 }
 

@@ -1,16 +1,14 @@
 -- What a track answers, and the list afterwards, from the promise of the call. Assumes nothing.
-use Prim.Native.Nat.{ℕ, _+_, _-_, _≤_, _<_}
-use Prim.Native.Char.{code}
+use Prim.Native.Nat.{ℕ, _≤_, _<_}
 use mathlib.Core.Bool.{Bool, true, false}
-use mathlib.Core.List.{List, [], _∷_, _++_}
+use mathlib.Core.List.{List, _++_}
 use mathlib.Core.Logic.{_⊎_, inl, inr, _↔_}
-use mathlib.Core.Option.{Option, none, some}
+use mathlib.Core.Option.{none}
 use mathlib.Core.Path.{_≡_, refl, sym, ap, subst, _∙_}
 use native.Mathlib.Omega.{arith}
-use borrow.Author.Tests.{le-leb, lt-leb, leb-true, leb-false}
+use borrow.Author.Tests.{le-leb, lt-leb, leb-false}
 use lib.Dec.{eqb, leb}
-use lib.ListN.{length, getD, take, drop, length-append, length-drop}
-use lib.Seq.{drop-append-seam, take-append-seam}
+use lib.ListN.{length, drop}
 use Rattle.rules.specs.Choice.{need}
 use Rattle.rules.specs.Families.{countOf}
 use Rattle.rules.specs.Files.{verdict}
@@ -20,19 +18,17 @@ use Rattle.rules.specs.declared.Flight.{Flight}
 use Rattle.rules.specs.declared.Reason.the-variants as reason
 use Rattle.rules.proofs.Inverse.{refuses-says, false-true}
 use Rattle.demands.specs.Faults.{Refused}
-use Rattle.demands.specs.Grammar.{Meets, linesIn, flightOf, beginning}
+use Rattle.demands.specs.Grammar.{Meets, flightOf}
 use Rattle.demands.proofs.Demands.{accepted-as, refused-first}
 use Rattle.evening.proofs.NeverFull.{check-never-full}
-use Rattle.next_fix.specs.Track.{trackSeal, trackOf, flightTracked, trackSaid, recordsIn, listAfter}
+use Rattle.next_fix.specs.Track.{trackSeal, trackOf, flightTracked, trackSaid, listAfter}
 use Rattle.next_fix.specs.declared.Record.{Record}
 use Rattle.track.specs.Tracks.{trackedTold, FileTracked}
 use Rattle.track.specs.declared.Tracked.{Tracked}
 use Rattle.track.proofs.Tracking.{planned-accepted, counted-all}
+use Rattle.mapped.specs.Mapped.{BLines, Short}
 
 -- an accepted file has met the grammar, and the other way round
-abbrev pub BLines : {file : List ℕ} → Meets trackSeal file → ℕ
-BLines m = beginning (code "B") (linesIn (m .parts))
-
 met : (file : List ℕ) (f : Flight) → verdict trackSeal file none ≡ says f → (m : Meets trackSeal file) × (flightOf m ≡ f)
 met file f e = let a = accepted-as trackSeal file none f .0 e in (a .0, a .2)
 
@@ -60,10 +56,6 @@ said-own : (file : List ℕ) (room n l b : ℕ) → verdict trackSeal file none 
 unfolding flightTracked
 said-own file room n l b e = rw e
 
--- a list that is short
-abbrev pub Short : List ℕ → ℕ → ℕ → ℕ → ℕ → Type 0
-Short file room n l b = (n ≡ 18) × (l ≡ 0) × (b ≡ 0) × (m : Meets trackSeal file) × (room < BLines m)
-
 said-refuses : (file : List ℕ) (room n l b : ℕ) → trackSaid file room ≡ refuses n l b → (verdict trackSeal file none ≡ refuses n l b) ⊎ Short file room n l b
 unfolding flightTracked number
 said-refuses file room n l b e = by (verdict trackSeal file none) refl e
@@ -74,7 +66,7 @@ said-refuses file room n l b e = by (verdict trackSeal file none) refl e
     room-by f g false t e =
         let m = met file f g in
         let h : room < countOf family.B (f .counts) = leb-false _ _ t in
-        (cc, cc, cc, m .0, subst (λ (x : Flight). room < countOf family.B (x .counts)) (sym (m .1)) h)
+        record { number = cc; line = cc; byte = cc; meets = m .0; less = subst (λ (x : Flight). room < countOf family.B (x .counts)) (sym (m .1)) h }
 
     by : (s : Said Flight) → verdict trackSeal file none ≡ s
         → andThen (andThen s λ f. need (leb (countOf family.B (f .counts)) room) (no reason.NoRoom 0) λ _. says f) (λ f. says (countOf family.B (f .counts))) ≡ refuses n l b
@@ -119,14 +111,14 @@ module _ (file : List ℕ) (list : List Record) (r : Tracked) (after : List Reco
 
       back : Refused trackSeal file none n l b ⊎ Short file (length list) n l b → trackSaid file (length list) ≡ refuses n l b
       back (inl x) = said-own file (length list) n l b (refused-first trackSeal file none n l b .1 x)
-      back (inr s) = let e = said-short file (length list) (flightOf (s .3)) (meets-so file (s .3)) (s .4) in rw (s .0, s .1, s .2) e
+      back (inr s) = let e = said-short file (length list) (flightOf (s .meets)) (meets-so file (s .meets)) (s .less) in rw (s .number, s .line, s .byte) e
 
   pub told-never-full : (n l b : ℕ) → trackedTold r ≡ refuses n l b → n ≡ 15 → ⊥
   told-never-full n l b e z = by (said-refuses file (length list) n l b (sym (w .told) ∙ e))
     where
       by : (verdict trackSeal file none ≡ refuses n l b) ⊎ Short file (length list) n l b → ⊥
       by (inl q) = false-true (sym (check-never-full trackSeal file n l b q) ∙ ap (λ (k : ℕ). eqb k 15) z)
-      by (inr s) = omega (arith, s .0, z)
+      by (inr s) = omega (arith, s .number, z)
 
   -- a refusal leaves the list
   pub refused-leaves : (n l b : ℕ) → trackedTold r ≡ refuses n l b → after ≡ list

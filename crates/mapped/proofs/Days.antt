@@ -1,18 +1,18 @@
 -- The day of a walk is the number of falls over 43,200 along the times of the lines that it has passed. Assumes nothing.
-use Prim.Native.Nat.{ℕ, _+_, _-_, _≤_, _<_}
+use Prim.Native.Nat.{ℕ, _+_, _-_}
 use mathlib.Core.Bool.{Bool, true, false, cond}
 use mathlib.Core.List.{List, [], _∷_, _++_}
-use mathlib.Core.Option.{Option, none, some}
-use mathlib.Core.Path.{_≡_, refl, sym, ap, _∙_}
+use mathlib.Core.Option.{some}
+use mathlib.Core.Path.{_≡_, refl, sym, _∙_}
 use native.Mathlib.Omega.{arith}
-use borrow.Author.Tests.{le-leb, lt-ltb, le-ltb, leb-true, leb-false, ltb-true, ltb-false}
+use borrow.Author.Tests.{lt-ltb, le-ltb, leb-true, leb-false, ltb-true, ltb-false}
 use lib.Dec.{leb, ltb}
-use lib.ListN.{length, getD, length-append}
+use lib.ListN.{length, length-append}
 use Rattle.rules.specs.Choice.{byte}
 use Rattle.rules.specs.Fields.{timeAt, timeText}
 use Rattle.rules.specs.Order.{passing}
 use Rattle.rules.specs.Roles.{isTimed}
-use Rattle.rules.specs.Walk.{Walk, setOut, timeOn, dayAfter, walkedBy, walked}
+use Rattle.rules.specs.Walk.{Walk, setOut, dayAfter, walked}
 use Rattle.rules.proofs.Inverse.{false-true}
 use Rattle.laws.proofs.Passing.{roleIn}
 use Rattle.words.specs.Values.{IsTime}

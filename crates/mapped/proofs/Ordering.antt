@@ -1,24 +1,22 @@
 -- Along a track days never fall, and within a day times never fall. Assumes nothing.
-use Prim.Native.Nat.{ℕ, _+_, _-_, _≤_, _<_}
+use Prim.Native.Nat.{ℕ, _-_, _≤_, _<_}
 use Prim.Native.Char.{code}
 use mathlib.Core.Bool.{Bool, true, false, cond}
-use mathlib.Core.List.{List, [], _∷_, _++_}
+use mathlib.Core.List.{List, _++_}
 use mathlib.Core.Logic.{_⊎_, inl, inr}
-use mathlib.Core.Option.{Option, none, some}
-use mathlib.Core.Path.{_≡_, refl, sym, ap, _∙_}
+use mathlib.Core.Path.{_≡_, refl, sym, _∙_}
 use native.Mathlib.Omega.{arith}
 use borrow.Author.Tests.{eqb-true, eqb-false, leb-true}
 use lib.Dec.{eqb, leb, ltb}
-use lib.ListN.{length, getD}
+use lib.ListN.{getD}
 use Rattle.rules.specs.Choice.{on, Each}
-use Rattle.rules.specs.Fields.{timeAt}
 use Rattle.rules.specs.Fixes.{fieldsOf}
 use Rattle.rules.specs.Order.{onward, nextDay, back, passing, isBack, judge}
 use Rattle.rules.specs.Reads.{fixSaid}
 use Rattle.rules.specs.Refusals.{says}
 use Rattle.rules.specs.Roles.{isTimed}
 use Rattle.rules.specs.Split.{Lines, end, broken, line}
-use Rattle.rules.specs.Walk.{Walk, timeOn, dayAfter, walkedBy, walked}
+use Rattle.rules.specs.Walk.{Walk, dayAfter, walked}
 use Rattle.rules.specs.declared.Fix.{Fix}
 use Rattle.rules.specs.declared.Flight.{Flight}
 use Rattle.rules.specs.declared.Layout.{Layout}
@@ -32,7 +30,7 @@ use Rattle.sound.proofs.Each.{each-map}
 use Rattle.next_fix.specs.Track.{recordOf, recordsOf, trackFrom}
 use Rattle.next_fix.specs.declared.Record.{Record}
 use Rattle.track.proofs.Stepping.{other-said, fixed}
-use Rattle.mapped.specs.Mapped.{NotBefore, Ordered}
+use Rattle.mapped.specs.Mapped.{Ordered}
 use Rattle.mapped.proofs.Records.{passed-timed, Good, Next, next}
 
 -- on a later day, or on the same day and no earlier

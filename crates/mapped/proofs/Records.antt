@@ -1,10 +1,10 @@
 -- Record n of a track is the nth B line's. Assumes nothing.
-use Prim.Native.Nat.{ℕ, zero, suc, _+_, _≤_, _<_}
+use Prim.Native.Nat.{ℕ, zero, suc, _+_, _<_}
 use Prim.Native.Char.{code}
 use mathlib.Core.Bool.{Bool, true, false, cond}
 use mathlib.Core.List.{List, [], _∷_, _++_, append-assoc}
-use mathlib.Core.Option.{Option, none, some}
-use mathlib.Core.Path.{_≡_, refl, sym, ap, subst, _∙_}
+use mathlib.Core.Option.{none, some}
+use mathlib.Core.Path.{_≡_, refl, ap, _∙_}
 use native.Mathlib.Omega.{arith}
 use borrow.Author.Tests.{eqb-true, eqb-false}
 use lib.Dec.{eqb}
@@ -17,7 +17,7 @@ use Rattle.rules.specs.Reads.{fixSaid}
 use Rattle.rules.specs.Refusals.{says}
 use Rattle.rules.specs.Roles.{isTimed}
 use Rattle.rules.specs.Split.{Lines, end, broken, line}
-use Rattle.rules.specs.Walk.{Walk, walkedBy, walked, timeOn}
+use Rattle.rules.specs.Walk.{Walk, walked}
 use Rattle.rules.specs.declared.Family.the-variants as family
 use Rattle.rules.specs.declared.Fix.{Fix}
 use Rattle.rules.specs.declared.Flight.{Flight}
@@ -34,10 +34,10 @@ use Rattle.laws.proofs.Walking.{columned-time, event-time, satellites-time}
 use Rattle.demands.specs.Grammar.{IsBLine, beginning}
 use Rattle.demands.specs.Readings.{ReadsLine}
 use Rattle.next_fix.specs.Steps.{zeroRecord}
-use Rattle.next_fix.specs.Track.{recordOf, recordsOf, trackFrom}
+use Rattle.next_fix.specs.Track.{recordsOf, trackFrom}
 use Rattle.next_fix.specs.declared.Record.{Record}
 use Rattle.track.proofs.Stepping.{other-said}
-use Rattle.mapped.specs.Mapped.{Times, IsRecord}
+use Rattle.mapped.specs.Mapped.{IsRecord}
 use Rattle.mapped.proofs.Days.{InTime, Walked, walked-on}
 
 -- ---- a line that passes has its time, which does not fall but to the next day

@@ -3,28 +3,24 @@
 -- The claims are about every answer that the contract of `track::track` allows (promise FileTracked), and by `only-file-tracked` that is one. It is told by `trackSaid`: the file's own
 -- refusal, then 18, or the count; the list afterwards is `listAfter`. The file's refusals and its lines are the grammar's (demands: `refused-first`, `accepted-as`).
 use Prim.Native.Nat.{ℕ, _≤_, _<_}
-use Prim.Native.Char.{code}
 use mathlib.Core.List.{List}
 use mathlib.Core.Logic.{_⊎_, _↔_}
 use mathlib.Core.Option.{none, some}
-use mathlib.Core.Path.{_≡_, sym, _∙_, ap, subst}
-use native.Mathlib.Omega.{arith}
-use lib.ListN.{length, getD, take, drop, List·getD-append}
-use lib.Seq.{getD-append-add, take-append-seam, drop-append-seam}
+use mathlib.Core.Path.{_≡_}
+use lib.ListN.{length, getD, take, drop}
 use Rattle.rules.specs.Files.{verdict, tableAfter}
 use Rattle.rules.specs.Reads.{fixSaid}
 use Rattle.rules.specs.Refusals.{says, refuses}
-use Rattle.rules.specs.Split.{linesOf, boundsOf, lineText}
+use Rattle.rules.specs.Split.{boundsOf, lineText}
 use Rattle.rules.specs.declared.Flight.{Flight}
 use Rattle.demands.specs.Faults.{Refused}
 use Rattle.demands.specs.Grammar.{Meets, linesIn}
 use Rattle.next_fix.specs.Steps.{zeroRecord}
-use Rattle.next_fix.specs.Track.{trackSeal, trackOf}
+use Rattle.next_fix.specs.Track.{trackSeal}
 use Rattle.next_fix.specs.declared.Record.{Record}
 use Rattle.track.specs.Tracks.{trackedTold, FileTracked}
 use Rattle.track.specs.declared.Tracked.{Tracked}
-use Rattle.mapped.specs.Mapped.{IsRecord, Ordered, Reached}
-use Rattle.mapped.proofs.Answers.{BLines, Short}
+use Rattle.mapped.specs.Mapped.{BLines, Short, IsRecord, Ordered, Reached}
 use Rattle.mapped.proofs.Answers as answers
 use Rattle.mapped.proofs.Whole as whole
 
@@ -57,12 +53,13 @@ module _ (file : List ℕ) (list : List Record) (r : Tracked) (after : List Reco
     pub track-in-order : Ordered (take n after)
     track-in-order = whole.ordered file list r after w n e
 
-    -- the line of a record by its number, in a table that the check filled, reads as the record's fix
-    pub track-by-table : (table : List ℕ) (f : Flight) → verdict trackSeal file (some (length table)) ≡ says f → (i : ℕ) → i < n
-        → fixSaid (lineText file (boundsOf file (tableAfter trackSeal file table) (getD after i zeroRecord .line))) (f .layouts .b) ≡ says (getD after i zeroRecord .fix)
+    -- the line got by a record's number, in a table that the check filled, is the record's line, and by the layout that this check says it reads as the record's fix
+    pub track-by-table : (m : Meets trackSeal file) (table : List ℕ) (f : Flight) → verdict trackSeal file (some (length table)) ≡ says f → (i : ℕ)
+        → (x : IsRecord (m .layouts .b) (linesIn (m .parts)) i (getD after i zeroRecord))
+        → (lineText file (boundsOf file (tableAfter trackSeal file table) (getD after i zeroRecord .line)) ≡ x .line) × (fixSaid (x .line) (f .layouts .b) ≡ says (getD after i zeroRecord .fix))
     track-by-table = whole.by-table file list r after w n e
 
-    -- and so does the line that as many steps of the reading place come to
-    pub track-by-steps : (m : Meets trackSeal file) (i : ℕ) → i < n
-        → (l : List ℕ) × Reached file 0 (getD after i zeroRecord .line) l × (fixSaid l (m .layouts .b) ≡ says (getD after i zeroRecord .fix))
+    -- and so is the line that as many steps of the reading place come to
+    pub track-by-steps : (m : Meets trackSeal file) (i : ℕ) (x : IsRecord (m .layouts .b) (linesIn (m .parts)) i (getD after i zeroRecord))
+        → Reached file 0 (getD after i zeroRecord .line) (x .line)
     track-by-steps = whole.by-steps file list r after w n e

@@ -1,12 +1,11 @@
 -- The two ways to the line of a record: by its number in a table that the check filled, and by stepping from line to line. Assumes nothing.
-use Prim.Native.Nat.{ℕ, zero, suc, _+_, _-_, _≤_, _<_}
+use Prim.Native.Nat.{ℕ, suc, _+_, _-_}
 use mathlib.Core.List.{List, [], _∷_, _++_}
 use mathlib.Core.Option.{some}
-use mathlib.Core.Path.{_≡_, refl, sym, ap, subst, _∙_}
+use mathlib.Core.Path.{_≡_, ap, subst, _∙_}
 use native.Mathlib.Omega.{arith}
 use lib.ListN.{length, getD, length-append}
 use lib.Seq.{getD-append-seam}
-use Rattle.rules.specs.Choice.{part}
 use Rattle.rules.specs.Files.{verdict, goodLines, tableAfter}
 use Rattle.rules.specs.Refusals.{says}
 use Rattle.rules.specs.Split.{Lines, end, broken, line, linesOf, Bounds, boundsOf, lineText}

@@ -1,17 +1,14 @@
 -- The records of a track in the list, put together: each is its B line's, they are in order, and the line is found by table and by steps. Assumes nothing.
-use Prim.Native.Nat.{ℕ, _+_, _-_, _≤_, _<_}
-use Prim.Native.Char.{code}
+use Prim.Native.Nat.{ℕ, _+_, _<_}
 use mathlib.Core.List.{List, [], _∷_, _++_}
 use mathlib.Core.Option.{none, some}
-use mathlib.Core.Path.{_≡_, refl, sym, _∙_, ap, subst}
+use mathlib.Core.Path.{_≡_, refl, sym, _∙_, ap}
 use native.Mathlib.Nat.{zero-add}
 use native.Mathlib.Omega.{arith}
-use borrow.Author.Tests.{le-leb}
 use lib.Dec.{leb}
 use lib.ListN.{length, getD, take, drop, List·getD-append, length-append, length-drop}
 use lib.Seq.{take-append-seam, drop-append-seam}
-use Rattle.rules.specs.Choice.{Each}
-use Rattle.rules.specs.Files.{verdict, goodLines, run, tableAfter}
+use Rattle.rules.specs.Files.{verdict, goodLines, tableAfter}
 use Rattle.rules.specs.Order.{start}
 use Rattle.rules.specs.Reads.{fixSaid}
 use Rattle.rules.specs.Refusals.{number, says, refuses}
@@ -102,15 +99,16 @@ module _ (file : List ℕ) (list : List Record) (r : Tracked) (after : List Reco
       let z : says (s .flight) ≡ says f = n .1 in
       cc
 
-  pub by-table : (table : List ℕ) (f : Flight) → verdict trackSeal file (some (length table)) ≡ says f → (i : ℕ) → i < n
-      → fixSaid (lineText file (boundsOf file (tableAfter trackSeal file table) (getD after i zeroRecord .line))) (f .layouts .b) ≡ says (getD after i zeroRecord .fix)
-  by-table table f g i h =
-      let x = found i h in
-      rw (x .number, ways.by-table trackSeal file table f g (x .before) (x .line) (x .after) (x .order), same-flight table f g) (x .reads)
+  pub by-table : (m : Meets trackSeal file) (table : List ℕ) (f : Flight) → verdict trackSeal file (some (length table)) ≡ says f → (i : ℕ)
+      → (x : IsRecord (m .layouts .b) (linesIn (m .parts)) i (getD after i zeroRecord))
+      → (lineText file (boundsOf file (tableAfter trackSeal file table) (getD after i zeroRecord .line)) ≡ x .line) × (fixSaid (x .line) (f .layouts .b) ≡ says (getD after i zeroRecord .fix))
+  by-table m table f g i x =
+      let o : textsOf (linesOf file) ≡ x .before ++ (x .line ∷ x .after) = lines-are file m ∙ x .order in
+      let l : f .layouts .b ≡ m .layouts .b = ap (λ (x : Flight). x .layouts .b) (same-flight table f g ∙ sym (flight-is m)) in
+      (rw (x .number) (ways.by-table trackSeal file table f g (x .before) (x .line) (x .after) o), rw l (x .reads))
 
-  pub by-steps : (m : Meets trackSeal file) (i : ℕ) → i < n
-      → (l : List ℕ) × Reached file 0 (getD after i zeroRecord .line) l × (fixSaid l (m .layouts .b) ≡ says (getD after i zeroRecord .fix))
-  by-steps m i h =
-      let x = found i h in
-      let l : layout ≡ m .layouts .b = ap (λ (x : Flight). x .layouts .b) (sym (flight-is m)) in
-      (x .line, rw (x .number) (ways.by-steps file (x .before) (x .line) (x .after) (x .order)), rw l at (x .reads))
+  pub by-steps : (m : Meets trackSeal file) (i : ℕ) (x : IsRecord (m .layouts .b) (linesIn (m .parts)) i (getD after i zeroRecord))
+      → Reached file 0 (getD after i zeroRecord .line) (x .line)
+  by-steps m i x =
+      let o : textsOf (linesOf file) ≡ x .before ++ (x .line ∷ x .after) = lines-are file m ∙ x .order in
+      rw (x .number) (ways.by-steps file (x .before) (x .line) (x .after) o)

@@ -1,4 +1,5 @@
--- A flight over three midnights, worked out by hand: its track, the answers for lists of several lengths, and the lists afterwards. Computed. Assumes nothing.
+-- A flight over three midnights, worked out by hand: its track, the answers for lists of several lengths, and the lists afterwards; then a file that is refused, and one without B
+-- lines. Computed. Assumes nothing.
 use Prim.Native.Nat.{ℕ}
 use Prim.Native.Char.{code}
 use mathlib.Core.List.{List, [], _∷_, _++_}
@@ -21,7 +22,7 @@ nights =
     ("AXYZ001" ∷ "HFDTE311216" ∷ "B2359585130000N00015000WA0010000120" ∷ "K000001" ∷ "E000002PEV" ∷ "N000003" ∷ "F000004" ∷ "B0000055130001N00015001WV0010100121" ∷ "LXYZ a note"
     ∷ "K120006" ∷ "N000005" ∷ "B0000065130002S00015002EA-001200122" ∷ "E235960PEV" ∷ "B0000005130003N00015003WA0010300123" ∷ "GABC" ∷ [])
 
--- line, day, time, latitude and its letter, longitude and its letter, validity
+-- line, day and fix
 abbrev pub row : ℕ → ℕ → Fix → Record
 row line day fix = record { line = line; day = day; fix = fix }
 
@@ -51,3 +52,33 @@ lent = row 99 99 (record { time = 99; lat = record { count = 99; letter = 99 }; 
 pub list-of-nights : (listAfter nights (replicate 6 lent) ≡ tracked ++ (lent ∷ lent ∷ [])) × (listAfter nights (replicate 3 lent) ≡ replicate 3 lent)
 unfolding everything fileOf trackFrom flightTracked
 list-of-nights = (refl, refl)
+
+-- ---- a file refused, with a list that is too short as well
+
+-- a G line is missing: "the file's own, then 18 if the list is short". The file ends before line 5, and its two B lines have no room in a list of one
+abbrev pub unsealed : List ℕ
+unfolding fileOf
+unsealed = fileOf ("AXYZ001" ∷ "HFDTE311216" ∷ "B2359585130000N00015000WA0010000120" ∷ "B0000055130001N00015001WV0010100121" ∷ [])
+
+pub said-of-unsealed : (trackSaid unsealed 2 ≡ refuses 16 5 0) × (trackSaid unsealed 1 ≡ refuses 16 5 0) × (trackSaid unsealed 0 ≡ refuses 16 5 0)
+unfolding everything fileOf flightTracked
+said-of-unsealed = (refl, refl, refl)
+
+pub list-of-unsealed : (listAfter unsealed (replicate 2 lent) ≡ replicate 2 lent) × (listAfter unsealed (lent ∷ []) ≡ lent ∷ [])
+unfolding everything fileOf trackFrom flightTracked
+list-of-unsealed = (refl, refl)
+
+-- ---- a file without B lines
+
+-- its time goes on in a K line; no record is stored, and an empty list is long enough
+abbrev pub grounded : List ℕ
+unfolding fileOf
+grounded = fileOf ("AXYZ001" ∷ "HFDTE311216" ∷ "K120000" ∷ "GABC" ∷ [])
+
+pub said-of-grounded : (trackSaid grounded 0 ≡ says 0) × (trackSaid grounded 2 ≡ says 0)
+unfolding everything fileOf flightTracked
+said-of-grounded = (refl, refl)
+
+pub list-of-grounded : (listAfter grounded [] ≡ []) × (listAfter grounded (replicate 2 lent) ≡ replicate 2 lent)
+unfolding everything fileOf trackFrom flightTracked
+list-of-grounded = (refl, refl)

@@ -7,7 +7,7 @@ use mathlib.Core.Logic.{_⊎_}
 use mathlib.Core.Option.{some}
 use mathlib.Core.Path.{_≡_}
 use lib.Dec.{ltb}
-use lib.ListN.{length, getD}
+use lib.ListN.{length}
 use Rattle.rules.specs.Choice.{part, byte, Each}
 use Rattle.rules.specs.Fields.{timeText}
 use Rattle.rules.specs.Fixes.{fieldsOf}
@@ -18,8 +18,23 @@ use Rattle.rules.specs.declared.Layout.{Layout}
 use Rattle.words.specs.Values.{IsTime}
 use Rattle.demands.specs.Coming.{IsTimed}
 use Rattle.demands.specs.FieldTexts.{Stood}
-use Rattle.demands.specs.Grammar.{IsBLine, beginning}
+use Rattle.demands.specs.Grammar.{IsBLine, Meets, linesIn, beginning}
+use Rattle.next_fix.specs.Track.{trackSeal}
 use Rattle.next_fix.specs.declared.Record.{Record}
+
+-- ---- the answer
+
+-- "the count is the number of B lines": of the lines that the grammar finds those that begin with B
+abbrev pub BLines : {file : List ℕ} → Meets trackSeal file → ℕ
+BLines m = beginning (code "B") (linesIn (m .parts))
+
+-- "then 18 if the list is short": the file meets the grammar, and the list has room for fewer records than there are B lines; the refusal is 18, with no line and no byte
+pub record Short (file : List ℕ) (room n l b : ℕ) : Type 0 where
+  pub number : n ≡ 18
+  pub line : l ≡ 0
+  pub byte : b ≡ 0
+  pub meets : Meets trackSeal file
+  pub less : room < BLines meets
 
 -- ---- "day number counted from 0"
 

@@ -29,7 +29,7 @@ trackSeal = seal.Usual
 abbrev pub recordOf : Walk → Fix → Record
 recordOf w f = record { line = w .lines; day = w .day; fix = f }
 
--- "its values after line and day those of the single fix reading": one record for a B line, none for a line of another kind
+-- "its values after line and day those of the single fix reading": one record where the reading gives a fix, none for a line whose reading is refused
 abbrev pub recordsOf : Walk → Said Fix → List Record
 recordsOf w (says f) = recordOf w f ∷ []
 recordsOf w (refuses n l b) = []

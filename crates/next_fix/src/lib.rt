@@ -199,7 +199,8 @@ fn has_line(len: usize, at: usize, size: usize) -> bool
     size <= len - 2 - at
 }
 
-// The B line at the place read by its fields, and the progress behind it; no fix where no B line of the size stands there, or a field of it breaks its rule.
+// The B line at the place read by its fields, and the progress behind it. Its size is taken on trust, and whether CR LF stands behind it is not tested. No fix where the file has
+// not that many bytes and two more, another byte than B stands at the place, or a field breaks its rule.
 fn read_at(file: &[u8], p: Progress) -> FixStep
     requires { ⌜ Spare p ⌝ }
     ensures { λ r. ⌜ r ≡ readAt (now (file .entry)) p ⌝ }
@@ -236,9 +237,10 @@ fn is_few(len: usize, p: Progress) -> bool
     p.day <= 16777216
 }
 
-// The next fix of a file: lines that are no B lines are passed with their times, then the B line is read by its fields, as the lines of an accepted file may be. All zero
-// where none is reached: the file ends or a line is broken before, or the B line has another size or a field that breaks its rule; so too for a file of over
-// 16,777,216 bytes, and for a progress with more lines or days than that.
+// The next fix of a file: lines that are no B lines are passed with their times, then the B line is read by its fields, as the lines of an accepted file may be: its size is taken
+// on trust, and whether CR LF stands behind it is not tested. All zero where none is read: the file ends before, a line that is no B line has no CR LF, fewer bytes are left than
+// the size and two more, or a field of the B line breaks its rule; `next` is then behind the lines passed. All zero too for a file of over 16,777,216 bytes, and for a progress
+// with more lines or days than that; `next` is then `from` itself.
 pub fn step(file: &[u8], from: Progress) -> FixStep
     ensures { λ r. ⌜ FixStepped (now (file .entry)) from r ⌝ }
 {

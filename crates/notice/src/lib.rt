@@ -88,7 +88,7 @@ fn put_fit(out: &mut [u8], at: usize, f: Flight, file: &[u8]) -> usize
     put_flown(out, c, f.counts.b, f.signed)
 }
 
-// The line before the listing of a file, where several are listed.
+// The line before what is printed of a file, where there are several.
 pub fn heading(name: &[u8], out: &mut [u8]) -> usize
     ensures { λ r. ⌜ HeadingPut (now (name .entry)) (now (out .entry)) r (now (out .exit)) ⌝ }
 {

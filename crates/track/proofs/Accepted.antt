@@ -1,10 +1,8 @@
 -- What the track needs of an accepted file: it is short enough, each of its B lines reads, and they are counted. Assumes nothing.
-use Prim.Native.Nat.{ℕ, _+_, _-_, _≤_, _<_}
-use Prim.Native.Char.{code}
-use mathlib.Core.Bool.{true}
-use mathlib.Core.List.{List, [], _∷_}
+use Prim.Native.Nat.{ℕ, _+_, _-_, _≤_}
+use mathlib.Core.List.{List, []}
 use mathlib.Core.Option.{none, some}
-use mathlib.Core.Path.{_≡_, refl, sym, ap, subst, _∙_}
+use mathlib.Core.Path.{_≡_, sym, ap, subst, _∙_}
 use native.Mathlib.Omega.{arith}
 use borrow.Author.Tests.{leb-true, le-leb}
 use lib.Dec.{leb}
@@ -14,12 +12,10 @@ use Rattle.rules.specs.Choice.{Each}
 use Rattle.rules.specs.Families.{firstStart, countOf, layoutOf, lineLetter}
 use Rattle.rules.specs.Files.{verdict, goodLines}
 use Rattle.rules.specs.Layouts.{entriesOf, allowed, lineLength, lengthSaid}
-use Rattle.rules.specs.Refusals.{Said, says, valueOr}
-use Rattle.rules.specs.Split.{Lines, end, broken, line, linesOf, offsets}
+use Rattle.rules.specs.Refusals.{says, valueOr}
+use Rattle.rules.specs.Split.{linesOf, offsets}
 use Rattle.rules.specs.declared.Family.{Family}
-use Rattle.rules.specs.declared.Family.the-variants as family
 use Rattle.rules.specs.declared.Flight.{Flight}
-use Rattle.rules.specs.declared.Layout.{Layout}
 use Rattle.rules.specs.declared.Seal.{Seal}
 use Rattle.rules.proofs.Inverse.{refuses-says, need-inv}
 use Rattle.laws.proofs.Splitting.{textsOf, length-offsets}

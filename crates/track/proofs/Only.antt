@@ -1,14 +1,13 @@
 -- One answer at most meets each promise of this crate, and the list is afterwards one thing. Assumes nothing.
 use Prim.Native.Nat.{ℕ}
 use mathlib.Core.List.{List}
-use mathlib.Core.Path.{_≡_, refl, sym, _∙_, ap}
+use mathlib.Core.Path.{_≡_, refl, ap}
 use Rattle.rules.specs.Refusals.{Said, says, refuses}
 use Rattle.rules.specs.declared.Flight.{Flight}
 use Rattle.only.proofs.Told.{OneToOne, by-back, refusalOf, refusal-back}
 use Rattle.only.proofs.Only.{Only, OnlyBoth, same, alike}
 use Rattle.next_fix.specs.declared.Record.{Record}
 use Rattle.track.specs.Tracks.{trackedTold, CourseTold, CoursePlanned, FileTracked}
-use Rattle.track.specs.declared.Course.{Course}
 use Rattle.track.specs.declared.Tracked.{Tracked}
 use Rattle.track.specs.declared.Tracked.the-variants as tracked
 

@@ -12,7 +12,7 @@ use Rattle.rules.specs.Families.{countOf}
 use Rattle.rules.specs.Files.{verdict, CheckedTold}
 use Rattle.rules.specs.Layouts.{lengthTold}
 use Rattle.rules.specs.Order.{noFlight}
-use Rattle.rules.specs.Refusals.{number, Said, says, refuses, no, refusal, andThen, outcome, outcomeTold, valueOr}
+use Rattle.rules.specs.Refusals.{Said, says, refuses, no, refusal, andThen, outcome, outcomeTold, valueOr}
 use Rattle.rules.specs.declared.Checked.{Checked}
 use Rattle.rules.specs.declared.Family.the-variants as family
 use Rattle.rules.specs.declared.Flight.{Flight}

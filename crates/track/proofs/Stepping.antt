@@ -1,28 +1,26 @@
 -- Steps over the lines of a file whose B lines all read find its track: from each place on, what they find are the records of the lines that are left. Assumes nothing.
 use Prim.Native.Nat.{ℕ, zero, suc, _+_, _-_, _≤_, _<_}
 use Prim.Native.Char.{code}
-use mathlib.Core.Bool.{Bool, true, false, _&&_, cond}
+use mathlib.Core.Bool.{Bool, true, false, cond}
 use mathlib.Core.List.{List, [], _∷_, _++_}
 use mathlib.Core.Option.{Option, none, some}
 use mathlib.Core.Path.{_≡_, refl, sym, ap, _∙_}
-use native.Mathlib.Nat.{add-zero}
 use native.Mathlib.Omega.{arith}
-use borrow.Author.Tests.{le-leb, leb-true, eq-eqb, ne-eqb, eqb-true, eqb-false}
+use borrow.Author.Tests.{le-leb, leb-true, ne-eqb, eqb-true, eqb-false}
 use lib.Dec.{eqb, leb}
-use lib.ListN.{length, getD, take, drop}
+use lib.ListN.{length, getD, drop}
 use lib.Seq.{getD-take, getD-drop}
-use Rattle.rules.specs.Choice.{need, on, part}
-use Rattle.rules.specs.Fixes.{fixOf, fieldsOf}
+use Rattle.rules.specs.Choice.{on, part}
+use Rattle.rules.specs.Fixes.{fieldsOf}
 use Rattle.rules.specs.Layouts.{lineLength}
 use Rattle.rules.specs.Lines.{kindOf, isSized, shaped, shapedBy, fixFields}
 use Rattle.rules.specs.Order.{Passing, onward, nextDay, back, passing}
 use Rattle.rules.specs.Reads.{fixSaid}
-use Rattle.rules.specs.Refusals.{Said, says, refuses, no, andThen}
+use Rattle.rules.specs.Refusals.{says}
 use Rattle.rules.specs.Split.{Lines, end, broken, line, linesOf}
 use Rattle.rules.specs.Walk.{Walk, timeOn, dayAfter, walkedBy, walked}
 use Rattle.rules.specs.declared.Family.the-variants as family
 use Rattle.rules.specs.declared.Fix.{Fix}
-use Rattle.rules.specs.declared.FixFields.{FixFields}
 use Rattle.rules.specs.declared.Layout.{Layout}
 use Rattle.rules.proofs.Fixes.{fix-of-fields}
 use Rattle.rules.proofs.Inverse.{refuses-says, need-inv, and-inv}

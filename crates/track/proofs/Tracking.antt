@@ -1,40 +1,30 @@
 -- What is planned and read step by step is the track of the file. Assumes nothing.
-use Prim.Native.Nat.{ℕ, zero, suc, _+_, _-_, _≤_, _<_}
-use Prim.Native.Char.{code}
-use mathlib.Core.Bool.{Bool, true, false, _&&_, cond}
-use mathlib.Core.List.{List, [], _∷_, _++_}
-use mathlib.Core.Option.{none, some}
+use Prim.Native.Nat.{ℕ, _≤_}
+use mathlib.Core.List.{List}
+use mathlib.Core.Option.{none}
 use mathlib.Core.Path.{_≡_, refl, sym, ap, subst, _∙_}
 use native.Mathlib.Omega.{arith}
-use borrow.Author.Tests.{leb-true, le-leb, eqb-true, eq-eqb, ne-eqb, eqb-false}
-use lib.Dec.{eqb, leb}
-use lib.ListN.{length, getD, drop, replicate}
-use Rattle.rules.specs.Choice.{need, Each}
-use Rattle.rules.specs.Families.{countOf, layoutOf}
-use Rattle.rules.specs.Files.{verdict, goodLines}
-use Rattle.rules.specs.Layouts.{allowed, lineLength, lengthSaid}
-use Rattle.rules.specs.Reads.{fixSaid}
-use Rattle.rules.specs.Refusals.{Said, says, refuses, no, andThen, valueOr}
+use borrow.Author.Tests.{leb-true}
+use lib.Dec.{leb}
+use lib.ListN.{length}
+use Rattle.rules.specs.Choice.{Each}
+use Rattle.rules.specs.Families.{countOf}
+use Rattle.rules.specs.Files.{verdict}
+use Rattle.rules.specs.Refusals.{Said, says, refuses}
 use Rattle.rules.specs.Split.{Lines, end, broken, line, linesOf}
-use Rattle.rules.specs.Walk.{Walk, setOut}
+use Rattle.rules.specs.Walk.{setOut}
 use Rattle.rules.specs.declared.Family.the-variants as family
-use Rattle.rules.specs.declared.Fix.{Fix}
 use Rattle.rules.specs.declared.Flight.{Flight}
 use Rattle.rules.specs.declared.Layout.{Layout}
 use Rattle.rules.specs.declared.Layouts.{Layouts}
-use Rattle.rules.specs.declared.Reason.the-variants as reason
-use Rattle.rules.specs.declared.Seal.{Seal}
 use Rattle.rules.proofs.Inverse.{refuses-says, need-inv, then-inv}
 use Rattle.laws.proofs.Splitting.{textsOf}
-use Rattle.laws.proofs.Counted.{tabled, table-adds, line-by-number, lines-counted}
-use Rattle.demands.specs.Grammar.{beginning}
-use Rattle.demands.specs.Readings.{ReadsLine, Readable}
-use Rattle.demands.proofs.Demands.{readable}
+use Rattle.demands.specs.Readings.{ReadsLine}
 use Rattle.next_fix.specs.Steps.{stepOf}
-use Rattle.next_fix.specs.Track.{trackSeal, recordsOf, trackFrom, trackOf, flightTracked, trackSaid, recordsIn, listAfter}
+use Rattle.next_fix.specs.Track.{trackSeal, trackOf, flightTracked}
 use Rattle.next_fix.specs.declared.Record.{Record}
 use Rattle.track.specs.Stored.{fixesFrom, stored}
-use Rattle.track.specs.Tracks.{startBy, fixSize, countIn, startIn, CourseTold, CoursePlanned, FileTracked, trackedTold}
+use Rattle.track.specs.Tracks.{startBy, fixSize, CourseTold, CoursePlanned, FileTracked}
 use Rattle.track.specs.declared.Course.{Course}
 use Rattle.track.proofs.Stepping.{Here, AllRead, steps-find, as-many}
 use Rattle.track.proofs.Accepted.{file-short, texts-read, letters-counted, length-told}

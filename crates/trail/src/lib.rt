@@ -72,7 +72,7 @@ fn put_heights(out: &mut [u8], at: usize, f: Fix) -> usize
     put_byte(out, c, b'\n')
 }
 
-// A record's line, from a place of the buffer on: its line number, its day and what its fix says.
+// A record's line, from a place of the buffer on: its line number, its day and what its fix says. The answer is the place behind it; a full buffer takes no more.
 pub fn put_record(out: &mut [u8], at: usize, line: u32, day: u32, f: Fix) -> usize
     ensures { λ r. ⌜ PiecePut (now (out .entry)) at (recordShown line day f) r (now (out .exit)) ⌝ }
 {
