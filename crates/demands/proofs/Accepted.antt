@@ -362,7 +362,7 @@ accepted-exactly needs file room = (there, here)
     here : ((m : Meets needs file) × (hasRoom room (length (linesIn (m .parts))) ≡ true)) → isSaid (verdict needs file room) ≡ true
     here w = rw (accepted-as needs file room (flightOf (w .0)) .1 (w .0, w .1, refl))
 
--- and a file has one reading by the grammar: the same lines, date, layouts and counts, and it is signed or not
+-- and a file has one reading by the grammar: the same lines, date, layouts and counts, and whether it is signed
 pub one-reading : (needs : Seal) (file : List ℕ) (m n : Meets needs file) → flightOf m ≡ flightOf n
 one-reading needs file m n =
     let a = accepted-as needs file none (flightOf m) .1 (m, refl, refl) in

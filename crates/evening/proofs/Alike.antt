@@ -1,4 +1,4 @@
--- A file that a merge made reads as the first copy does, but for the notes: date, layouts and counts are the same, both are signed, and the same are the lines up to the last G line. Assumes nothing.
+-- A file that a merge made reads as the first copy does, but for the notes: date, layouts and counts are the same, both are signed, and the lines up to the last G line are the same. Assumes nothing.
 use Prim.Native.Nat.{ℕ, zero, suc, _≤_, _<_}
 use Prim.Native.Char.{code}
 use mathlib.Core.Bool.{false}

@@ -62,12 +62,12 @@ unfolding everything fileOf
 listing-of-four = refl
 
 -- whether the file is signed, 1 or 0
-unfoldable pub signedIn : Seal → List ℕ → Said ℤ
-signedIn s file = andThen (verdict s file (some 16)) λ f. says (pos (cond (f .signed) 1 0))
+unfoldable pub signedSaid : Seal → List ℕ → Said ℤ
+signedSaid s file = andThen (verdict s file (some 16)) λ f. says (pos (cond (f .signed) 1 0))
 
 abbrev asks : Seal → List String → Said ℤ → Example
 unfolding fileOf
-asks s texts answer = record { given = fileOf texts; asked = signedIn s; answer = answer }
+asks s texts answer = record { given = fileOf texts; asked = signedSaid s; answer = answer }
 
 pub examples : List Example
 unfolding bytes fileOf
@@ -96,5 +96,5 @@ examples =
     []
 
 pub signed-or-not : hold examples ≡ true
-unfolding everything fileOf agree hold examples signedIn
+unfolding everything fileOf agree hold examples signedSaid
 signed-or-not = refl

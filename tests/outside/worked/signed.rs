@@ -156,7 +156,7 @@ fn badges() {
     assert_eq!(badge(&file(&["AZ9QWA7club", "HFDTE010280", B35, B35, G, "LX"])), "1980-02-01, recorder Z9QWA7, fixes 2, signed\n");
     assert_eq!(badge(&file(&[A, DATE, G])), "2024-07-15, recorder XYZ001, fixes 0, signed\n");
     // a file without G, which the usual check accepts, is not fit for a claim
-    let why = "end inside a declaration or without G";
+    let why = "end inside a declaration, before line 2, or in the strict check without G";
     assert_eq!(badge(&file(&[A, DATE, I2, B40])), format!("REFUSED 16 ENDS_EARLY, line 5: {why}\n"));
     assert_eq!(badge(&file(&[A, DATE])), format!("REFUSED 16 ENDS_EARLY, line 3: {why}\n"));
     assert_eq!(badge(b""), "REFUSED 1 EMPTY: no bytes\n");
