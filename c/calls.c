@@ -1,5 +1,6 @@
 /* Calls every function of the library on small inputs and prints what it returns and leaves in what is lent: the number, then the answer.
    c/test holds the output against c/expected/calls, which is worked out from documents 01 and 02 by hand. */
+#include <stddef.h>
 #include <stdio.h>
 #include <string.h>
 
@@ -25,6 +26,7 @@ static int64_t number[HIVE_NUMBER];
 static double degrees[HIVE_DEGREES];
 static uint8_t out[48];
 static uint8_t text[HIVE_EXPLANATION];
+static struct hive_record list[5];
 
 static void fresh(void) {
     for (int i = 0; i < HIVE_ANSWER; i++)
@@ -34,6 +36,8 @@ static void fresh(void) {
     degrees[0] = degrees[1] = 9;
     memset(out, '.', sizeof out);
     memset(text, '.', sizeof text);
+    for (int i = 0; i < 5; i++)
+        list[i] = (struct hive_record){9, 9, {9, {9, '.'}, {9, '.'}, '.', 9, 9}};
 }
 
 static void say(const char *name, uint32_t returned) {
@@ -78,6 +82,16 @@ static void say_text(const char *name, uint32_t returned) {
         length--;
     printf("%s: text ", name);
     say_bytes(text, length);
+    say(name, returned);
+}
+
+/* Every record of the list, also those that the call is not lent. */
+static void say_list(const char *name, uint32_t returned) {
+    for (int i = 0; i < 5; i++) {
+        const struct hive_fix_values *fix = &list[i].fix;
+        printf("%s: %u %u %u %llu %c %llu %c %c %d %d\n", name, (unsigned)list[i].line, (unsigned)list[i].day, (unsigned)fix->time, (unsigned long long)fix->lat.count, fix->lat.letter,
+               (unsigned long long)fix->lon.count, fix->lon.letter, fix->validity, (int)fix->pressure, (int)fix->gnss);
+    }
     say(name, returned);
 }
 
@@ -208,6 +222,31 @@ static void merging(void) {
     say_out("merge, answer of 15", hive_merge(TEXT(DAY), TEXT(EVENING), out, sizeof out, answer, 15));
 }
 
+/* Four fixes over two midnights: the first is passed at a K line, the second at an F line, by a fall of 43,201 seconds. */
+#define NIGHT_LINES                                                                                                                                                      \
+    "AXYZ001\r\nHFDTE150724\r\nB2359585130000N00015000WA0010000120\r\nK000001\r\nB0000020000000S18000000EV-001299999\r\nB1200019000000S00000000WA00000-9999\r\nF000000\r\n" \
+    "B0000005130000N00015000WA0010000120\r\nGABC\r\n"
+static const char NIGHT[] = NIGHT_LINES;
+/* A line behind the G line that may not come there. */
+static const char SPOILED[] = NIGHT_LINES "D11234\r\n";
+
+/* A record as the library lays it out; where C does not, this does not compile. */
+typedef char a_record_has_64_bytes[sizeof(struct hive_record) == 64 ? 1 : -1];
+typedef char its_fix_starts_at_8[offsetof(struct hive_record, fix) == 8 ? 1 : -1];
+typedef char its_places_are_plain[offsetof(struct hive_fix_values, lat) == 8 && offsetof(struct hive_fix_values, lon) == 24 && offsetof(struct hive_fix_values, validity) == 40 ? 1 : -1];
+typedef char its_heights_are_plain[offsetof(struct hive_fix_values, pressure) == 44 && offsetof(struct hive_fix_values, gnss) == 48 ? 1 : -1];
+
+static void tracks(void) {
+    say_list("track", hive_track(TEXT(NIGHT), list, 5, answer, HIVE_ANSWER));
+    say_list("track, list of 4", hive_track(TEXT(NIGHT), list, 4, answer, HIVE_ANSWER));
+    say_list("track, list of 3", hive_track(TEXT(NIGHT), list, 3, answer, HIVE_ANSWER));
+    say_list("track, no fixes and no list", hive_track(TEXT(SHORT), NULL, 0, answer, HIVE_ANSWER));
+    say_list("track, with columns", hive_track(TEXT(FIVE), list, 5, answer, HIVE_ANSWER));
+    say_list("track, refused", hive_track(TEXT(SPOILED), list, 5, answer, HIVE_ANSWER));
+    say_list("track, refused and short", hive_track(TEXT(SPOILED), list, 3, answer, HIVE_ANSWER));
+    say_list("track, answer of 15", hive_track(TEXT(NIGHT), list, 5, answer, 15));
+}
+
 static void words(void) {
     say_out("name 9", hive_name(9, out, sizeof out, answer, HIVE_ANSWER));
     say_out("name 21, text of 10", hive_name(21, out, 10, answer, HIVE_ANSWER));
@@ -235,6 +274,7 @@ int main(void) {
     others();
     writers();
     merging();
+    tracks();
     words();
     return 0;
 }

@@ -122,6 +122,35 @@ uint32_t hive_merge(const uint8_t *first, size_t first_length,
                     uint8_t *out, size_t out_length,
                     uint64_t *answer, size_t answer_length);
 
+/* ---- the track of a file: all its fixes in one call, as a lent list of records */
+
+/* A record, 64 bytes: line and day at 0 and 4; of the fix the seconds of the day at 8, the latitude and its letter at 16 and 24, the longitude and its letter at 32 and 40, A or V
+   at 48, pressure and GNSS altitude at 52 and 56. All fields are plain numbers: the counts are thousandths of a minute, letters and validity the bytes of the line, altitudes
+   metres. The bytes between the fields are padding, of which nothing is said: compare records field by field. */
+struct hive_position {
+    uint64_t count;
+    uint8_t letter;
+};
+struct hive_fix_values {
+    uint32_t time;
+    struct hive_position lat, lon;
+    uint8_t validity;
+    int32_t pressure, gnss;
+};
+struct hive_record {
+    uint32_t line, day;
+    struct hive_fix_values fix;
+};
+
+/* Record n is the nth B line's: the number of its line, counted from 1, its day, counted from 0, and what hive_fix reads from it. The day rises at each fall of the time of over
+   43,200 seconds, those to and from E, F, K and N lines counted too. Refused with what hive_check refuses of the file (without 15), with line and byte; then HIVE_NO_ROOM, with line 0
+   and byte 0, where the list has fewer records than the file has B lines. No record is changed where refused; records past the last fix stay as they were.
+       2 how many records there are: the file's B lines */
+enum { HIVE_RECORDS = 2 };
+uint32_t hive_track(const uint8_t *file, size_t file_length,
+                    struct hive_record *list, size_t list_length,
+                    uint64_t *answer, size_t answer_length);
+
 /* ---- a line: 17 for another kind of line or a layout that is not allowed, then with the byte 7, 8, a field's (9, 22 to 24), 13 */
 
 /* The fix of a B line. The counts are thousandths of a minute; letters and validity are the bytes of the line.

@@ -18,6 +18,9 @@ pub const N_LENGTH: usize = 11;
 pub const MERGED_LENGTH: usize = 2;
 pub const REFUSED_COPY: usize = 3;
 
+/// Place in the answer of hive_track: the number of fixes.
+pub const TRACK_COUNT: usize = 2;
+
 /// What stands in lent memory before a call, so that an entry left unset shows.
 pub const BEFORE: u64 = 0x5A5A_5A5A_5A5A_5A5A;
 
@@ -28,7 +31,46 @@ pub struct Told {
     pub answer: [u64; ANSWER],
 }
 
+/// A record of hive_track. Its fields are told; the bytes between them are not.
+#[repr(C)]
+#[derive(Clone, Copy, PartialEq, Eq, Debug)]
+pub struct Record {
+    pub line: u32,
+    pub day: u32,
+    pub fix: RecordFix,
+}
+
+#[repr(C)]
+#[derive(Clone, Copy, PartialEq, Eq, Debug)]
+pub struct RecordFix {
+    pub time: u32,
+    pub latitude: RecordPosition,
+    pub longitude: RecordPosition,
+    pub validity: u8,
+    pub pressure: i32,
+    pub gnss: i32,
+}
+
+#[repr(C)]
+#[derive(Clone, Copy, PartialEq, Eq, Debug)]
+pub struct RecordPosition {
+    pub count: u64,
+    pub letter: u8,
+}
+
+/// Where the fields of a record stand, and how long one is.
+const _: () = {
+    use std::mem::offset_of;
+    assert!(offset_of!(Record, line) == 0 && offset_of!(Record, day) == 4 && offset_of!(Record, fix.time) == 8);
+    assert!(offset_of!(Record, fix.latitude.count) == 16 && offset_of!(Record, fix.latitude.letter) == 24);
+    assert!(offset_of!(Record, fix.longitude.count) == 32 && offset_of!(Record, fix.longitude.letter) == 40);
+    assert!(offset_of!(Record, fix.validity) == 48 && offset_of!(Record, fix.pressure) == 52 && offset_of!(Record, fix.gnss) == 56);
+    assert!(size_of::<Record>() == 64);
+};
+
 mod c {
+    use super::Record;
+
     unsafe extern "C" {
         pub fn hive_check(f: *const u8, fl: usize, t: *mut u32, tl: usize, a: *mut u64, al: usize) -> u32;
         pub fn hive_line(f: *const u8, fl: usize, t: *const u32, tl: usize, n: usize, a: *mut u64, al: usize) -> u32;
@@ -122,6 +164,7 @@ mod c {
             al: usize,
         ) -> u32;
         pub fn hive_merge(f: *const u8, fl: usize, s: *const u8, sl: usize, o: *mut u8, ol: usize, a: *mut u64, al: usize) -> u32;
+        pub fn hive_track(f: *const u8, fl: usize, r: *mut Record, rl: usize, a: *mut u64, al: usize) -> u32;
         pub fn hive_name(number: u32, t: *mut u8, tl: usize, a: *mut u64, al: usize) -> u32;
         pub fn hive_explain(
             f: *const u8,
@@ -262,6 +305,16 @@ pub fn merge(first: &[u8], second: &[u8], out: &mut [u8]) -> Told {
     told(|a, al| unsafe { c::hive_merge(first.as_ptr(), first.len(), second.as_ptr(), second.len(), o, ol, a, al) })
 }
 
+/// All fixes of a file, at the start of a list.
+pub fn track(file: &[u8], list: &mut [Record]) -> Told {
+    told(|a, al| unsafe { c::hive_track(file.as_ptr(), file.len(), list.as_mut_ptr(), list.len(), a, al) })
+}
+
+/// The track with an answer of any length, which the library must refuse where it is not the one it asks for.
+pub fn track_answering(file: &[u8], list: &mut [Record], answer: &mut [u64]) -> u32 {
+    unsafe { c::hive_track(file.as_ptr(), file.len(), list.as_mut_ptr(), list.len(), answer.as_mut_ptr(), answer.len()) }
+}
+
 /// The name of a number, at the start of a text.
 pub fn name(number: u32, text: &mut [u8]) -> Told {
     told(|a, al| unsafe { c::hive_name(number, text.as_mut_ptr(), text.len(), a, al) })
@@ -386,7 +439,7 @@ pub fn write_point(latitude: (u64, u8), longitude: (u64, u8), text: &[u8], place
 }
 
 /// Every operation that a run must have asked.
-pub const OPERATIONS: [&str; 23] = [
+pub const OPERATIONS: [&str; 24] = [
     "hive_check",
     "hive_line",
     "hive_step",
@@ -408,6 +461,7 @@ pub const OPERATIONS: [&str; 23] = [
     "hive_write_head",
     "hive_write_point",
     "hive_merge",
+    "hive_track",
     "hive_name",
     "hive_explain",
 ];

@@ -14,17 +14,18 @@ pub use words::refuse_words;
 pub use words::tell;
 pub use words::verb_at;
 
-const USAGE: [u8; 475] = *b"\
-    usage: igc [list] FILE...\n       igc check FILE...\n       igc merge FIRST SECOND NEW\n       igc help | version\n\
+const USAGE: [u8; 598] = *b"\
+    usage: igc [list] FILE...\n       igc check FILE...\n       igc track FILE...\n       igc merge FIRST SECOND NEW\n       igc help | version\n\
     list   each file's OK, FIX and COL lines, or why it is refused\n\
     check  one line a file: accepted, with its date and counts, or why it is refused\n\
+    track  one line a fix: line, day, time, latitude and longitude in degrees, A or V, both altitudes\n\
     merge  two copies of a file into NEW, with the evening notes of both; NEW must not exist\n\
     Behind -- every word is a file's name.\n\
     Status: 0 all accepted, 1 some file refused, 2 not all was read or written, or wrong words.\n\
 ";
 
-// Whether all of it was written, as everywhere here.
-pub(crate) fn write(text: &[u8]) -> bool {
+// A text written on standard output: whether all of it was, as everywhere here.
+pub fn write(text: &[u8]) -> bool {
     io::write_all(STDOUT_FILENO, text)
 }
 
@@ -42,7 +43,7 @@ pub fn fate_of(written: bool, fate: Fate) -> Fate {
     fate
 }
 
-// The line before a file's listing, where several are listed.
+// The line before what is printed of a file, where there are several.
 pub fn print_heading(name: &[u8]) -> bool {
     let mut out = [0u8; 4608];
     let n = notice::heading(name, &mut out);

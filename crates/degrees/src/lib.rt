@@ -1,9 +1,10 @@
 // A position for the map: its latitude and its longitude in degrees.
 ghost use Prim.Native.Nat.{_≤_};
 ghost use mathlib.Core.Path.{_≡_};
-ghost use Rattle.rules.specs.Degrees.{quotient, angle as angleOf, isNegated, isPosition, degreesTold};
+ghost use Rattle.rules.specs.Degrees.{quotient, angle as angleOf, isPosition, degreesTold};
 ghost use Rattle.rules.specs.Refusals.{no};
 ghost use Rattle.rules.specs.Promises.{DegreesGiven};
+ghost use Rattle.degrees.specs.Signs.{NegatedTest};
 use rules::DegreesRead;
 use rules::Position;
 use rules::Reason;
@@ -18,8 +19,8 @@ fn over(count: u64) -> f64
 }
 
 // Whether a position lies below zero: under S or W, and not at count 0.
-fn is_negated(p: Position) -> bool
-    ensures { λ r. ⌜ r ≡ isNegated p ⌝ }
+pub fn is_negated(p: Position) -> bool
+    ensures { λ r. ⌜ NegatedTest p r ⌝ }
 {
     if p.count == 0 {
         return false;

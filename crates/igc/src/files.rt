@@ -1,5 +1,6 @@
-// A file by its name: read whole, then listed or checked.
+// A file by its name: read whole, then listed, checked, or its track printed.
 ghost use Rattle.io.specs.Counts.{Counts};
+use crate::tracks::print_track;
 use console::fate_of;
 use console::print_accepted;
 use console::print_heading;
@@ -10,6 +11,7 @@ use console::say_unread;
 use rules::Outcome;
 use rules::Seal;
 use verbs::Fate;
+use verbs::Verb;
 
 // How many bytes of the input are the file's, and whether they are all that it has.
 pub struct Got {
@@ -73,8 +75,15 @@ fn check(name: &[u8], file: &[u8], table: &mut [u32]) -> Fate {
     }
 }
 
-// The verb list: the listing of an accepted file, or why it is refused. Its name stands before it where there are several, so that one file alone gives just what the listing gives.
-pub(crate) fn list_named(name: &[u8], several: bool, input: &mut [u8], table: &mut [u32]) -> Fate {
+// The verbs list and track: the listing or the track of an accepted file, or why it is refused. Its name stands before it where there are several, so that one file alone gives
+// just what the listing gives, or just its track.
+pub(crate) fn show_named(
+    verb: Verb,
+    name: &[u8],
+    several: bool,
+    input: &mut [u8],
+    table: &mut [u32],
+) -> Fate {
     if several {
         if !print_heading(name) {
             return fate_of(false, Fate::Unwritten);
@@ -85,7 +94,10 @@ pub(crate) fn list_named(name: &[u8], several: bool, input: &mut [u8], table: &m
         return Fate::Unread;
     }
     let n = got.count;
-    list(&input[..n], table)
+    match verb {
+        Verb::Track => print_track(&input[..n]),
+        _ => list(&input[..n], table),
+    }
 }
 
 // The verb check: one line of an accepted file, or why it is refused, with its name before it.

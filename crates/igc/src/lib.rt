@@ -1,11 +1,12 @@
-// Checks, lists or merges the IGC files that its words name: igc check FILE..., igc list FILE..., igc merge FIRST SECOND NEW
+// Checks, lists or merges the IGC files that its words name, or prints their tracks: igc check FILE..., igc list FILE..., igc track FILE..., igc merge FIRST SECOND NEW
 // It is one exported function: C's `main` lends the memory and returns the status (c/igc.c).
 mod files;
 mod merging;
+mod tracks;
 
 ghost use Prim.Native.Nat.{_≤_};
 use files::check_named;
-use files::list_named;
+use files::show_named;
 use merging::merge_named;
 use verbs::Fate;
 use verbs::Verb;
@@ -16,7 +17,7 @@ fn on_file(verb: Verb, i: usize, several: bool, input: &mut [u8], table: &mut [u
     let k = os::arg(i, &mut name);
     match verb {
         Verb::Check => check_named(&name[..k], input, table),
-        _ => list_named(&name[..k], several, input, table),
+        _ => show_named(verb, &name[..k], several, input, table),
     }
 }
 

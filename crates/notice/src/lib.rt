@@ -61,7 +61,7 @@ fn put_accepted(out: &mut [u8], at: usize, f: Flight, signed: bool) -> usize
     put_signed(out, c, signed)
 }
 
-// The line before the listing of a file, where several are listed.
+// The line before what is printed of a file, where there are several.
 pub fn heading(name: &[u8], out: &mut [u8]) -> usize
     ensures { λ r. ⌜ HeadingPut (now (name .entry)) (now (out .entry)) r (now (out .exit)) ⌝ }
 {

@@ -92,6 +92,7 @@ pub enum Day {
 }
 
 // A latitude or a longitude: a count of thousandths of a minute, with its letter beside it.
+#[repr(C)]
 pub struct Position {
     pub count: u64,
     pub letter: u8,
@@ -103,6 +104,7 @@ pub enum PositionField {
 }
 
 // An altitude.
+#[repr(C)]
 pub struct Height {
     pub metres: i32,
 }
@@ -207,6 +209,7 @@ pub enum FixFieldsRead {
 }
 
 // What the reading of a B line gives before its columns.
+#[repr(C)]
 pub struct Fix {
     pub time: u32,
     pub lat: Position,

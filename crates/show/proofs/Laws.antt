@@ -105,7 +105,7 @@ fix-parts n f =
 
 -- ---- room
 
-metres-room : (z : ℤ) → length (shownMetres z) ≤ 22
+pub metres-room : (z : ℤ) → length (shownMetres z) ≤ 22
 metres-room (pos n) = omega (arith, number-room n)
 metres-room (negsuc n) = omega (arith, number-room (n + 1))
 

@@ -12,6 +12,8 @@ use rules::Entry;
 use rules::FixFields;
 use rules::Flight;
 use rules::Refusal;
+pub use values::put_letter;
+pub use values::put_metres;
 
 // REFUSED, the refusal's number, its line and its byte: how many bytes the line has.
 pub fn refused(why: Refusal, out: &mut [u8; 288]) -> usize

@@ -6,16 +6,16 @@ use pieces::put_decimal;
 use pieces::put_shown;
 use rules::Height;
 
-// A space and a letter.
-pub(crate) fn put_letter(out: &mut [u8], at: usize, b: u8) -> usize
+// A space and a letter: the place behind them.
+pub fn put_letter(out: &mut [u8], at: usize, b: u8) -> usize
     ensures { λ r. ⌜ PiecePut (now (out .entry)) at (shownLetter b) r (now (out .exit)) ⌝ }
 {
     let next = put_byte(out, at, b' ');
     put_byte(out, next, b)
 }
 
-// A space and an altitude.
-pub(crate) fn put_metres(out: &mut [u8], at: usize, h: Height) -> usize
+// A space and an altitude: the place behind them.
+pub fn put_metres(out: &mut [u8], at: usize, h: Height) -> usize
     ensures { λ r. ⌜ PiecePut (now (out .entry)) at (shownMetres (h .metres)) r (now (out .exit)) ⌝ }
 {
     let metres = basics::magnitude(h);

@@ -7,6 +7,7 @@ ghost use Rattle.verbs.specs.Status.{StatusGiven, WorseGiven};
 pub enum Verb {
     List,
     Check,
+    Track,
     Merge,
     Help,
     Version,
@@ -67,6 +68,9 @@ pub fn verb_of(word: &[u8]) -> Verb
     }
     if is_same(word, b"check") {
         return Verb::Check;
+    }
+    if is_same(word, b"track") {
+        return Verb::Track;
     }
     if is_same(word, b"merge") {
         return Verb::Merge;

@@ -7,6 +7,7 @@ mod hold;
 #[path = "../library.rs"]
 mod library;
 mod pairs;
+mod track;
 
 use hold::{Held, Tally};
 use outside::files::filled::filled;
@@ -14,6 +15,7 @@ use outside::files::pairs::{Pair, at_limit, many, pair};
 use outside::files::random::Random;
 use outside::files::reached::Reached;
 use outside::files::reached_pairs;
+use outside::files::reached_track;
 use outside::files::{Known, Run, examples};
 use outside::options::Options;
 use outside::reading::{LIMIT, Refusal};
@@ -24,6 +26,7 @@ struct Met {
     tally: Tally,
     reached: Reached,
     pairs: reached_pairs::Reached,
+    tracks: reached_track::Reached,
     lines: u64,
     aimed: u64,
 }
@@ -36,6 +39,7 @@ fn hold_file(met: &mut Met, random: &mut Random, file: &[u8], entries: usize, kn
     met.reached.add(file, &answer);
     hold::in_words(&mut met.tally, random, file, &answer)?;
     hold::by_number(&mut met.tally, random, file, &table)?;
+    track::file(&mut met.tally, &mut met.tracks, random, file)?;
     let lines = hold::by_stepping(&mut met.tally, random, file)?;
     met.lines += lines.len() as u64;
     let given = hold::layouts(file, &lines);
@@ -122,7 +126,7 @@ fn main() {
         let mut random = run.random(n);
         let made = run.make(&mut random, n);
         let held = hold_file(&mut met, &mut random, &made.file, made.entries, made.known, 4);
-        let held = held.and_then(|()| wrong_answers(&mut met, &made.file));
+        let held = held.and_then(|()| wrong_answers(&mut met, &made.file)).and_then(|()| track::wrong_answers(&mut met.tally, &made.file));
         stop_at(held.map_err(|d| format!("file {n} of seed {}: {d}", options.seed)), &made.file, &options.out);
     }
     copies(&mut met, &options);
@@ -142,6 +146,7 @@ fn summary(met: &Met, options: &Options) {
     println!("outside: fields that a refusal names, by number, kind of line and byte: {}", met.reached.by_field());
     println!("outside: branches of the rules on layouts: {}", met.reached.by_branch());
     println!("outside: byte values reached as characters: {}", met.reached.by_character());
+    println!("outside: tracks: {}", met.tracks.told());
     println!("outside: {} pairs of copies brought together, {} refused: {}", met.pairs.merged, met.pairs.refused, met.pairs.told());
     for (operation, count) in &met.tally.answers {
         let numbers: Vec<String> =
@@ -150,7 +155,7 @@ fn summary(met: &Met, options: &Options) {
     }
     let unasked: Vec<&str> = library::OPERATIONS.into_iter().filter(|o| !met.tally.answers.contains_key(o)).collect();
     let (mut never, strange) = (met.reached.never(&[]), met.reached.strange());
-    never.extend(met.pairs.never(true).into_iter().map(str::to_string));
+    never.extend(met.pairs.never(true).into_iter().chain(met.tracks.never()).map(str::to_string));
     if !never.is_empty() || !strange.is_empty() || !unasked.is_empty() || accepted == 0 {
         println!("outside: FAILED: accepted {accepted} files, never met {never:?}, met {strange:?}, never asked {unasked:?}");
         std::process::exit(1);

@@ -1,10 +1,10 @@
-//! What the program `igc` must print of the files that tests/igc/args names, in tests/igc/data: listed, and checked; and what it must say on standard error, each time, of
-//! those that it cannot read. A name without a file, and a folder, are among them.
+//! What the program `igc` must print of the files that tests/igc/args names, in tests/igc/data: listed, checked, and their tracks; and what it must say on standard error, each
+//! time, of those that it cannot read. A name without a file, and a folder, are among them.
 
 use super::words;
 use outside::reading::explained::explained;
 use outside::reading::listing::flight;
-use outside::reading::{Accepted, Answer, check};
+use outside::reading::{Accepted, Answer, check, track, tracked};
 use std::path::Path;
 
 /// The most lines that a file can have: a byte and CR LF each.
@@ -31,14 +31,24 @@ fn fate(path: &str) -> Fate {
     Fate::Read { file, table, said }
 }
 
-/// Each file's name, and behind it its listing or why it is refused.
-pub fn listed() -> Vec<u8> {
-    let list = |fate: &Fate| match fate {
-        Fate::Read { file, table, said: Ok(said) } => flight(file, table, said),
+/// Each file's name, and behind it what is made of the file where it is accepted, or why it is refused.
+fn below_names(make: fn(&[u8], &[u32], &Accepted) -> String) -> Vec<u8> {
+    let told = |fate: &Fate| match fate {
+        Fate::Read { file, table, said: Ok(said) } => make(file, table, said),
         Fate::Read { file, said: Err(refused), .. } => explained(file, refused).unwrap(),
         Fate::Unread(_) => String::new(),
     };
-    named().iter().map(|(name, fate)| format!("== {name}\n{}", list(fate))).collect::<String>().into_bytes()
+    named().iter().map(|(name, fate)| format!("== {name}\n{}", told(fate))).collect::<String>().into_bytes()
+}
+
+/// Each file's name, and behind it its listing or why it is refused.
+pub fn listed() -> Vec<u8> {
+    below_names(flight)
+}
+
+/// Each file's name, and behind it its track or why it is refused.
+pub fn tracks() -> Vec<u8> {
+    below_names(|file, _, _| tracked(&track(file).unwrap()))
 }
 
 /// One line of an accepted file; of another why it is refused.

@@ -26,13 +26,14 @@ fn data(program: &str, name: &[u8]) -> String {
 }
 
 /// Each expected output, and what it must be.
-fn outputs() -> [(&'static str, Vec<u8>); 6] {
+fn outputs() -> [(&'static str, Vec<u8>); 7] {
     let five = fs::read("crates/listing/stdin").expect("the listing's input");
     [
         ("crates/listing/stdout", listing(&five).into_bytes()),
         ("crates/try_inputs/stdout", try_inputs::printed()),
         ("tests/igc/listed", igc::listed()),
         ("tests/igc/checked", igc::checked()),
+        ("tests/igc/tracks", igc::tracks()),
         ("tests/igc/said", igc::said()),
         ("c/expected/written", writes::written_from_c()),
     ]

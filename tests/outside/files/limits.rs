@@ -25,6 +25,8 @@ pub enum Limit {
     Fall(Role, Role, u32),
     /// The same, with the line before at the leap second.
     FromLeap(Role, Role, u32),
+    /// A line between two fixes of the same time, so many seconds before them.
+    Between(Role, u32),
     /// A line of the second role straight after one of the first.
     After(Role, Role),
 }
@@ -93,6 +95,7 @@ fn of_role((n, role): (usize, Role)) -> Vec<Limit> {
             limits.extend([0, 1, HALF_DAY - 1, HALF_DAY, HALF_DAY + 1, DAY - 1].map(|fall| Limit::Fall(before, role, fall)));
             limits.extend([0, 1, HALF_DAY, HALF_DAY + 1, LEAP].map(|fall| Limit::FromLeap(before, role, fall)));
         }
+        limits.extend([HALF_DAY, HALF_DAY + 1, DAY - 1].map(|fall| Limit::Between(role, fall)));
     }
     limits
 }
@@ -192,7 +195,7 @@ pub fn file(random: &mut Random, limit: &Limit) -> Vec<u8> {
     let role = match *limit {
         Limit::After(before, role) => return neighbours(random, before, role).bytes(),
         Limit::Text(role, ..) | Limit::Character(role, _) | Limit::Length(role, _) => role,
-        Limit::Fall(_, role, _) | Limit::FromLeap(_, role, _) => role,
+        Limit::Fall(_, role, _) | Limit::FromLeap(_, role, _) | Limit::Between(role, _) => role,
         Limit::Columns(family, _) | Limit::Listed(family, ..) => family.role(),
     };
     let mut sample = match limit {
@@ -215,6 +218,13 @@ pub fn file(random: &mut Random, limit: &Limit) -> Vec<u8> {
             line[1..7].copy_from_slice(&clock(before - fall));
             let text = timed(*role, before, &sample.layouts);
             sample.lines.insert(at, Line { role: *role, text });
+        }
+        Limit::Between(_, fall) => {
+            let fixes = random.within(*fall as usize, DAY as usize - 1) as u32;
+            line[1..7].copy_from_slice(&clock(fixes - fall));
+            let fix = Line { role: Role::Fix, text: timed(Role::Fix, fixes, &sample.layouts) };
+            sample.lines.insert(at + 1, fix.clone());
+            sample.lines.insert(at, fix);
         }
     }
     sample.bytes()

@@ -11,6 +11,7 @@ pub mod pairs;
 pub mod random;
 pub mod reached;
 pub mod reached_pairs;
+pub mod reached_track;
 mod rules;
 
 use crate::reading::layouts::FAMILIES;

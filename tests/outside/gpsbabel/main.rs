@@ -1,6 +1,7 @@
-//! Holds the library's fixes and declarations against gpsbabel's track points and routes, and judges the files that gpsbabel writes:
+//! Holds the library's fixes, its track and its declarations against gpsbabel's track points and routes, and judges the files that gpsbabel writes:
 //!     gpsbabel FOLDER FILES
-//! gpsbabel makes two tracks of an IGC file, one with the pressure altitudes and one with the GNSS altitudes; an altitude of 0 it takes for unknown.
+//! gpsbabel makes two tracks of an IGC file, one with the pressure altitudes and one with the GNSS altitudes; an altitude of 0 it takes for unknown. It counts a day on where
+//! the clock falls from one fix to the next; a midnight that only an E, F, K or N line shows it does not see.
 
 #[allow(dead_code)]
 #[path = "../library.rs"]
@@ -21,11 +22,13 @@ struct Flight {
     points: Vec<[f64; 2]>,
 }
 
-/// A fix as the library tells it, with the degrees of its position.
+/// A fix as the library's track tells it, with the degrees of its position; and whether the timed line before it is a fix too.
 struct Fix {
+    day: u64,
     seconds: u64,
     degrees: [f64; 2],
     heights: [i32; 2],
+    follows: bool,
 }
 
 /// A track point as gpsbabel writes it to GPX.
@@ -69,33 +72,61 @@ fn degrees_of(told: &library::Told) -> [f64; 2] {
     degrees.map(f64::from_bits)
 }
 
-/// A file by the library: checked, stepped through, each B and C line read.
+/// The library's track of a file that has so many fixes.
+fn track_of(file: &[u8], count: u64) -> Vec<library::Record> {
+    let place = library::RecordPosition { count: 0, letter: 0 };
+    let fix = library::RecordFix { time: 0, latitude: place, longitude: place, validity: 0, pressure: 0, gnss: 0 };
+    let mut list = vec![library::Record { line: 0, day: 0, fix }; count as usize];
+    let told = library::track(file, &mut list);
+    assert_eq!((told.number, told.answer[library::TRACK_COUNT]), (0, count), "the track's count");
+    list
+}
+
+/// A fix of the track, which is what the single reading of its line gives.
+fn fix_of(record: &library::Record, line: &[u8], layout: &[u8], follows: bool) -> Fix {
+    let (told, heights) = library::fix(line, layout);
+    let (v, r) = (told.answer, record.fix);
+    let places = [r.latitude.count, r.latitude.letter.into(), r.longitude.count, r.longitude.letter.into()];
+    assert_eq!(
+        (v[2], &v[3..7], v[7], heights),
+        (r.time.into(), &places[..], r.validity.into(), [r.pressure, r.gnss]),
+        "a record of the track"
+    );
+    Fix { day: record.day.into(), seconds: v[2], degrees: degrees_of(&told), heights, follows }
+}
+
+/// A file by the library: checked, stepped through, each B and C line read, the B lines also as its track.
 fn flight(file: &[u8]) -> Flight {
     let mut table = vec![0; file.len() / 3 + 1];
     let told = library::check_file(file, &mut table);
     assert_eq!(told.number, 0, "a valid file is accepted: {:?}", told.answer);
     let date = [told.answer[2], told.answer[3], told.answer[4]];
     let mut flight = Flight { date, fixes: Vec::new(), head: None, points: Vec::new() };
-    let (mut layout, mut place): (&[u8], usize) = (b"", 0);
-    loop {
+    let track = track_of(file, told.answer[library::B_LINES]);
+    let (mut layout, mut place, mut follows): (&[u8], usize, bool) = (b"", 0, false);
+    for number in 1.. {
         let step = library::step(file, place);
         assert_eq!(step.number, 0);
         if step.answer[5] == 0 {
-            return flight;
+            break;
         }
         let line = &file[step.answer[2] as usize..(step.answer[2] + step.answer[3]) as usize];
         place = step.answer[4] as usize;
         match line[0] {
             b'I' => layout = line,
             b'B' => {
-                let (told, heights) = library::fix(line, layout);
-                flight.fixes.push(Fix { seconds: told.answer[2], degrees: degrees_of(&told), heights });
+                let record = &track[flight.fixes.len()];
+                assert_eq!(record.line, number, "the line of a record");
+                flight.fixes.push(fix_of(record, line, layout, follows));
+                follows = true;
             }
+            b'E' | b'F' | b'K' | b'N' => follows = false,
             b'C' if flight.head.is_none() => flight.head = Some(library::head(line).answer),
             b'C' => flight.points.push(degrees_of(&library::point(line))),
             _ => {}
         }
     }
+    flight
 }
 
 fn babel(words: &[&str]) {
@@ -124,7 +155,7 @@ fn track(gpx: &str, name: &str) -> Vec<Point> {
     track.split("<trkpt").skip(1).map(point).collect()
 }
 
-/// The day after: gpsbabel counts a day on at each fall of the clock from one fix to the next.
+/// The day after.
 fn next_day([day, month, year]: [u64; 3]) -> [u64; 3] {
     if day < days_in(month as u32, year as u32).into() {
         [day + 1, month, year]
@@ -176,10 +207,14 @@ fn hold_tracks(gpx: &str, date: [u64; 3], fixes: &[Fix]) -> (usize, usize) {
         assert_eq!(track.len(), fixes.len(), "points of {name}");
         let (mut day, mut clock) = (date, 0);
         for (n, (point, fix)) in track.iter().zip(fixes).enumerate() {
-            if fix.seconds < clock {
+            let falls = fix.seconds < clock;
+            if falls {
                 day = next_day(day);
             }
             clock = fix.seconds;
+            if n > 0 && fix.follows {
+                assert_eq!(fix.day - fixes[n - 1].day, falls.into(), "day of point {n} of {name}");
+            }
             assert_eq!(point.time, time_text(day, clock), "time of point {n} of {name}");
             assert!(near(point.degrees, fix.degrees), "point {n} of {name}: {:?} and {:?}", point.degrees, fix.degrees);
             let height = (fix.heights[which] != 0).then_some(f64::from(fix.heights[which]));

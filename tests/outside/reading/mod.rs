@@ -15,6 +15,8 @@ pub mod merge;
 pub mod places;
 pub mod readers;
 pub mod refusals;
+pub mod track;
+pub mod tracked;
 pub mod writers;
 
 pub use degrees::degrees;
@@ -30,4 +32,6 @@ pub use readers::{
     read_column, read_date, read_event, read_extra, read_fix, read_head, read_layout, read_number, read_point, read_satellites,
 };
 pub use refusals::{Answer, Fault, Read, Refusal};
+pub use track::{Record, track, track_into};
+pub use tracked::tracked;
 pub use writers::{write_extra, write_fix, write_head, write_layout, write_point};

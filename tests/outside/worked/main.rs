@@ -13,6 +13,7 @@ mod places;
 mod printed;
 mod programs;
 mod readers;
+mod track;
 mod unsigned;
 mod writers;
 

@@ -1,0 +1,2 @@
+-- What the call that makes a file's track answers.
+pub mod Calls

@@ -1,0 +1,2 @@
+-- The promise of a position's sign.
+pub mod Signs

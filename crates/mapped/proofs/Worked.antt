@@ -1,0 +1,84 @@
+-- A flight over three midnights, worked out by hand: its track, the answers for lists of several lengths, and the lists afterwards; then a file that is refused, and one without B
+-- lines. Computed. Assumes nothing.
+use Prim.Native.Nat.{ℕ}
+use Prim.Native.Char.{code}
+use mathlib.Core.List.{List, [], _∷_, _++_}
+use mathlib.Core.Path.{_≡_, refl}
+use lib.IntN.{pos, negℤ}
+use lib.ListN.{replicate}
+use Rattle.rules.specs.Layouts.{emptyLayout}
+use Rattle.rules.specs.Refusals.{says, refuses}
+use Rattle.rules.specs.declared.Fix.{Fix}
+use Rattle.rules.proofs.Computed.{everything, fileOf}
+use Rattle.next_fix.specs.Track.{trackFrom, trackOf, flightTracked, trackSaid, listAfter}
+use Rattle.next_fix.specs.declared.Record.{Record}
+
+-- The first midnight shows between a B and a K line; the second, a fall of 43,201, between a K and an N line, and no B line falls there; the third is behind the leap second of an
+-- E line. Lines 3, 8, 12 and 14 are B lines.
+abbrev pub nights : List ℕ
+unfolding fileOf
+nights =
+    fileOf
+    ("AXYZ001" ∷ "HFDTE311216" ∷ "B2359585130000N00015000WA0010000120" ∷ "K000001" ∷ "E000002PEV" ∷ "N000003" ∷ "F000004" ∷ "B0000055130001N00015001WV0010100121" ∷ "LXYZ a note"
+    ∷ "K120006" ∷ "N000005" ∷ "B0000065130002S00015002EA-001200122" ∷ "E235960PEV" ∷ "B0000005130003N00015003WA0010300123" ∷ "GABC" ∷ [])
+
+-- line, day and fix
+abbrev pub row : ℕ → ℕ → Fix → Record
+row line day fix = record { line = line; day = day; fix = fix }
+
+-- 51 degrees 30 minutes are 3,090,000 thousandths of a minute, 15 minutes 15,000
+abbrev pub tracked : List Record
+tracked =
+    row 3 0 (record { time = 86398; lat = record { count = 3090000; letter = code "N" }; lon = record { count = 15000; letter = code "W" }; validity = code "A"; pressure = record { metres = pos 100 }; gnss = record { metres = pos 120 } })
+    ∷ row 8 1 (record { time = 5; lat = record { count = 3090001; letter = code "N" }; lon = record { count = 15001; letter = code "W" }; validity = code "V"; pressure = record { metres = pos 101 }; gnss = record { metres = pos 121 } })
+    ∷ row 12 2 (record { time = 6; lat = record { count = 3090002; letter = code "S" }; lon = record { count = 15002; letter = code "E" }; validity = code "A"; pressure = record { metres = negℤ (pos 12) }; gnss = record { metres = pos 122 } })
+    ∷ row 14 3 (record { time = 0; lat = record { count = 3090003; letter = code "N" }; lon = record { count = 15003; letter = code "W" }; validity = code "A"; pressure = record { metres = pos 103 }; gnss = record { metres = pos 123 } })
+    ∷ []
+
+pub track-of-nights : trackOf nights emptyLayout ≡ tracked
+unfolding everything fileOf trackFrom
+track-of-nights = refl
+
+-- "Refusals: the file's own, then 18 if the list is short"; "the count is the number of B lines"
+pub said-of-nights : (trackSaid nights 4 ≡ says 4) × (trackSaid nights 5 ≡ says 4) × (trackSaid nights 3 ≡ refuses 18 0 0) × (trackSaid [] 9 ≡ refuses 1 0 0)
+unfolding everything fileOf flightTracked
+said-of-nights = (refl, refl, refl, refl)
+
+-- a record that no file has
+abbrev pub lent : Record
+lent = row 99 99 (record { time = 99; lat = record { count = 99; letter = 99 }; lon = record { count = 99; letter = 99 }; validity = 99; pressure = record { metres = pos 99 }; gnss = record { metres = pos 99 } })
+
+-- "records beyond stay as lent"; "with no record changed"
+pub list-of-nights : (listAfter nights (replicate 6 lent) ≡ tracked ++ (lent ∷ lent ∷ [])) × (listAfter nights (replicate 3 lent) ≡ replicate 3 lent)
+unfolding everything fileOf trackFrom flightTracked
+list-of-nights = (refl, refl)
+
+-- ---- a file refused, with a list that is too short as well
+
+-- a G line is missing: "the file's own, then 18 if the list is short". The file ends before line 5, and its two B lines have no room in a list of one
+abbrev pub unsealed : List ℕ
+unfolding fileOf
+unsealed = fileOf ("AXYZ001" ∷ "HFDTE311216" ∷ "B2359585130000N00015000WA0010000120" ∷ "B0000055130001N00015001WV0010100121" ∷ [])
+
+pub said-of-unsealed : (trackSaid unsealed 2 ≡ refuses 16 5 0) × (trackSaid unsealed 1 ≡ refuses 16 5 0) × (trackSaid unsealed 0 ≡ refuses 16 5 0)
+unfolding everything fileOf flightTracked
+said-of-unsealed = (refl, refl, refl)
+
+pub list-of-unsealed : (listAfter unsealed (replicate 2 lent) ≡ replicate 2 lent) × (listAfter unsealed (lent ∷ []) ≡ lent ∷ [])
+unfolding everything fileOf trackFrom flightTracked
+list-of-unsealed = (refl, refl)
+
+-- ---- a file without B lines
+
+-- its time goes on in a K line; no record is stored, and an empty list is long enough
+abbrev pub grounded : List ℕ
+unfolding fileOf
+grounded = fileOf ("AXYZ001" ∷ "HFDTE311216" ∷ "K120000" ∷ "GABC" ∷ [])
+
+pub said-of-grounded : (trackSaid grounded 0 ≡ says 0) × (trackSaid grounded 2 ≡ says 0)
+unfolding everything fileOf flightTracked
+said-of-grounded = (refl, refl)
+
+pub list-of-grounded : (listAfter grounded [] ≡ []) × (listAfter grounded (replicate 2 lent) ≡ replicate 2 lent)
+unfolding everything fileOf trackFrom flightTracked
+list-of-grounded = (refl, refl)

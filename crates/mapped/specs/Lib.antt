@@ -1,0 +1,2 @@
+-- The words of what is demanded of a track.
+pub mod Mapped

@@ -1,0 +1,4 @@
+-- The laws of this crate.
+pub mod Laws
+pub mod Going
+pub mod Only

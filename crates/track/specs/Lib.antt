@@ -1,0 +1,3 @@
+-- The promises of this crate.
+pub mod Stored
+pub mod Tracks

@@ -1,0 +1,66 @@
+-- The answer of a track in the paper's terms, what is planned for a list, and the promise of the whole track.
+use Prim.Native.Nat.{ℕ}
+use mathlib.Core.List.{List}
+use mathlib.Core.Path.{_≡_}
+use lib.Dec.{leb}
+use lib.ListN.{length}
+use Rattle.rules.specs.Choice.{need}
+use Rattle.rules.specs.Families.{countOf}
+use Rattle.rules.specs.Layouts.{lengthSaid}
+use Rattle.rules.specs.Refusals.{Said, says, refuses, no, refusal, andThen, valueOr}
+use Rattle.rules.specs.declared.Family.the-variants as family
+use Rattle.rules.specs.declared.Flight.{Flight}
+use Rattle.rules.specs.declared.Reason.the-variants.{NoRoom}
+use Rattle.rules.specs.declared.Refusal.{Refusal}
+use Rattle.next_fix.specs.Track.{flightTracked, trackSaid, listAfter}
+use Rattle.next_fix.specs.declared.Record.{Record}
+use Rattle.next_fix.specs.declared.Progress.{Progress}
+use Rattle.track.specs.declared.Course.{Course}
+use Rattle.track.specs.declared.Tracked.{Tracked}
+use Rattle.track.specs.declared.Tracked.the-variants as tracked
+
+-- the answer, in the paper's terms
+unfoldable pub trackedTold : Tracked → Said ℕ
+trackedTold (tracked.Count n) = says n
+trackedTold (tracked.Refused r) = refusal r
+
+-- before the first line
+abbrev pub startBy : ℕ → Progress
+startBy size = record { at = 0; lines = 0; clock = 0; day = 0; size = size }
+
+abbrev pub StartGiven : ℕ → Progress → Type 0
+StartGiven size r = r ≡ startBy size
+
+-- how many bytes a B line has by the file's layout
+abbrev pub fixSize : Flight → ℕ
+fixSize f = valueOr 0 (lengthSaid family.B (f .layouts .b))
+
+-- how many records are to be stored, and where the reading starts; nothing where refused
+abbrev pub countIn : Said Flight → ℕ
+countIn (says f) = countOf family.B (f .counts)
+countIn (refuses n l b) = 0
+
+abbrev pub startIn : Said Flight → Progress
+startIn (says f) = startBy (fixSize f)
+startIn (refuses n l b) = startBy 0
+
+-- the plan for what is said of a file
+pub record CourseTold (s : Said Flight) (r : Course) : Type 0 where
+  pub told : trackedTold (r .answer) ≡ andThen s λ f. says (countOf family.B (f .counts))
+  pub count : r .count ≡ countIn s
+  pub start : r .start ≡ startIn s
+
+abbrev pub CourseRefused : Refusal → Course → Type 0
+CourseRefused w r = CourseTold (refusal w) r
+
+abbrev pub FlightPlanned : Flight → ℕ → Course → Type 0
+FlightPlanned f room r = CourseTold (need (leb (countOf family.B (f .counts)) room) (no NoRoom 0) λ _. says f) r
+
+-- "Refusals: the file's own, then 18 if the list is short"
+abbrev pub CoursePlanned : List ℕ → ℕ → Course → Type 0
+CoursePlanned file room r = CourseTold (flightTracked file room) r
+
+-- "all fixes of an accepted file in one call, as a lent list of fix records": the answer, and the list afterwards
+pub record FileTracked (file : List ℕ) (list : List Record) (r : Tracked) (after : List Record) : Type 0 where
+  pub told : trackedTold r ≡ trackSaid file (length list)
+  pub records : after ≡ listAfter file list

@@ -1,0 +1,20 @@
+-- `trail::put_degrees` meets its contract. Assumes nothing.
+use borrow.Author.Needs.{needs}
+use Rattle.pieces.proofs.Laws.{pieces}
+use Rattle.trail.proofs.Laws.{minus-fills, plain-fills}
+use Rattle.trail.proofs.put_degrees.Statement.{statement}
+use Rattle.trail.proofs.put_degrees.Tie as tie
+
+pub put-degrees-spec : {M : Type 1} → statement M
+put-degrees-spec =
+    tie.close
+    (tie.spec
+    (λ c κs. search needs)
+    (λ c κs. search needs)
+    (λ c κs. search needs)
+    (λ c κs. search needs)
+    (λ c. search needs)
+    (λ c. search (pieces, minus-fills, plain-fills) depth 16)
+    (λ c κs. search needs)
+    (λ c. search needs)
+    (λ c. search (pieces, minus-fills, plain-fills) depth 16))

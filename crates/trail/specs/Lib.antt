@@ -1,0 +1,2 @@
+-- The text of a track's record, for people.
+pub mod Trail
