@@ -12,9 +12,10 @@ struct answer {
     uint32_t lines, b_lines, k_lines;
     uint32_t b_length, k_length;
     uint32_t n_lines, n_length;
+    uint32_t has_seal; /* 1 where there is a G line, else 0 */
 };
 
-/* Checks a file; the table gets the offset of each good line, and its other entries stay. */
+/* The usual check of a file; the table gets the offset of each good line, and its other entries stay. */
 struct answer check(const uint8_t *file, size_t length, uint32_t *table, size_t entries);
 
 /* The same, with the lines that are surely good taken in runs: in the shape that the library's own check has, and as fast as we can in C. */

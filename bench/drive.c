@@ -46,7 +46,7 @@ struct said {
 
 static struct said told(struct answer a)
 {
-    return (struct said){a.number, {a.line, a.byte, a.day, a.month, a.year, a.lines, a.b_lines, a.k_lines, a.b_length, a.k_length, a.n_lines, a.n_length}};
+    return (struct said){a.number, {a.line, a.byte, a.day, a.month, a.year, a.lines, a.b_lines, a.k_lines, a.b_length, a.k_length, a.n_lines, a.n_length, a.has_seal}};
 }
 
 /* One check timed. */

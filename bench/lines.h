@@ -453,12 +453,13 @@ static inline bool may_run(const struct state *state, uint8_t kind)
 /* The answer of a file that has no line left. */
 static struct answer ended(const struct state *state)
 {
-    if (state->points_due > 0 || state->stage < SEAL)
+    if (state->points_due > 0 || state->stage < HEADERS)
         return refuse(16, state->said.lines + 1, 0);
     struct answer said = state->said;
     said.b_length = state->fixes.length;
     said.k_length = state->notes.length;
     said.n_length = state->unsigned_notes.length;
+    said.has_seal = state->stage >= SEAL;
     return said;
 }
 

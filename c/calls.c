@@ -12,6 +12,10 @@ static const char FIVE[] = "AXYZ001\r\nHFDTE150724\r\nI023638FXA3940SIU\r\nB1200
 /* An M line and an N line beside them; the column is an unlisted one. */
 static const char SEVEN[] =
     "AXYZ001\r\nHFDTE150724\r\nI023638FXA3940SIU\r\nM010811HRT\r\nB1200005130000N00015000WA001000012001208\r\nN1200050072\r\nGABC\r\n";
+/* No G line. */
+static const char FOUR[] = "AXYZ001\r\nHFDTE150724\r\nI023638FXA3940SIU\r\nB1200005130000N00015000WA001000012001208\r\n";
+/* A declaration of two turn points that has only its head. */
+static const char OPEN[] = "AXYZ001\r\nHFDTE150724\r\nC150724093000000000000102\r\n";
 static const char I[] = "I023638FXA3940SIU";
 static const char J[] = "J010810HDT";
 static const char M[] = "M010811HRT";
@@ -95,17 +99,38 @@ static void say_list(const char *name, uint32_t returned) {
     say(name, returned);
 }
 
+static void say_table(const uint32_t *table) {
+    for (int i = 0; i < 6; i++)
+        printf(i < 5 ? "%u " : "%u\n", (unsigned)table[i]);
+}
+
+static void strict(void) {
+    uint32_t table[6] = {7, 7, 7, 7, 7, 7};
+    say("strict check, answer of 15", hive_check_strict(TEXT(FIVE), table, 6, answer, 15));
+    say_table(table);
+    say("strict check, no G line", hive_check_strict(TEXT(FOUR), table, 6, answer, HIVE_ANSWER));
+    say_table(table);
+    say("strict check", hive_check_strict(TEXT(FIVE), table, 6, answer, HIVE_ANSWER));
+    say_table(table);
+    say("strict check, an L line last", hive_check_strict(TEXT("AXYZ001\r\nHFDTE150724\r\nLXYZ\r\n"), table, 6, answer, HIVE_ANSWER));
+    say("strict check, an open declaration", hive_check_strict(TEXT(OPEN), table, 6, answer, HIVE_ANSWER));
+}
+
 static void files(void) {
     uint32_t table[6] = {7, 7, 7, 7, 7, 7};
     say("check, answer of 15", hive_check(TEXT(FIVE), table, 6, answer, 15));
     printf("table %u %u %u\n", (unsigned)table[0], (unsigned)table[1], (unsigned)table[5]);
     say("check", hive_check(TEXT(FIVE), table, 6, answer, HIVE_ANSWER));
-    for (int i = 0; i < 6; i++)
-        printf(i < 5 ? "%u " : "%u\n", (unsigned)table[i]);
+    say_table(table);
     say("check, table of 2", hive_check(TEXT(FIVE), table, 2, answer, HIVE_ANSWER));
     say("check, nothing", hive_check(NULL, 0, NULL, 0, answer, HIVE_ANSWER));
     uint32_t more[7];
     say("check, with an N line", hive_check(TEXT(SEVEN), more, 7, answer, HIVE_ANSWER));
+    say("check, no G line", hive_check(TEXT(FOUR), more, 7, answer, HIVE_ANSWER));
+    say("check, line 1 alone", hive_check(TEXT("AXYZ001\r\n"), more, 7, answer, HIVE_ANSWER));
+    say("check, an open declaration", hive_check(TEXT(OPEN), more, 7, answer, HIVE_ANSWER));
+    say("check, an L line behind the G line", hive_check(TEXT("AXYZ001\r\nHFDTE150724\r\nGABC\r\nLXYZ\r\n"), more, 7, answer, HIVE_ANSWER));
+    strict();
     say("line 4", hive_line(TEXT(FIVE), table, 5, 4, answer, HIVE_ANSWER));
     say("line 0", hive_line(TEXT(FIVE), table, 5, 0, answer, HIVE_ANSWER));
     say("line 6 of 5", hive_line(TEXT(FIVE), table, 5, 6, answer, HIVE_ANSWER));
@@ -211,6 +236,8 @@ static void writers(void) {
 #define SHORT "AXYZ001\r\nHFDTE150724\r\nGABC\r\n"
 static const char DAY[] = SHORT "LB\r\nLA\r\n";
 static const char EVENING[] = SHORT "LA\r\nLA\r\nLAB\r\n";
+/* The same file without its G line, with a note. */
+static const char UNSIGNED[] = "AXYZ001\r\nHFDTE150724\r\nLB\r\n";
 
 static void merging(void) {
     say_out("merge", hive_merge(TEXT(DAY), TEXT(EVENING), out, sizeof out, answer, HIVE_ANSWER));
@@ -219,6 +246,8 @@ static void merging(void) {
     say_out("merge, other flights", hive_merge(TEXT(DAY), TEXT(FIVE), out, sizeof out, answer, HIVE_ANSWER));
     say_out("merge, the first refused", hive_merge(TEXT("XYZ"), NULL, 0, out, sizeof out, answer, HIVE_ANSWER));
     say_out("merge, the second refused", hive_merge(TEXT(DAY), TEXT("XYZ"), out, sizeof out, answer, HIVE_ANSWER));
+    say_out("merge, the second not signed", hive_merge(TEXT(DAY), TEXT(UNSIGNED), out, sizeof out, answer, HIVE_ANSWER));
+    say_out("merge, neither signed", hive_merge(TEXT(UNSIGNED), TEXT(UNSIGNED), out, sizeof out, answer, HIVE_ANSWER));
     say_out("merge, answer of 15", hive_merge(TEXT(DAY), TEXT(EVENING), out, sizeof out, answer, 15));
 }
 

@@ -74,9 +74,10 @@ enum { HIVE_REFUSED_LINE = 0, HIVE_REFUSED_BYTE = 1 };
 
 /* ---- a file */
 
-/* The check of a whole file, with the table of its lines' offsets. Refused with 1 to 16 or 22 to 25. The table's first entries are set for the lines before the faulty
-   one (16 or good: for all lines); the others stay.
-       2 day  3 month  4 year  5 lines  6 B lines  7 K lines  8 bytes of a B line  9 bytes of a K line  10 N lines  11 bytes of an N line */
+/* The usual check of a whole file, with the table of its lines' offsets. Refused with 1 to 16 or 22 to 25; with 16 inside a declaration, and where the file ends before its second
+   line. A file with no G line is good, and told as not signed. The table's first entries are set for the lines before the faulty one (16 or good: for all lines); the others stay.
+       2 day  3 month  4 year  5 lines  6 B lines  7 K lines  8 bytes of a B line  9 bytes of a K line  10 N lines  11 bytes of an N line
+       12 signed: 1 where the file has a G line, else 0 */
 enum {
     HIVE_DAY = 2,
     HIVE_MONTH = 3,
@@ -87,11 +88,17 @@ enum {
     HIVE_B_LENGTH = 8,
     HIVE_K_LENGTH = 9,
     HIVE_N_LINES = 10,
-    HIVE_N_LENGTH = 11
+    HIVE_N_LENGTH = 11,
+    HIVE_SIGNED = 12
 };
 uint32_t hive_check(const uint8_t *file, size_t file_length,
                     uint32_t *table, size_t table_length,
                     uint64_t *answer, size_t answer_length);
+
+/* The strict check, for files of which a claim is made: as hive_check, and refused with 16, behind the last line, where there is no G line. The values are those of hive_check. */
+uint32_t hive_check_strict(const uint8_t *file, size_t file_length,
+                           uint32_t *table, size_t table_length,
+                           uint64_t *answer, size_t answer_length);
 
 /* Line `number`, counted from 1, by the table. 17 where the number is 0 or past the table's length, where the table's entry is neither 0 nor just past a CR LF, and
    where no CR LF comes from there on.
@@ -111,7 +118,7 @@ uint32_t hive_step(const uint8_t *file, size_t file_length,
                    uint64_t *answer, size_t answer_length);
 
 /* Two copies of a file merged into an output: everything up to the end of the last G line, which both must have in common, then the L lines behind it in ascending byte
-   order, a line that begins another first, each as often as in the copy that has it more often. The order of the copies changes no byte. Refused with what hive_check
+   order, a line that begins another first, each as often as in the copy that has it more often. The order of the copies changes no byte. Refused with what hive_check_strict
    refuses of the first file, then of the second (without 15), with line and byte; then HIVE_NOT_SAME where the bytes up to the end of the last G lines differ, HIVE_TOO_LONG
    where the merged file would be over 16,777,216 bytes (HIVE_WHOSE tells it from that of a file), and HIVE_NO_ROOM where out is shorter than it, these three with line 0 and
    byte 0. out is unchanged where refused; its bytes behind the merged file stay.

@@ -2,7 +2,7 @@
 
 pub const ANSWER: usize = 16;
 
-/// Places in the answer of hive_check.
+/// Places in the answer of hive_check and of hive_check_strict.
 pub const DAY: usize = 2;
 pub const MONTH: usize = 3;
 pub const YEAR: usize = 4;
@@ -13,6 +13,7 @@ pub const B_LENGTH: usize = 8;
 pub const K_LENGTH: usize = 9;
 pub const N_LINES: usize = 10;
 pub const N_LENGTH: usize = 11;
+pub const SIGNED: usize = 12;
 
 /// Places in the answer of hive_merge: the result's length; where a copy is refused, 1 for the first and 2 for the second.
 pub const MERGED_LENGTH: usize = 2;
@@ -73,6 +74,7 @@ mod c {
 
     unsafe extern "C" {
         pub fn hive_check(f: *const u8, fl: usize, t: *mut u32, tl: usize, a: *mut u64, al: usize) -> u32;
+        pub fn hive_check_strict(f: *const u8, fl: usize, t: *mut u32, tl: usize, a: *mut u64, al: usize) -> u32;
         pub fn hive_line(f: *const u8, fl: usize, t: *const u32, tl: usize, n: usize, a: *mut u64, al: usize) -> u32;
         pub fn hive_step(f: *const u8, fl: usize, place: usize, a: *mut u64, al: usize) -> u32;
         pub fn hive_fix(s: *const u8, sl: usize, y: *const u8, yl: usize, a: *mut u64, al: usize, h: *mut i32, hl: usize) -> u32;
@@ -185,7 +187,7 @@ mod c {
 struct ByHand {
     number: u32,
     place: [u32; 2],
-    values: [u32; 10],
+    values: [u32; 11],
 }
 
 unsafe extern "C" {
@@ -222,13 +224,24 @@ fn told(call: impl FnOnce(*mut u64, usize) -> u32) -> Told {
     Told { number, answer }
 }
 
-pub fn check_file(file: &[u8], table: &mut [u32]) -> Told {
+/// The usual check.
+pub fn check_usual(file: &[u8], table: &mut [u32]) -> Told {
     told(|a, al| unsafe { c::hive_check(file.as_ptr(), file.len(), table.as_mut_ptr(), table.len(), a, al) })
 }
 
-/// The check with an answer of any length, which the library must refuse where it is not the one it asks for.
-pub fn check_answering(file: &[u8], table: &mut [u32], answer: &mut [u64]) -> u32 {
+/// The strict check.
+pub fn check_strict(file: &[u8], table: &mut [u32]) -> Told {
+    told(|a, al| unsafe { c::hive_check_strict(file.as_ptr(), file.len(), table.as_mut_ptr(), table.len(), a, al) })
+}
+
+/// The usual check with an answer of any length, which the library must refuse where it is not the one it asks for.
+pub fn check_usual_answering(file: &[u8], table: &mut [u32], answer: &mut [u64]) -> u32 {
     unsafe { c::hive_check(file.as_ptr(), file.len(), table.as_mut_ptr(), table.len(), answer.as_mut_ptr(), answer.len()) }
+}
+
+/// The strict check with an answer of any length.
+pub fn check_strict_answering(file: &[u8], table: &mut [u32], answer: &mut [u64]) -> u32 {
+    unsafe { c::hive_check_strict(file.as_ptr(), file.len(), table.as_mut_ptr(), table.len(), answer.as_mut_ptr(), answer.len()) }
 }
 
 pub fn line(file: &[u8], table: &[u32], number: usize) -> Told {
@@ -439,8 +452,9 @@ pub fn write_point(latitude: (u64, u8), longitude: (u64, u8), text: &[u8], place
 }
 
 /// Every operation that a run must have asked.
-pub const OPERATIONS: [&str; 24] = [
+pub const OPERATIONS: [&str; 25] = [
     "hive_check",
+    "hive_check_strict",
     "hive_line",
     "hive_step",
     "hive_fix",

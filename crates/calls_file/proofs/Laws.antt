@@ -13,7 +13,7 @@ use Rattle.rules.specs.Refusals.{Said, says, refuses, outcome, outcomeTold, val
 use Rattle.rules.specs.declared.Checked.{Checked}
 use Rattle.rules.specs.declared.Outcome.{Outcome}
 use Rattle.rules.specs.declared.Outcome.the-variants as outcomes
-use Rattle.rules.specs.declared.Seal.the-variants as seal
+use Rattle.rules.specs.declared.Seal.{Seal}
 use Rattle.answers.specs.Answers.{size, AnswerGiven, inNumbers, outcomeNumbers}
 use Rattle.answers.specs.declared.Numbers.{Numbers}
 use Rattle.answers.proofs.Laws.{no-room, same-numbers}
@@ -31,14 +31,14 @@ numbers-said values d v (outcomes.Refused r) (says w) e h = let z : _≡_ {A = �
 
 -- ---- the check of a file
 
-module _ (file table answer : List ℕ) where
-  pub check-no-room : (length answer ≡ size → ⊥) → CheckAnswered file table answer 17 table answer
+module _ (seal : Seal) (file table answer : List ℕ) where
+  pub check-no-room : (length answer ≡ size → ⊥) → CheckAnswered seal file table answer 17 table answer
   check-no-room h = record { told = no-room _ _ h; entries = rw (ne-eqb (length answer) size h) }
 
-  pub check-room : (checked : Checked) (n : Numbers) (r : ℕ) (tableNow answerNow : List ℕ) → length answer ≡ size → FileChecked seal.Strict file table checked tableNow → n ≡ checkedNumbers checked → AnswerGiven answer n r answerNow → CheckAnswered file table answer r tableNow answerNow
+  pub check-room : (checked : Checked) (n : Numbers) (r : ℕ) (tableNow answerNow : List ℕ) → length answer ≡ size → FileChecked seal file table checked tableNow → n ≡ checkedNumbers checked → AnswerGiven answer n r answerNow → CheckAnswered seal file table answer r tableNow answerNow
   unfolding checkedNumbers
   check-room checked n r tableNow answerNow h f e a =
       record {
-        told = same-numbers _ _ _ _ _ _ (e ∙ numbers-said flightNumbers noFlight _ _ (verdict seal.Strict file (some (length table))) (f .told .answer) (f .told .flight)) a;
+        told = same-numbers _ _ _ _ _ _ (e ∙ numbers-said flightNumbers noFlight _ _ (verdict seal file (some (length table))) (f .told .answer) (f .told .flight)) a;
         entries = rw (eq-eqb (length answer) size h) (f .entries);
       }

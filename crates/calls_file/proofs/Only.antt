@@ -2,9 +2,18 @@
 use Prim.Native.Nat.{ℕ}
 use mathlib.Core.List.{List}
 use mathlib.Core.Path.{_≡_, sym, _∙_}
-use Rattle.calls_file.specs.Calls.{CheckAnswered}
+use Rattle.rules.specs.declared.Seal.{Seal}
+use Rattle.rules.specs.declared.Seal.the-variants as seal
+use Rattle.calls_file.specs.Calls.{CheckAnswered, UsuallyChecked, StrictlyChecked}
 
-module _ (file table answer : List ℕ) (r r′ : ℕ) (after after′ : List ℕ) where
-  pub only-check-answered : (tableNow tableNow′ : List ℕ) → CheckAnswered file table answer r tableNow after → CheckAnswered file table answer r′ tableNow′ after′ → (r ≡ r′) × (tableNow ≡ tableNow′) × (after ≡ after′)
+module _ (seal : Seal) (file table answer : List ℕ) (r r′ : ℕ) (after after′ : List ℕ) where
+  pub only-check-answered : (tableNow tableNow′ : List ℕ) → CheckAnswered seal file table answer r tableNow after → CheckAnswered seal file table answer r′ tableNow′ after′ → (r ≡ r′) × (tableNow ≡ tableNow′) × (after ≡ after′)
   only-check-answered tableNow tableNow′ c c′ =
       (c .told .number ∙ sym (c′ .told .number), c .entries ∙ sym (c′ .entries), c .told .numbers ∙ sym (c′ .told .numbers))
+
+module _ (file table answer : List ℕ) (r r′ : ℕ) (after after′ tableNow tableNow′ : List ℕ) where
+  pub only-usually-checked : UsuallyChecked file table answer r tableNow after → UsuallyChecked file table answer r′ tableNow′ after′ → (r ≡ r′) × (tableNow ≡ tableNow′) × (after ≡ after′)
+  only-usually-checked = only-check-answered seal.Usual file table answer r r′ after after′ tableNow tableNow′
+
+  pub only-strictly-checked : StrictlyChecked file table answer r tableNow after → StrictlyChecked file table answer r′ tableNow′ after′ → (r ≡ r′) × (tableNow ≡ tableNow′) × (after ≡ after′)
+  only-strictly-checked = only-check-answered seal.Strict file table answer r r′ after after′ tableNow tableNow′

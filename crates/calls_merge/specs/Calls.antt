@@ -27,7 +27,7 @@ mergeNumbers (ofFirst n l b) = fileRefused n l b 1
 mergeNumbers (ofSecond n l b) = fileRefused n l b 2
 mergeNumbers (ofNeither n l b) = refusing n l b
 
--- "Given two accepted files .. make one": of the notes brought together the number returned, the answer and the output are told; an answer of another length leaves all as it was
+-- "Given two accepted files .. make one", accepted by the strict check: of the notes brought together the number returned, the answer and the output are told; an answer of another length leaves all as it was
 pub record MergeAnswered (first second out answer : List ℕ) (r : ℕ) (outNow answerNow : List ℕ) : Type 0 where
   pub notes : List (List ℕ)
   pub together : Together notAfter (notesIn (linesOf first)) (notesIn (linesOf second)) notes

@@ -1,4 +1,4 @@
-// What igc writes, its answers on standard output and what is no answer on standard error; the words that it was started with, and a new file made.
+// What igc and badge write, their answers on standard output and what is no answer on standard error; the words that they were started with, and a new file made.
 mod making;
 mod words;
 
@@ -34,13 +34,18 @@ pub(crate) fn print_usage(fd: i32) -> bool {
     io::write_all(fd, &text)
 }
 
-// What became of a file whose answer was written, or was not: then that is said, once.
-pub fn fate_of(written: bool, fate: Fate) -> Fate {
+// What became of a file whose answer was written, or was not: then that is said, once, in these words.
+pub fn fate_by(words: &[u8], written: bool, fate: Fate) -> Fate {
     if !written {
-        os::fail(b"igc: the output could not be written");
+        os::fail(words);
         return Fate::Unwritten;
     }
     fate
+}
+
+// The same, said by igc.
+pub fn fate_of(written: bool, fate: Fate) -> Fate {
+    fate_by(b"igc: the output could not be written", written, fate)
 }
 
 // The line before what is printed of a file, where there are several.
@@ -77,10 +82,16 @@ pub fn print_noted(name: &[u8], notes: usize) -> bool {
     write(&out[..n])
 }
 
-// The check that igc makes accepts no file without a G line, so each one that it accepts is signed.
 pub fn print_accepted(name: &[u8], flight: Flight) -> bool {
     let mut out = [0u8; 4608];
-    let n = notice::accepted(name, flight, true, &mut out);
+    let n = notice::accepted(name, flight, &mut out);
+    write(&out[..n])
+}
+
+// The line of a file in the badge list.
+pub fn print_fit(name: &[u8], flight: Flight, file: &[u8]) -> bool {
+    let mut out = [0u8; 4608];
+    let n = notice::fit(name, flight, file, &mut out);
     write(&out[..n])
 }
 

@@ -1,15 +1,16 @@
 -- A file is accepted exactly when it meets the grammar and its lines fit the table, and then the answer is what the grammar says of it. Assumes nothing.
 use Prim.Native.Nat.{ℕ, _+_, _-_, _≤_}
 use Prim.Native.Char.{code}
-use mathlib.Core.Bool.{true, false}
+use mathlib.Core.Bool.{Bool, true, false, _||_, cond, or-true, or-false}
 use mathlib.Core.List.{List, [], _∷_, _++_, append-nil, append-assoc}
 use mathlib.Core.Logic.{inl, _↔_}
 use mathlib.Core.Option.{Option, none}
 use mathlib.Core.Path.{_≡_, refl, sym, _∙_, ap, subst}
+use native.Mathlib.Nat.{zero-add}
 use native.Mathlib.Omega.{arith}
 use borrow.Author.Tests.{le-leb, leb-true, eqb-true}
 use lib.Dec.{eqb, leb}
-use lib.ListN.{length}
+use lib.ListN.{length, getD}
 use Rattle.rules.specs.Choice.{Each}
 use Rattle.rules.specs.Families.{lineLetter, layoutOf, countOf}
 use Rattle.rules.specs.Refusals.{says}
@@ -29,11 +30,12 @@ use Rattle.rules.specs.declared.Seal.the-variants as seal
 use Rattle.rules.specs.declared.State.{State}
 use Rattle.rules.proofs.Inverse.{refuses-says, need-inv}
 use Rattle.laws.proofs.Passing.{front-over}
+use Rattle.laws.proofs.Signing.{judged-signed}
 use Rattle.laws.proofs.Splitting.{none-left}
-use Rattle.demands.specs.Grammar.{IsText, OrderFrom, InOrder, IsALine, IsDateLine, AtMostOne, Parts, toldIn, linesIn, SealedBy, Keeps, joinLines, Meets, beginning, countsIn, flightOf}
+use Rattle.demands.specs.Grammar.{IsText, OrderFrom, InOrder, IsALine, IsDateLine, AtMostOne, Parts, toldIn, linesIn, SealedBy, Keeps, joinLines, Meets, beginning, countsIn, signedIn, flightOf}
 use Rattle.sound.proofs.Entries.{said-some}
 use Rattle.sound.proofs.Families.{every, all-layouts}
-use Rattle.demands.proofs.Leading.{counts-more, Part, Leads, a-line, date-line, h-line, layout-line, body-line, g-line, l-line, Sound, sound-start, judge-leads, leads-judge}
+use Rattle.demands.proofs.Leading.{letter-tests, counts-more, Part, Leads, a-line, date-line, h-line, layout-line, body-line, g-line, l-line, Sound, sound-start, judge-leads, leads-judge}
 use Rattle.demands.proofs.Leading as part
 use Rattle.demands.proofs.Sections.{Passes, done, next, passes-join, all-passed, before, begins, lines-joined, none-fit, ended, comes, passes-run, stops-run, at-end, Fresh, passes-above, Above, Section, split, above-end, section-passes, headers-there, headers-here, layout-there, layout-here, body-same, body-stage, body-there, body-here, seals-there, seals-here, seal-needed, remarks-there, remarks-here}
 
@@ -44,6 +46,17 @@ pub counts-passed : {st s : State} {ls : List (List ℕ)} → Passes st ls s →
 unfolding beginning
 counts-passed done f = omega arith
 counts-passed (next {st = st} {m = m} {l = l} e p) f = omega (arith, counts-more l st m e f, counts-passed p f)
+
+-- the lines so far have a G line among them, or these have
+pub signed-passed : {st s : State} {ls : List (List ℕ)} → Passes st ls s → s .flight .signed ≡ (signedIn ls || st .flight .signed)
+unfolding beginning
+signed-passed done = refl
+signed-passed (next {st = st} {m = m} {l = l} {ls = ls} e p) =
+    signed-passed p ∙ ap (λ b. signedIn ls || b) (judged-signed l st m e ∙ ap (λ b. b || st .flight .signed) (sym (letter-tests l .1 .1))) ∙ by (eqb (getD l 0 0) (code "G"))
+  where
+    by : (b : Bool) → (signedIn ls || (b || st .flight .signed)) ≡ (leb 1 (cond b 1 0 + beginning (code "G") ls) || st .flight .signed)
+    by true = or-true (signedIn ls) ∙ sym (ap (λ b. b || st .flight .signed) (le-leb 1 (1 + beginning (code "G") ls) (omega arith)))
+    by false = ap (λ n. leb 1 n || st .flight .signed) (sym (zero-add (beginning (code "G") ls)))
 
 -- ---- the first two lines
 
@@ -205,6 +218,7 @@ from-zero c [] e h = tt
 from-zero c (t ∷ ts) e h = (inl (omega arith), h)
 
 may-end : (needs : Seal) (gs : List (List ℕ)) (stage : ℕ) → SealedBy needs gs → afterH ≤ stage → (1 ≤ length gs → afterG ≤ stage) → endsAfter needs ≤ stage
+may-end seal.Usual gs stage s h f = h
 may-end seal.Strict gs stage s h f = f s
 
 module _ {needs : Seal} {p : Parts} {date : Date} {layouts : Layouts} {times : List ℕ} (w : Keeps needs p date layouts times) where
@@ -273,13 +287,14 @@ module _ {needs : Seal} {p : Parts} {date : Date} {layouts : Layouts} {times : L
 
 -- the grammar's reading of a file whose lines pass
 flight-is : (ls : List (List ℕ)) (s : State) (date : Date) (layouts : Layouts) → Passes start ls s → s .flight .date ≡ date → s .flight .layouts ≡ layouts
-    → record { date = date; layouts = layouts; lines = length ls; counts = countsIn ls } ≡ s .flight
+    → record { date = date; layouts = layouts; lines = length ls; counts = countsIn ls; signed = signedIn ls } ≡ s .flight
 flight-is ls s date layouts p d f =
     let l : length ls ≡ s .flight .lines = sym (all-passed p) in
     let b : beginning (code "B") ls ≡ s .flight .counts .b = omega (arith, counts-passed p family.B) in
     let k : beginning (code "K") ls ≡ s .flight .counts .k = omega (arith, counts-passed p (family.Extra extra.K)) in
     let n : beginning (code "N") ls ≡ s .flight .counts .n = omega (arith, counts-passed p (family.Extra extra.N)) in
-    λ i. record { date = sym d i; layouts = sym f i; lines = l i; counts = record { b = b i; k = k i; n = n i } }
+    let g : signedIn ls ≡ s .flight .signed = sym (signed-passed p ∙ or-false (signedIn ls)) in
+    λ i. record { date = sym d i; layouts = sym f i; lines = l i; counts = record { b = b i; k = k i; n = n i }; signed = g i }
 
 -- the file is cut into the grammar's lines
 pub lines-cut : {needs : Seal} (file : List ℕ) (m : Meets needs file) → linesOf file ≡ before (linesIn (m .parts)) end
@@ -347,7 +362,7 @@ accepted-exactly needs file room = (there, here)
     here : ((m : Meets needs file) × (hasRoom room (length (linesIn (m .parts))) ≡ true)) → isSaid (verdict needs file room) ≡ true
     here w = rw (accepted-as needs file room (flightOf (w .0)) .1 (w .0, w .1, refl))
 
--- and a file has one reading by the grammar: the same lines, date, layouts and counts
+-- and a file has one reading by the grammar: the same lines, date, layouts and counts, and whether it is signed
 pub one-reading : (needs : Seal) (file : List ℕ) (m n : Meets needs file) → flightOf m ≡ flightOf n
 one-reading needs file m n =
     let a = accepted-as needs file none (flightOf m) .1 (m, refl, refl) in

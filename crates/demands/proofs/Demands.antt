@@ -1,15 +1,15 @@
--- Demand 2, what is claimed. Each claim is a line from the room that proves it; its words stand in specs/ (Grammar, Coming, Checks, Faults, FieldTexts, Readings,
+-- Demand 2, what is claimed. Each claim is a line from the room that proves it; its words stand in specs/ (Grammar, Coming, Checks, Faults, Signed, FieldTexts, Readings,
 -- BothWays, Endings, ReadersRefuse) and in the specs/ of words, the definitions that it is about in the rules. Assumes nothing.
 --
 -- How these definitions are the library's answers: `file::check` answers `verdict seal file (some (length table))` and leaves `tableAfter seal file table` (promise FileChecked),
 -- `file::check_untabled` answers `verdict seal file none` (FileJudged); `cut::bounds` answers `boundsOf` (LineGiven), `Cursor::step` answers `stepAt` (LineStepped), the readers
 -- in `read` answer `fixSaid`, `columnSaid` and so on (FixGiven ..), `degrees::degrees` answers `degreesOf` (DegreesGiven); the writers in `write` keep `Written` (FixWritten ..),
 -- from which `BothWays` tells what they write (proofs/Promised). By the laws `only-..` of crate only, nothing else would keep these promises.
-use Prim.Native.Nat.{ℕ, _≤_}
+use Prim.Native.Nat.{ℕ, _+_, _≤_}
 use Prim.Native.Char.{code}
-use mathlib.Core.Bool.{Bool, true}
+use mathlib.Core.Bool.{Bool, true, false}
 use mathlib.Core.List.{List, [], _∷_, _++_}
-use mathlib.Core.Logic.{_↔_}
+use mathlib.Core.Logic.{_⊎_, _↔_}
 use mathlib.Core.Option.{Option, none, some}
 use mathlib.Core.Path.{_≡_, refl, sym, _∙_, ap}
 use lib.ListN.{length, getD}
@@ -41,6 +41,7 @@ use Rattle.rules.specs.declared.Flight.{Flight}
 use Rattle.rules.specs.declared.Seal.{Seal}
 use Rattle.rules.specs.declared.Seal.the-variants as seal
 use Rattle.rules.proofs.Damaged.{fiveLines}
+use Rattle.rules.proofs.SignedFiles.{fourLines}
 use Rattle.laws.proofs.Counted.{tabled}
 use Rattle.laws.proofs.Counted as counted
 use Rattle.rules.specs.Limits.{isDate, goodFix, goodExtra, goodHead, goodPoint}
@@ -54,6 +55,7 @@ use Rattle.words.proofs.Characters.{valid-exactly, code-exactly}
 use Rattle.words.proofs.Codes.{width-exactly, rule-exactly}
 use Rattle.demands.specs.Grammar.{IsDay, IsDateLine, IsELine, IsFLine, IsLayoutLine, IsBLine, IsExtraLine, IsColumned, IsHeadLine, IsPointLine, linesIn, Fits, Meets, flightOf}
 use Rattle.demands.specs.Faults.{PassAfter, Refused}
+use Rattle.demands.specs.Signed.{HasGLine}
 use Rattle.demands.specs.FieldTexts.{FieldsTold}
 use Rattle.demands.specs.Coming.{Meant}
 use Rattle.demands.specs.Readings.{ReadsColumns, OnMap, Readable}
@@ -63,6 +65,7 @@ use Rattle.demands.specs.BothWays.{Slotted, ReadsAs, BothWays}
 use Rattle.demands.proofs.Leading.{fits-there, fits-so}
 use Rattle.demands.proofs.Accepted as acceptance
 use Rattle.demands.proofs.Refusing as refusing
+use Rattle.demands.proofs.Signed as signed
 use Rattle.demands.proofs.FieldsThere as fields-there
 use Rattle.demands.proofs.Refusing.{meant}
 use Rattle.demands.proofs.Laws.{day-exactly}
@@ -75,7 +78,7 @@ use Rattle.demands.proofs.Endings as endings
 use Rattle.demands.proofs.ReadersRefuse as readers
 use Rattle.demands.proofs.Worked as worked
 
--- ---- the verdict on a file, for each seal, with a table of `room` entries or without one
+-- ---- the verdict on a file by each check, the usual one and the strict one (`seal`), with a table of `room` entries or without one
 
 module _ (seal : Seal) (file : List ℕ) (room : Option ℕ) where
   -- a file is accepted exactly when it meets the grammar and its lines fit the table
@@ -84,7 +87,7 @@ module _ (seal : Seal) (file : List ℕ) (room : Option ℕ) where
       let a = acceptance.accepted-exactly seal file room in
       (λ e. let r = a .0 e in (r .0, fits-there room _ (r .1)), λ r. a .1 (r .0, fits-so room _ (r .1)))
 
-  -- and then the date, the layouts and the counts of the answer are the grammar's
+  -- and then the date, the layouts and the counts of the answer are the grammar's, and so is whether it is signed
   pub accepted-as : (f : Flight) → (verdict seal file room ≡ says f) ↔ ((m : Meets seal file) × Fits room (length (linesIn (m .parts))) × (flightOf m ≡ f))
   accepted-as f =
       let a = acceptance.accepted-as seal file room f in
@@ -93,6 +96,21 @@ module _ (seal : Seal) (file : List ℕ) (room : Option ℕ) where
   -- it is refused with a number, line and byte exactly when that refusal's meaning holds of it
   pub refused-first : (number line byte : ℕ) → (verdict seal file room ≡ refuses number line byte) ↔ Refused seal file room number line byte
   refused-first number line byte = refusing.refused-first seal file room number line byte
+
+  -- "'signed' is yes exactly when a G line exists"
+  pub signed-exactly : (f : Flight) → verdict seal file room ≡ says f → (f .signed ≡ true) ↔ HasGLine file
+  signed-exactly f e = signed.signed-exactly seal file room f e
+
+-- the strict check says of a file what the usual one says, where that is that it is signed; it refuses what the usual one refuses, and besides, with 16 behind the last line, a file
+-- that is not signed
+module _ (file : List ℕ) (room : Option ℕ) where
+  pub strict-is-usual-and-signed : (f : Flight) → (verdict seal.Strict file room ≡ says f) ↔ ((verdict seal.Usual file room ≡ says f) × (f .signed ≡ true))
+  strict-is-usual-and-signed = signed.strict-accepts file room
+
+  pub strict-refuses-besides : (number line byte : ℕ) → (verdict seal.Strict file room ≡ refuses number line byte)
+      ↔ ((verdict seal.Usual file room ≡ refuses number line byte)
+      ⊎ ((f : Flight) × (verdict seal.Usual file room ≡ says f) × (f .signed ≡ false) × (number ≡ 16) × (line ≡ f .lines + 1) × (byte ≡ 0)))
+  strict-refuses-besides = signed.strict-refuses file room
 
 -- with a table only 15 is added
 pub table-adds : (seal : Seal) (file : List ℕ) (entries : ℕ) → verdict seal file (some entries) ≡ tabled entries (verdict seal file none)
@@ -148,9 +166,12 @@ pub put-exactly : (l : Layout) (ls : Layouts)
     × (withLayout (family.Extra extra.N) l ls ≡ record { b = ls .b; k = ls .k; n = l })
 put-exactly l ls = (refl, refl, refl)
 
--- document 01's file of five lines meets it, put together by hand
-pub five-meet : Meets seal.Strict fiveLines
+-- document 01's file of five lines meets it for both checks, put together by hand; the four lines before its G line for the usual one
+pub five-meet : (needs : Seal) → Meets needs fiveLines
 five-meet = worked.five-meet
+
+pub four-meet : Meets seal.Usual fourLines
+four-meet = worked.four-meet
 
 -- "So a B after G is refused": no file that meets it has a B line behind a G line
 pub no-b-after-g : {seal : Seal} {file : List ℕ} (m : Meets seal file) (before : List (List ℕ)) (g : List ℕ) (after : List (List ℕ)) → linesIn (m .parts) ≡ before ++ (g ∷ after)

@@ -16,8 +16,8 @@ use Rattle.rules.specs.Families.{lineLetter, layoutLetter, layoutOf, countOf, o
 use Rattle.rules.specs.Files.{hasRoom}
 use Rattle.rules.specs.Refusals.{says}
 use Rattle.rules.specs.Lines.{kindOf}
-use Rattle.rules.specs.Roles.{roleOf, isRole, isDeclaring, isTimed, isOf, sameFamily, afterA, afterH, afterLayout, inBody, afterG, atStart, afterLastG, leading, stageAfter}
-use Rattle.rules.specs.Order.{judge, start, fitsDeclaration, orderOf, withFlight, moved, dated, laidOut, counted, begun, pointed, clocked, onward, nextDay, back, passing, isBack}
+use Rattle.rules.specs.Roles.{roleOf, isRole, isDeclaring, isSealing, isTimed, isOf, sameFamily, afterA, afterH, afterLayout, inBody, afterG, atStart, afterLastG, leading, stageAfter}
+use Rattle.rules.specs.Order.{judge, start, fitsDeclaration, orderOf, withFlight, moved, dated, laidOut, counted, signedOff, begun, pointed, clocked, onward, nextDay, back, passing, isBack}
 use Rattle.rules.specs.declared.Layout.{Layout}
 use Rattle.rules.specs.declared.Layouts.{Layouts}
 use Rattle.rules.specs.declared.Family.{Family}
@@ -112,9 +112,6 @@ isTelling g = elim [ role.Opens ↦ false | role.Heads ↦ false | role.Tells f 
 abbrev pub leadsTo : Role → ℕ
 leadsTo = elim [ role.Opens ↦ afterA | role.Heads ↦ afterH | role.Tells f ↦ afterLayout f | role.Columned f ↦ inBody | role.Declares ↦ inBody | role.Event ↦ inBody | role.Satellites ↦ inBody | role.Differential ↦ inBody | role.Seals ↦ afterG | role.Remark ↦ inBody | role.Other ↦ inBody | role.NoRole ↦ inBody ]
 
-abbrev pub isSealing : Role → Bool
-isSealing r = eqb (leadsTo r) afterG
-
 -- the tests of a first byte by the role, and those that ask for a family
 abbrev Plainly : Role → ℕ → Type 0
 Plainly r b = (eqb b (code "C") ≡ isDeclaring r) × (eqb b (code "G") ≡ isSealing r) × (isAmong timedLetters b ≡ isTimed r)
@@ -191,7 +188,7 @@ countedBy (satellites w) ns = ns
 -- the state behind it: it is counted, and the clock stands at its time
 abbrev pub afterTimed : {layouts : Layouts} {t : ℕ} {l : List ℕ} → Timed layouts t l → State → State
 afterTimed {t = t} w st =
-    clocked t (withFlight st (record { date = st .flight .date; layouts = st .flight .layouts; lines = st .flight .lines; counts = countedBy w (st .flight .counts) }))
+    clocked t (withFlight st (record { date = st .flight .date; layouts = st .flight .layouts; lines = st .flight .lines; counts = countedBy w (st .flight .counts); signed = st .flight .signed }))
 
 -- a line of the body may come, and the state after it
 pub data InBody (st : State) (l : List ℕ) : State → Type 0 where
@@ -208,7 +205,7 @@ pub data Leads (st : State) (l : List ℕ) : Part → State → Type 0 where
   layout-line : (f : Family) (i : Layout) → afterH ≤ st .stage → st .stage ≤ afterLayout f - 1 → st .points ≡ 0 → IsLayoutLine f i l
       → Leads st l (telling f) (laidOut f i (moved (afterLayout f) st))
   body-line : {m : State} → afterH ≤ st .stage → st .stage ≤ inBody → InBody st l m → Leads st l body m
-  g-line : afterH ≤ st .stage → st .stage ≤ afterG → st .points ≡ 0 → IsGLine l → Leads st l seals (moved afterG st)
+  g-line : afterH ≤ st .stage → st .stage ≤ afterG → st .points ≡ 0 → IsGLine l → Leads st l seals (signedOff (moved afterG st))
   l-line : afterG ≤ st .stage → st .stage ≤ afterLastG → st .points ≡ 0 → IsLLine l → Leads st l remarks (moved afterLastG st)
 
 -- each layout is one that a line can tell

@@ -12,6 +12,7 @@ pub mod Faulty
 pub mod Refusing
 pub mod ByLayout
 pub mod Reading
+pub mod Signed
 pub mod Writers
 pub mod Worked
 pub mod Endings

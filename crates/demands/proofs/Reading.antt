@@ -61,7 +61,7 @@ use Rattle.demands.proofs.Columns.{columns-read}
 
 -- ---- the lines of the file are those of the grammar
 
-texts-before : (ls : List (List ℕ)) → textsOf (before ls end) ≡ ls
+pub texts-before : (ls : List (List ℕ)) → textsOf (before ls end) ≡ ls
 texts-before [] = refl
 texts-before (l ∷ ls) = ap (λ x. l ∷ x) (texts-before ls)
 

@@ -16,7 +16,7 @@ use Rattle.rules.specs.Choice as choice
 use Rattle.rules.specs.Families.{layoutLetter}
 use Rattle.rules.specs.Fields.{timeAt}
 use Rattle.rules.specs.Refusals.{says, number, Said, refuses}
-use Rattle.rules.specs.Roles.{inBody}
+use Rattle.rules.specs.Roles.{afterH, inBody}
 use Rattle.rules.specs.Order.{start}
 use Rattle.rules.specs.declared.State.{State}
 use Rattle.rules.specs.Split.{Lines, end, broken, line, text, linesOf, afterCR}
@@ -189,6 +189,10 @@ end-none (cr-alone t r h n) = broken-text t (13 ∷ r) 0 h (cr-broken r n) ∙ a
 
 -- the part that the file must reach was not reached exactly where what it needs is missing
 missing : (seal : Seal) (lines : List (List ℕ)) (st : State) → Stands lines st → (st .stage < endsAfter seal) ↔ Unsealed seal lines
+missing seal.Usual lines st w = (
+  λ h. leb-false 2 (length lines) (sym (w .staged .two-lines) ∙ lt-leb afterH (st .stage) h),
+  λ h. leb-false afterH (st .stage) (w .staged .two-lines ∙ lt-leb 2 (length lines) h),
+)
 missing seal.Strict lines st w = (
   λ h. eqb-true (beginning (code "G") lines) 0 (sym (w .staged .unsealed) ∙ le-leb (st .stage) inBody (omega arith)),
   λ e. let i = leb-true (st .stage) inBody (w .staged .unsealed ∙ eq-eqb (beginning (code "G") lines) 0 e) in omega arith,

@@ -13,7 +13,7 @@ use lib.Dec.{eqb, leb}
 use Rattle.rules.specs.Choice.{need, Each}
 use Rattle.rules.specs.Refusals.{number, Said, says, refuses, inLine, andThen}
 use Rattle.rules.specs.Split.{Lines, end, broken, line, linesOf}
-use Rattle.rules.specs.Order.{start, judge, moved, laidOut, begun, pointed}
+use Rattle.rules.specs.Order.{start, judge, moved, laidOut, signedOff, begun, pointed}
 use Rattle.rules.specs.Files.{finish, hasRoom, run, endsAfter}
 use Rattle.rules.specs.declared.Reason.the-variants as reason
 use Rattle.rules.specs.declared.Flight.{Flight}
@@ -488,7 +488,7 @@ pub seals-here : (ls : List (List ℕ)) (st : State) → Each IsGLine ls → aft
     → st .points ≡ 0 → (m : State) × Section seals st ls m × (st .stage ≤ m .stage) × (m .stage ≤ afterG) × (1 ≤ length ls → afterG ≤ m .stage)
 seals-here [] st h a b p = (st, empty, omega arith, b, λ n. absurd (omega arith))
 seals-here (l ∷ ls) st h a b p =
-    let r = seals-here ls (moved afterG st) (h .1) (omega arith) (omega arith) p in
+    let r = seals-here ls (signedOff (moved afterG st)) (h .1) (omega arith) (omega arith) p in
     (r .0, also (g-line a b p (h .0)) (r .1), omega arith, r .3, λ n. r .2)
 
 pub remarks-there : {st m : State} {ls : List (List ℕ)} → Section remarks st ls m → Each IsLLine ls × Same st m × (m .points ≡ st .points)
@@ -497,6 +497,7 @@ remarks-there (also (l-line a b p w) r) = let x = remarks-there r in ((w, x .0),
 
 -- the file has what it must have at its end
 pub seal-needed : (needs : Seal) {b g r : State} {gs ls : List (List ℕ)} → b .stage ≤ inBody → Section seals b gs g → Section remarks g ls r → endsAfter needs ≤ r .stage → SealedBy needs gs
+seal-needed needs.Usual h s t k = tt
 seal-needed needs.Strict h empty empty k = absurd (omega arith)
 seal-needed needs.Strict h empty (also (l-line a b p w) r) k = absurd (omega arith)
 seal-needed needs.Strict h (also w r) t k = omega arith

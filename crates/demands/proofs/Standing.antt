@@ -15,7 +15,7 @@ use Rattle.rules.specs.Families.{lineLetter, layoutLetter, layoutOf, countOf}
 use Rattle.rules.specs.Refusals.{says}
 use Rattle.rules.specs.Numbers.{numberAt}
 use Rattle.rules.specs.Fields.{timeAt}
-use Rattle.rules.specs.Roles.{isDeclaring, isTimed, sameFamily, atStart, afterA, afterH, afterLayout, inBody, afterG, afterLastG, leading, stageAfter}
+use Rattle.rules.specs.Roles.{isDeclaring, isSealing, isTimed, sameFamily, atStart, afterA, afterH, afterLayout, inBody, afterG, afterLastG, leading, stageAfter}
 use Rattle.rules.specs.Order.{start, fitsDeclaration, moved, judge}
 use Rattle.rules.specs.declared.Layout.{Layout}
 use Rattle.rules.specs.declared.Family.{Family}
@@ -37,7 +37,7 @@ use Rattle.sound.proofs.Each.{each-join}
 use Rattle.sound.proofs.Families.{every, none-pass, put-by, same-family, is-same}
 use Rattle.demands.proofs.EachLine.{head-reads, head-said, head-there, point-there}
 use Rattle.demands.proofs.LayoutLines.{there, layout-laid, layout-there, layout-said}
-use Rattle.demands.proofs.Leading.{letter, tells-letter, isTelling, isSealing, leadsTo, letter-tests, counts-more, Sound, sound-start, some-points, plain-fits, head-fits, order-inv, judge-leads, stays-sound}
+use Rattle.demands.proofs.Leading.{letter, tells-letter, isTelling, leadsTo, letter-tests, counts-more, Sound, sound-start, some-points, plain-fits, head-fits, order-inv, judge-leads, stays-sound}
 use Rattle.demands.proofs.Sections.{layout-stage}
 
 -- ---- what a line tells of itself
@@ -212,19 +212,18 @@ module _ (s c : ℕ) where
 
   -- from the front to the body
   along : (r : Role) (low high : ℕ) → leading low high (leadsTo r) s ≡ some c → afterA ≤ low → high ≤ leadsTo r → afterH ≤ leadsTo r → leadsTo r ≤ inBody
-      → ((f : Family) → isTelling f r ≡ true → high ≤ afterLayout f - 1) → Moves r s c
-  along r low high o p q h g t =
+      → isSealing r ≡ false → ((f : Family) → isTelling f r ≡ true → high ≤ afterLayout f - 1) → Moves r s c
+  along r low high o p q h g n t =
       let i = leading-inv low high (leadsTo r) s c o in
-      let n : isSealing r ≡ false = ne-eqb (leadsTo r) afterG (λ z. omega arith) in
       made r (leadsTo r) (i .2) (omega arith) (omega arith) (omega arith) (both-low (leadsTo r) h (omega arith)) (λ f. refl) (λ f y. omega (arith, t f y))
       (rw (n, le-leb (leadsTo r) inBody g, le-leb s inBody (omega arith)))
       (rw (n, le-leb (leadsTo r) afterG (omega arith), le-leb s inBody (omega arith)))
 
-  to-body : (r : Role) → leadsTo r ≡ inBody → ((f : Family) → isTelling f r ≡ false) → leading afterH inBody inBody s ≡ some c → Moves r s c
-  to-body r e t o = along r afterH inBody (rw e o) (omega arith) (omega arith) (omega arith) (omega arith) (λ f y. absurd (false-true (sym (t f) ∙ y)))
+  to-body : (r : Role) → leadsTo r ≡ inBody → isSealing r ≡ false → ((f : Family) → isTelling f r ≡ false) → leading afterH inBody inBody s ≡ some c → Moves r s c
+  to-body r e n t o = along r afterH inBody (rw e o) (omega arith) (omega arith) (omega arith) (omega arith) n (λ f y. absurd (false-true (sym (t f) ∙ y)))
 
   remark-moves : (b : Bool) → leb s inBody ≡ b → cond b (leading afterH inBody inBody s) (leading afterG afterLastG afterLastG s) ≡ some c → Moves role.Remark s c
-  remark-moves true q o = to-body role.Remark refl (λ f. refl) o
+  remark-moves true q o = to-body role.Remark refl refl (λ f. refl) o
   remark-moves false q o =
       let i = leading-inv afterG afterLastG afterLastG s c o in
       made role.Remark afterLastG (i .2) (i .1) (omega arith) (omega arith) (both-low afterLastG (omega arith) (omega arith))
@@ -239,22 +238,22 @@ module _ (s c : ℕ) where
       let i = leading-inv atStart atStart afterA s c o in
       let z : s ≡ atStart = omega arith in
       made role.Opens afterA (i .2) (omega arith) (omega arith) (omega arith) (rw z) (λ f. refl) (λ f y. absurd (false-true y)) (rw z) (rw z)
-  moves role.Heads o = along role.Heads afterA afterH o (omega arith) (omega arith) (omega arith) (omega arith) (λ f y. absurd (false-true y))
+  moves role.Heads o = along role.Heads afterA afterH o (omega arith) (omega arith) (omega arith) (omega arith) refl (λ f y. absurd (false-true y))
   moves (role.Tells f) o =
       let k = layout-stage f in
-      along (role.Tells f) afterH (afterLayout f - 1) o (omega arith) (omega arith) (omega arith) (omega arith) (λ g y. rw (is-same f g y) (omega arith))
-  moves (role.Columned f) o = to-body (role.Columned f) refl (λ g. refl) o
-  moves role.Declares o = to-body role.Declares refl (λ g. refl) o
-  moves role.Event o = to-body role.Event refl (λ g. refl) o
-  moves role.Satellites o = to-body role.Satellites refl (λ g. refl) o
-  moves role.Differential o = to-body role.Differential refl (λ g. refl) o
+      along (role.Tells f) afterH (afterLayout f - 1) o (omega arith) (omega arith) (omega arith) (omega arith) refl (λ g y. rw (is-same f g y) (omega arith))
+  moves (role.Columned f) o = to-body (role.Columned f) refl refl (λ g. refl) o
+  moves role.Declares o = to-body role.Declares refl refl (λ g. refl) o
+  moves role.Event o = to-body role.Event refl refl (λ g. refl) o
+  moves role.Satellites o = to-body role.Satellites refl refl (λ g. refl) o
+  moves role.Differential o = to-body role.Differential refl refl (λ g. refl) o
   moves role.Seals o =
       let i = leading-inv afterH afterG afterG s c o in
       made role.Seals afterG (i .2) (i .1) (omega arith) (omega arith) (both-low afterG (omega arith) (omega arith)) (λ f. refl) (λ f y. absurd (false-true y))
       (sym (and-false (leb s inBody)))
       (sym (or-true (leb s inBody && false)))
   moves role.Remark o = remark-moves (leb s inBody) refl o
-  moves role.Other o = to-body role.Other refl (λ g. refl) o
+  moves role.Other o = to-body role.Other refl refl (λ g. refl) o
   moves role.NoRole o = absurd (none-some o)
 
 module _ (s c : ℕ) (ls : List (List ℕ)) (l : List ℕ) (w : Staged s ls) (v : Moves (roleIn l) s c) where

@@ -1,4 +1,4 @@
--- The grammar by itself, with no check of a file: document 01's file of five lines is put together by hand; and what follows a G line in any file that meets it.
+-- The grammar by itself, with no check of a file: document 01's file of five lines, and the four of them before its G line, are put together by hand; and what follows a G line in any file that meets it.
 -- Assumes nothing.
 use Prim.Native.Nat.{ℕ}
 use Prim.Native.Char.{code}
@@ -22,6 +22,7 @@ use Rattle.rules.specs.declared.Seal.{Seal}
 use Rattle.rules.specs.declared.Seal.the-variants as seal
 use Rattle.rules.proofs.Computed.{everything, fileOf}
 use Rattle.rules.proofs.Damaged.{fiveLines, fiveLayout}
+use Rattle.rules.proofs.SignedFiles.{fourLines}
 use Rattle.rules.specs.Fixes.{fieldsOf}
 use Rattle.rules.specs.Limits.{isAltitude, goodFixFields}
 use Rattle.trips.proofs.Texts.{areValid}
@@ -29,7 +30,7 @@ use Rattle.words.proofs.Characters.{codes-exactly, word-exactly}
 use Rattle.words.proofs.Codes.{width-exactly, rule-exactly}
 use Rattle.words.proofs.Values.{fix-exactly}
 use Rattle.demands.specs.Coming.{isAmong}
-use Rattle.demands.specs.Grammar.{IsText, july, AtMostOne, absent, given, Timed, columned, event, satellites, Items, done, timed, untimed, Body, undeclared, declared, none, column, linesIn, Meets, joinLines}
+use Rattle.demands.specs.Grammar.{IsText, july, AtMostOne, absent, given, Timed, columned, event, satellites, Items, done, timed, untimed, Body, undeclared, declared, none, column, IsGLine, Parts, SealedBy, Keeps, linesIn, Meets, joinLines}
 use Rattle.laws.proofs.Splitting.{lines-are-text}
 use Rattle.demands.proofs.Sections.{text-is}
 use Rattle.sound.proofs.Each.{each-map, each-join, each-cut}
@@ -63,20 +64,73 @@ toldFive = every (λ f. List (List ℕ)) (bytes "I023638FXA3940SIU" ∷ []) [] [
 abbrev layoutsFive : Layouts
 layoutsFive = record { b = fiveLayout; k = emptyLayout; n = emptyLayout }
 
-pub five-meet : Meets seal.Strict fiveLines
+-- the five lines, or those before the G line
+abbrev partsWith : List (List ℕ) → Parts
+unfolding bytes
+partsWith gs = record {
+  recorder = bytes "AXYZ001";
+  day = bytes "HFDTE150724";
+  headers = [];
+  told = toldFive;
+  body = bytes "B1200005130000N00015000WA001000012001208" ∷ [];
+  seals = gs;
+  remarks = [];
+}
+
+-- they keep to the rules, where the G lines do
+keepsWith : (needs : Seal) (gs : List (List ℕ)) → Each IsGLine gs → SealedBy needs gs → Keeps needs (partsWith gs) (record { day = 15; month = 7; year = 2024 }) layoutsFive (43200 ∷ [])
 unfolding everything fileOf joinLines areValid fxa siu theFix goodFixFields isPosition isAltitude
-five-meet = record {
+keepsWith needs gs g s = record {
+  recorder = record {
+    letter = refl;
+    shape = record { long = lit≤ tt; short = lit≤ tt; valid = are-valid (bytes "AXYZ001") refl };
+    maker = codes-exactly (bytes "AXYZ001") 1 3 .0 refl;
+    serial = codes-exactly (bytes "AXYZ001") 4 3 .0 refl;
+  };
+  day = record { text = refl; day = record { from = lit≤ tt; to = lit≤ tt; days = 31; month = july; low = lit≤ tt; high = lit≤ tt } };
+  headers = tt;
+  told = every (λ f. AtMostOne f (layoutOf f layoutsFive) (toldFive f))
+      (given (record {
+        entries = fxa ∷ siu ∷ [];
+        tiles = (
+          record { starts = refl; ends = lit≤ tt; spelt = lit≤ tt; word = word-exactly 0x465841 .0 refl; wide = width-exactly 0x465841 3 .0 refl },
+          ((λ e. omega arith), tt),
+          (record { starts = refl; ends = lit≤ tt; spelt = lit≤ tt; word = word-exactly 0x534955 .0 refl; wide = width-exactly 0x534955 2 .0 refl }, tt, tt),
+        );
+        text = refl;
+        short = lit≤ tt;
+        slots = refl;
+      }))
+      absent
+      absent;
+  body = undeclared (timed (columned family.B (
+    theFix,
+    refl,
+    record {
+      tail = bytes "01208";
+      text = refl;
+      fields = fix-exactly (fieldsOf theFix) .0 refl;
+      columns = column (bytes "012") refl (are-valid (bytes "012") refl) (rule-exactly 0x465841 (bytes "012") .0 refl)
+          (column (bytes "08") refl (are-valid (bytes "08") refl) (rule-exactly 0x534955 (bytes "08") .0 refl) none);
+    },
+  )) done);
+  order = tt;
+  seals = g;
+  sealed = s;
+  remarks = tt;
+}
+
+-- a G line is what either check asks for
+some-sealed : (needs : Seal) (g : List ℕ) → SealedBy needs (g ∷ [])
+some-sealed seal.Usual g = tt
+some-sealed seal.Strict g = lit≤ tt
+
+pub five-meet : (needs : Seal) → Meets needs fiveLines
+unfolding everything fileOf joinLines areValid
+five-meet needs = record {
   least = lit≤ tt;
   most = lit≤ tt;
-  parts = record {
-    recorder = bytes "AXYZ001";
-    day = bytes "HFDTE150724";
-    headers = [];
-    told = toldFive;
-    body = bytes "B1200005130000N00015000WA001000012001208" ∷ [];
-    seals = bytes "GABC" ∷ [];
-    remarks = [];
-  };
+  parts = partsWith (bytes "GABC" ∷ []);
   bytes = refl;
   texts =
       let h = lines-are-text fiveLines in
@@ -85,45 +139,25 @@ five-meet = record {
   date = record { day = 15; month = 7; year = 2024 };
   layouts = layoutsFive;
   times = 43200 ∷ [];
-  keeps = record {
-    recorder = record {
-      letter = refl;
-      shape = record { long = lit≤ tt; short = lit≤ tt; valid = are-valid (bytes "AXYZ001") refl };
-      maker = codes-exactly (bytes "AXYZ001") 1 3 .0 refl;
-      serial = codes-exactly (bytes "AXYZ001") 4 3 .0 refl;
-    };
-    day = record { text = refl; day = record { from = lit≤ tt; to = lit≤ tt; days = 31; month = july; low = lit≤ tt; high = lit≤ tt } };
-    headers = tt;
-    told = every (λ f. AtMostOne f (layoutOf f layoutsFive) (toldFive f))
-        (given (record {
-          entries = fxa ∷ siu ∷ [];
-          tiles = (
-            record { starts = refl; ends = lit≤ tt; spelt = lit≤ tt; word = word-exactly 0x465841 .0 refl; wide = width-exactly 0x465841 3 .0 refl },
-            ((λ e. omega arith), tt),
-            (record { starts = refl; ends = lit≤ tt; spelt = lit≤ tt; word = word-exactly 0x534955 .0 refl; wide = width-exactly 0x534955 2 .0 refl }, tt, tt),
-          );
-          text = refl;
-          short = lit≤ tt;
-          slots = refl;
-        }))
-        absent
-        absent;
-    body = undeclared (timed (columned family.B (
-      theFix,
-      refl,
-      record {
-        tail = bytes "01208";
-        text = refl;
-        fields = fix-exactly (fieldsOf theFix) .0 refl;
-        columns = column (bytes "012") refl (are-valid (bytes "012") refl) (rule-exactly 0x465841 (bytes "012") .0 refl)
-            (column (bytes "08") refl (are-valid (bytes "08") refl) (rule-exactly 0x534955 (bytes "08") .0 refl) none);
-      },
-    )) done);
-    order = tt;
-    seals = (record { letter = refl; shape = record { long = lit≤ tt; short = lit≤ tt; valid = are-valid (bytes "GABC") refl } }, tt);
-    sealed = lit≤ tt;
-    remarks = tt;
-  };
+  keeps = keepsWith needs (bytes "GABC" ∷ []) (record { letter = refl; shape = record { long = lit≤ tt; short = lit≤ tt; valid = are-valid (bytes "GABC") refl } }, tt) (some-sealed needs (bytes "GABC"));
+}
+
+-- the same without the G line
+pub four-meet : Meets seal.Usual fourLines
+unfolding everything fileOf joinLines
+four-meet = record {
+  least = lit≤ tt;
+  most = lit≤ tt;
+  parts = partsWith [];
+  bytes = refl;
+  texts =
+      let h = lines-are-text fourLines in
+      let b : IsText (bytes "B1200005130000N00015000WA001000012001208") = text-is (bytes "B1200005130000N00015000WA001000012001208") (h .1 .1 .1 .0) in
+      (text-is (bytes "AXYZ001") (h .0), (text-is (bytes "HFDTE150724") (h .1 .0), (text-is (bytes "I023638FXA3940SIU") (h .1 .1 .0), (b, tt))));
+  date = record { day = 15; month = 7; year = 2024 };
+  layouts = layoutsFive;
+  times = 43200 ∷ [];
+  keeps = keepsWith seal.Usual [] tt tt;
 }
 
 -- ---- "So a B after G is refused, as 000 A2.3.1 demands."

@@ -33,8 +33,10 @@ pub data NoEnd : List ℕ → ℕ → Type 0 where
   lf-alone : (t rest : List ℕ) → IsText t → NoEnd (t ++ (10 ∷ rest)) (length t)
   cr-alone : (t rest : List ℕ) → IsText t → (getD rest 0 0 ≡ 10 → ⊥) → NoEnd (t ++ (13 ∷ rest)) (length t)
 
--- "At least one G is needed (h)."; no G line came
+-- what the check asks for at the end is missing. In the usual check: "a file that ends before its second line"; in the strict one: "At least one G is needed (h).", and no G
+-- line came
 abbrev pub Unsealed : Seal → List (List ℕ) → Type 0
+Unsealed seal.Usual lines = length lines < 2
 Unsealed seal.Strict lines = beginning (code "G") lines ≡ 0
 
 -- a refusal of a file: its number, line and byte
@@ -52,6 +54,7 @@ pub data Refused (seal : Seal) (file : List ℕ) (room : Option ℕ) : ℕ → �
   -- "15 TABLE_FULL: good line, no entry left; line, 0"
   table-full : (lines : List (List ℕ)) (l rest : List ℕ) → Before file room lines (l ++ (13 ∷ 10 ∷ rest)) → IsText l
       → AllPass (checksOf lines l) → room ≡ some (length lines) → Refused seal file room 15 (length lines + 1) 0
-  -- "16 ENDS_EARLY: end inside a declaration or without G; lines + 1, 0"
+  -- "16 ENDS_EARLY: end inside a declaration or without G; lines + 1, 0"; "16 in the usual check only for an unfinished declaration, and for a file that ends before its
+  -- second line"
   ends-early : (lines : List (List ℕ)) → Before file room lines [] → Open lines ⊎ Unsealed seal lines
       → Refused seal file room 16 (length lines + 1) 0

@@ -11,7 +11,7 @@ use mathlib.Core.List.{List, [], _∷_, _++_}
 use mathlib.Core.Logic.{_⊎_}
 use mathlib.Core.Option as option
 use mathlib.Core.Path.{_≡_}
-use lib.Dec.{eqb}
+use lib.Dec.{eqb, leb}
 use lib.ListN.{length, getD, replicate}
 use Rattle.rules.specs.Families.{firstStart, layoutLetter, layoutOf}
 use Rattle.rules.specs.Choice.{byte, Each}
@@ -293,8 +293,9 @@ toldIn p = p .told family.B ++ (p .told (family.Extra extra.K) ++ p .told (famil
 abbrev pub linesIn : Parts → List (List ℕ)
 linesIn p = p .recorder ∷ p .day ∷ (p .headers ++ (toldIn p ++ (p .body ++ (p .seals ++ p .remarks))))
 
--- "At least one G is needed (h)."
+-- "The usual check now accepts a file with no G"; "A separate strict check keeps the old rule": "At least one G is needed (h)."
 abbrev pub SealedBy : Seal → List (List ℕ) → Type 0
+SealedBy seal.Usual gs = Unit {0}
 SealedBy seal.Strict gs = 1 ≤ length gs
 
 -- "Line 1 is A, line 2 is H, then further H lines, then at most one I, then at most one J. After these come C, D, E, F, B, K, L and other, with no further A, H,
@@ -355,11 +356,16 @@ beginning x (l ∷ ls) = cond (eqb (getD l 0 0) x) 1 0 + beginning x ls
 abbrev pub countsIn : List (List ℕ) → Counts
 countsIn ls = record { b = beginning (code "B") ls; k = beginning (code "K") ls; n = beginning (code "N") ls }
 
--- "the date, the I and J layouts, the count of lines, of B lines and of K lines"; the M layout and the count of N lines
+-- "'signed' is yes exactly when a G line exists"
+abbrev pub signedIn : List (List ℕ) → Bool
+signedIn ls = leb 1 (beginning (code "G") ls)
+
+-- "the date, the I and J layouts, the count of lines, of B lines and of K lines"; the M layout and the count of N lines; "and answers 'signed' yes or no"
 abbrev pub flightOf : {seal : Seal} {file : List ℕ} → Meets seal file → Flight
 flightOf m = record {
   date = m .date;
   layouts = m .layouts;
   lines = length (linesIn (m .parts));
   counts = countsIn (linesIn (m .parts));
+  signed = signedIn (linesIn (m .parts));
 }

@@ -22,7 +22,7 @@ use Rattle.demands.specs.Grammar.{linesIn, Fits, Meets, flightOf}
 use Rattle.demands.specs.Faults.{Refused, empty, too-long, line-end, in-line, table-full, ends-early}
 use Rattle.demands.specs.Readings.{Entered}
 
--- ---- "The answer is the first refusal, or: the date, the I and J layouts, the count of lines, of B lines and of K lines"; and the M layout and the count of N lines
+-- ---- "The answer is the first refusal, or: the date, the I and J layouts, the count of lines, of B lines and of K lines"; and the M layout and the count of N lines; "and answers 'signed' yes or no"
 
 -- every file has an answer: it meets the grammar and its lines fit the table, or a refusal's meaning holds of it; never both, and never two refusals
 pub record OneAnswer (seal : Seal) (file : List ℕ) (room : Option ℕ) : Type 0 where

@@ -3,6 +3,7 @@ pub mod Coming
 pub mod Checks
 pub mod FieldTexts
 pub mod Faults
+pub mod Signed
 pub mod Readings
 pub mod BothWays
 pub mod Endings

@@ -1,4 +1,4 @@
--- A file that a merge made reads as the first copy does, but for the notes: date, layouts and counts are the same, and so are the lines up to the last G line. Assumes nothing.
+-- A file that a merge made reads as the first copy does, but for the notes: date, layouts and counts are the same, both are signed, and the lines up to the last G line are the same. Assumes nothing.
 use Prim.Native.Nat.{ℕ, zero, suc, _≤_, _<_}
 use Prim.Native.Char.{code}
 use mathlib.Core.Bool.{false}
@@ -27,6 +27,7 @@ use Rattle.demands.specs.Grammar.{IsText, IsLLine, Meets, flightOf}
 use Rattle.demands.specs.Coming.{those}
 use Rattle.demands.proofs.Sections.{before}
 use Rattle.demands.proofs.Accepted.{accepted-as}
+use Rattle.demands.proofs.Signed.{strict-accepts}
 use Rattle.evening.specs.Evening.{withoutL, ReadAlike}
 use Rattle.evening.proofs.Copies.{sealedLines, remarksOf, cut-is, texts-is, noted-cut, noted-lines, noted-says, meets}
 use Rattle.evening.proofs.Making.{Made, first-flight, notes-keep, built, file-is, built-short, meets-first}
@@ -102,6 +103,7 @@ module _ (first second file : List ℕ) (w : Made first second file) (f g : Flig
         date = ap (λ (x : Flight). x .date) file-says ∙ says-same .0 ∙ ap (λ (x : Flight). x .date) first-says;
         layouts = ap (λ (x : Flight). x .layouts) file-says ∙ says-same .1 ∙ ap (λ (x : Flight). x .layouts) first-says;
         counts = λ family. family-counted seal.Strict file none g q family ∙ tallied family ∙ sym (family-counted seal.Strict first none f p family);
+        signed = strict-accepts file none g .0 q .1 ∙ sym (strict-accepts first none f .0 p .1);
         common = sealedLines first m;
         notes = remarksOf first m;
         others = w .notes;

@@ -29,7 +29,7 @@ use Rattle.notes.specs.Notes.{notAfter, joined, commonPart, notesIn}
 use Rattle.notes.specs.Merging.{ofNeither}
 use Rattle.notes.proofs.Texts.{texts}
 use Rattle.notes.proofs.Texts as order
-use Rattle.merge.specs.Merge.{Accepted, mergeTold, FilesMerged}
+use Rattle.merge.specs.Merge.{StrictlyAccepted, mergeTold, FilesMerged}
 use Rattle.merge.specs.declared.Brought.{Brought}
 use Rattle.merge.specs.declared.Brought.the-variants as brought
 use Rattle.demands.specs.Coming.{those}
@@ -55,7 +55,7 @@ byte-decides = order.byte-decides
 pub beginning-first : (x y : List ℕ) (b : ℕ) → (notAfter x (x ++ b ∷ y) ≡ true) × (notAfter (x ++ b ∷ y) x ≡ false)
 beginning-first = order.beginning-first
 
--- a file that meets the grammar is cut in two behind its last G line: the common part is its lines up to and with that one, each with its CR LF, and the notes are the L lines behind it
+-- a file that meets the grammar of the strict check is cut in two behind its last G line: the common part is its lines up to and with that one, each with its CR LF, and the notes are the L lines behind it
 pub parted : (file : List ℕ) (m : Meets seal.Strict file)
     → (commonPart (linesOf file) ≡ joinLines (sealedPart (m .parts))) × (notesIn (linesOf file) ≡ m .parts .remarks) × Each (λ l. IsLLine l × IsText l) (notesIn (linesOf file))
 parted file m = (copies.sealed-is file m, copies.notes-is file m, copies.notes-are file m)
@@ -70,9 +70,9 @@ refused-leaves = turned.refused-leaves
 
 -- ---- "The order of the two copies changes no byte, nor does the pairing of three where no step is refused, and no note is lost."
 
--- the output is the same either way; and where both files are accepted, so is the answer
+-- the output is the same either way; and where both files pass the strict check, so is the answer
 pub merged-either-way : (first second out : List ℕ) (r r′ : Brought) (after after′ : List ℕ) → FilesMerged first second out r after → FilesMerged second first out r′ after′
-    → (after ≡ after′) × (Accepted first → Accepted second → r ≡ r′)
+    → (after ≡ after′) × (StrictlyAccepted first → StrictlyAccepted second → r ≡ r′)
 merged-either-way = turned.either-way
 
 pub merged-in-any-pairing : (a b c ab bc abc abc′ : List ℕ) → Makes a b ab → Makes ab c abc → Makes b c bc → Makes a bc abc′ → abc ≡ abc′
@@ -96,8 +96,8 @@ module _ (first second file : List ℕ) (w : Makes first second file) where
 
   -- ---- "Demands 2 and 3 read as before."
 
-  -- the merged file is accepted
-  pub merged-accepted : Accepted file
+  -- the merged file passes the strict check
+  pub merged-accepted : StrictlyAccepted file
   merged-accepted = making.accepted-again first second file made
 
   -- and reads as each copy does, but for the notes
@@ -176,7 +176,7 @@ itself-keeps file copy w = (
   making.common-again file file copy (making.makes-made file file copy w),
 )
 
-module _ (file out : List ℕ) (r : Brought) (after : List ℕ) (a : Accepted file) (w : FilesMerged file file out r after) where
+module _ (file out : List ℕ) (r : Brought) (after : List ℕ) (a : StrictlyAccepted file) (w : FilesMerged file file out r after) where
   pub merged-with-itself : length file ≤ length out
       → (r ≡ brought.Whole (length file)) × (copy : List ℕ) × Makes file file copy × (length copy ≡ length file) × (after ≡ copy ++ drop (length file) out)
   merged-with-itself = turned.own-makes file a out r after w
@@ -184,10 +184,10 @@ module _ (file out : List ℕ) (r : Brought) (after : List ℕ) (a : Accepted fi
   pub itself-no-room : length out < length file → (mergeTold r ≡ ofNeither (number NoRoom) 0 0) × (after ≡ out)
   itself-no-room = turned.own-short file a out r after w
 
--- ---- 26 exactly where both files are accepted and the common parts differ
+-- ---- 26 exactly where both files pass the strict check and the common parts differ
 
 pub not-same-exactly : (first second out : List ℕ) (r : Brought) (after : List ℕ) → FilesMerged first second out r after
-    → (mergeTold r ≡ ofNeither (number NotSame) 0 0) ↔ (Accepted first × Accepted second × (commonPart (linesOf first) ≡ commonPart (linesOf second) → ⊥))
+    → (mergeTold r ≡ ofNeither (number NotSame) 0 0) ↔ (StrictlyAccepted first × StrictlyAccepted second × (commonPart (linesOf first) ≡ commonPart (linesOf second) → ⊥))
 not-same-exactly = not-same.not-same-exactly
 
 -- ---- "No table is lent here .., so 15 isn't met there."

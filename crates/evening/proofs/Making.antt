@@ -14,7 +14,7 @@ use Rattle.sorted.proofs.Pairs.{together-turned, together-each}
 use Rattle.notes.specs.Notes.{notAfter, joined, commonPart, notesIn}
 use Rattle.notes.specs.Merging.{mergedFile}
 use Rattle.notes.proofs.Texts.{texts}
-use Rattle.merge.specs.Merge.{Accepted, FilesMerged}
+use Rattle.merge.specs.Merge.{StrictlyAccepted, FilesMerged}
 use Rattle.merge.specs.declared.Brought.the-variants as brought
 use Rattle.merge.proofs.Whole.{whole-said, whole-bytes}
 use Rattle.demands.specs.Grammar.{IsText, IsLLine, Meets, flightOf}
@@ -26,8 +26,8 @@ use Rattle.evening.proofs.Copies.{sealedLines, common-is, notes-are, me
 
 -- both are accepted and have the same common part, and this file is that part with the notes of both
 pub record Made (first second file : List ℕ) : Type 0 where
-  pub one : Accepted first
-  pub two : Accepted second
+  pub one : StrictlyAccepted first
+  pub two : StrictlyAccepted second
   pub same : commonPart (linesOf first) ≡ commonPart (linesOf second)
   pub notes : List (List ℕ)
   pub together : Together notAfter (notesIn (linesOf first)) (notesIn (linesOf second)) notes
@@ -88,7 +88,7 @@ made-turned first second file w = record {
 
 -- ---- the file made is a copy again
 
-pub accepted-meets : (file : List ℕ) → (a : Accepted file) → (m : Meets seal.Strict file) × (flightOf m ≡ a .0)
+pub accepted-meets : (file : List ℕ) → (a : StrictlyAccepted file) → (m : Meets seal.Strict file) × (flightOf m ≡ a .0)
 accepted-meets file a = let r = accepted-as seal.Strict file none (a .0) .0 (a .1) in (r .0, r .2)
 
 module _ (first second file : List ℕ) (w : Made first second file) where
@@ -126,5 +126,5 @@ module _ (first second file : List ℕ) (w : Made first second file) where
   pub notes-again : notesIn (linesOf file) ≡ w .notes
   notes-again = ap (λ (l : List ℕ). notesIn (linesOf l)) file-is ∙ noted-notes first meets-first (w .notes) notes-keep built-short
 
-  pub accepted-again : Accepted file
-  accepted-again = subst Accepted (sym file-is) (flightOf built-meets, accepted-as seal.Strict built none (flightOf built-meets) .1 (built-meets, refl, refl))
+  pub accepted-again : StrictlyAccepted file
+  accepted-again = subst StrictlyAccepted (sym file-is) (flightOf built-meets, accepted-as seal.Strict built none (flightOf built-meets) .1 (built-meets, refl, refl))

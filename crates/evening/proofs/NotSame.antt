@@ -14,7 +14,7 @@ use Rattle.rules.specs.declared.Reason.the-variants.{NotSame}
 use Rattle.rules.specs.declared.Seal.the-variants as seal
 use Rattle.notes.specs.Notes.{commonPart}
 use Rattle.notes.specs.Merging.{Merged, ofNeither, acceptFirst, acceptSecond, mergedFile, mergeSaid}
-use Rattle.merge.specs.Merge.{Accepted, mergeTold, FilesMerged}
+use Rattle.merge.specs.Merge.{StrictlyAccepted, mergeTold, FilesMerged}
 use Rattle.merge.specs.declared.Brought.{Brought}
 use Rattle.evening.proofs.Turned.{not-same-accepted}
 
@@ -27,7 +27,7 @@ second-passed (says f) more k l b e = (f, refl, e)
 second-passed (refuses n m c) more k l b e = let z : _≡_ {A = ℕ} 0 1 = cc in absurd (omega arith)
 
 -- what is said of neither file is said where both are accepted
-pub neither-accepted : (first second file : List ℕ) (room k l b : ℕ) → mergeSaid first second file room ≡ ofNeither k l b → Accepted first × Accepted second
+pub neither-accepted : (first second file : List ℕ) (room k l b : ℕ) → mergeSaid first second file room ≡ ofNeither k l b → StrictlyAccepted first × StrictlyAccepted second
 unfolding mergeSaid
 neither-accepted first second file room k l b e =
     let p = first-passed (verdict seal.Strict first none) _ k l b e in
@@ -35,10 +35,10 @@ neither-accepted first second file room k l b e =
     ((p .0, p .1), (q .0, q .1))
 
 pub not-same-exactly : (first second out : List ℕ) (r : Brought) (after : List ℕ) → FilesMerged first second out r after
-    → (mergeTold r ≡ ofNeither (number NotSame) 0 0) ↔ (Accepted first × Accepted second × (commonPart (linesOf first) ≡ commonPart (linesOf second) → ⊥))
+    → (mergeTold r ≡ ofNeither (number NotSame) 0 0) ↔ (StrictlyAccepted first × StrictlyAccepted second × (commonPart (linesOf first) ≡ commonPart (linesOf second) → ⊥))
 not-same-exactly first second out r after w = (there, λ h. not-same-accepted first second out r after (h .0) (h .1) w .1 (h .2))
   where
-    there : mergeTold r ≡ ofNeither (number NotSame) 0 0 → Accepted first × Accepted second × (commonPart (linesOf first) ≡ commonPart (linesOf second) → ⊥)
+    there : mergeTold r ≡ ofNeither (number NotSame) 0 0 → StrictlyAccepted first × StrictlyAccepted second × (commonPart (linesOf first) ≡ commonPart (linesOf second) → ⊥)
     there e =
         let told : mergeSaid first second (mergedFile first (w .notes)) (length out) ≡ ofNeither (number NotSame) 0 0 = sym (w .told) ∙ e in
         let p = neither-accepted first second (mergedFile first (w .notes)) (length out) (number NotSame) 0 0 told in

@@ -26,7 +26,7 @@ use Rattle.notes.specs.Merging.{Merged, merged, ofFirst, ofSecond, ofNeither, a
 use Rattle.notes.proofs.Texts.{texts}
 use Rattle.common.proofs.Common.{same-is, is-same}
 use Rattle.common.proofs.Accepted.{copy}
-use Rattle.merge.specs.Merge.{Accepted, mergeTold, FilesMerged}
+use Rattle.merge.specs.Merge.{StrictlyAccepted, mergeTold, FilesMerged}
 use Rattle.merge.specs.declared.Brought.{Brought}
 use Rattle.merge.specs.declared.Brought.the-variants as brought
 use Rattle.merge.proofs.Only.{merge-one, only-files-merged}
@@ -51,7 +51,7 @@ Rest one two file room =
     need (leb (length file) room) (ofNeither (number NoRoom) 0 0) λ _.
     merged (length file)
 
-module _ (first second : List ℕ) (a : Accepted first) (b : Accepted second) (notes : List (List ℕ)) (room : ℕ) where
+module _ (first second : List ℕ) (a : StrictlyAccepted first) (b : StrictlyAccepted second) (notes : List (List ℕ)) (room : ℕ) where
   abbrev one : List ℕ
   one = commonPart (linesOf first)
 
@@ -76,7 +76,7 @@ module _ (first second : List ℕ) (a : Accepted first) (b : Accepted second) (n
       go true e = rw (same-is one two e)
       go false e = rw (e, same-turned one two false e)
 
-pub turned : (first second out : List ℕ) (r : Brought) (after : List ℕ) → Accepted first → Accepted second → FilesMerged second first out r after → FilesMerged first second out r after
+pub turned : (first second out : List ℕ) (r : Brought) (after : List ℕ) → StrictlyAccepted first → StrictlyAccepted second → FilesMerged second first out r after → FilesMerged first second out r after
 turned first second out r after a b w =
     let n = length out in
     let e = said-rest second first b a (w .notes) n in
@@ -118,10 +118,10 @@ refused-leaves first second out r after w h = w .bytes ∙ go (mergeSaid first s
     go (ofNeither k l b) e = refl
 
 pub either-way : (first second out : List ℕ) (r r′ : Brought) (after after′ : List ℕ) → FilesMerged first second out r after → FilesMerged second first out r′ after′
-    → (after ≡ after′) × (Accepted first → Accepted second → r ≡ r′)
+    → (after ≡ after′) × (StrictlyAccepted first → StrictlyAccepted second → r ≡ r′)
 either-way first second out r r′ after after′ w v = (go (verdict seal.Strict first none) (verdict seal.Strict second none) refl refl, λ a b. both a b .0)
   where
-    both : Accepted first → Accepted second → (r ≡ r′) × (after ≡ after′)
+    both : StrictlyAccepted first → StrictlyAccepted second → (r ≡ r′) × (after ≡ after′)
     both a b = only-files-merged first second out r r′ after after′ w (turned first second out r′ after′ a b v)
 
     go : (s t : Said Flight) → verdict seal.Strict first none ≡ s → verdict seal.Strict second none ≡ t → after ≡ after′
@@ -152,7 +152,7 @@ into-size : (acc xs : List (List ℕ)) → length (joined (into notAfter acc xs)
 into-size acc [] = omega arith
 into-size acc (x ∷ xs) = omega (arith, into-size (insert notAfter x acc) xs, insert-size x acc, length-append x (13 ∷ 10 ∷ joined xs))
 
-module _ (file : List ℕ) (a : Accepted file) where
+module _ (file : List ℕ) (a : StrictlyAccepted file) where
   -- its notes in order
   abbrev pub inItsOrder : List ℕ
   inItsOrder = mergedFile file (inOrder notAfter (notesIn (linesOf file)))
@@ -208,7 +208,7 @@ not-so one two file room s = rw s (go (leb (length file) 16777216) (leb (length 
     go false u e = let z : _≡_ {A = ℕ} 26 2 = cc in omega (arith, z)
 
 -- where both are accepted
-pub not-same-accepted : (first second out : List ℕ) (r : Brought) (after : List ℕ) → Accepted first → Accepted second → FilesMerged first second out r after
+pub not-same-accepted : (first second out : List ℕ) (r : Brought) (after : List ℕ) → StrictlyAccepted first → StrictlyAccepted second → FilesMerged first second out r after
     → (mergeTold r ≡ ofNeither (number NotSame) 0 0) ↔ (commonPart (linesOf first) ≡ commonPart (linesOf second) → ⊥)
 not-same-accepted first second out r after a b w = (there, here)
   where

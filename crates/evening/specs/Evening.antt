@@ -47,6 +47,8 @@ pub record ReadAlike (f : Flight) (ls : List (List ℕ)) (g : Flight) (ks : List
   pub date : g .date ≡ f .date
   pub layouts : g .layouts ≡ f .layouts
   pub counts : (family : Family) → countOf family (g .counts) ≡ countOf family (f .counts)
+  -- "'signed' yes or no"
+  pub signed : g .signed ≡ f .signed
   -- the same lines at the front, and L lines behind them
   pub common : List (List ℕ)
   pub notes : List (List ℕ)

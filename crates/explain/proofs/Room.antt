@@ -33,11 +33,11 @@ unfolding begun bytes
 begun-room b =
     by-cond (eqb (before b) 0) [] (bytes " (text from byte" ++ (shown (before b + 1) ++ bytes ")")) 38 (omega arith) (simp length-append (omega (arith, number-room (before b + 1))))
 
-meant-room : (reason : Reason) (b : ℕ) → length (meant reason b) ≤ 101
+meant-room : (reason : Reason) (b : ℕ) → length (meant reason b) ≤ 116
 unfolding meant bytes
 meant-room reason b = simp length-append (omega (arith, meaning-room reason, begun-room b))
 
-head-room : (w : Refusal) → length (head w) ≤ 194
+head-room : (w : Refusal) → length (head w) ≤ 209
 unfolding head
 head-room w = simp length-append (omega (arith, called-room (w .reason), placed-room (w .line) (w .byte), meant-room (w .reason) (w .byte)))
 

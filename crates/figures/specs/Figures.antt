@@ -1,5 +1,6 @@
 -- The values of an answer on a file.
 use Prim.Native.Nat.{ℕ}
+use mathlib.Core.Bool.{Bool, cond}
 use mathlib.Core.List.{List, [], _∷_}
 use mathlib.Core.Path.{_≡_}
 use Rattle.rules.specs.Families.{firstStart}
@@ -11,10 +12,15 @@ use Rattle.rules.specs.declared.Flight.{Flight}
 use Rattle.answers.specs.Answers.{outcomeNumbers}
 use Rattle.answers.specs.declared.Numbers.{Numbers}
 
--- "the date, the I and J layouts, the count of lines, of B lines and of K lines": the layouts by the lengths of their lines; then of N lines the count and the length
+-- yes or no as a number
+abbrev pub oneIf : Bool → ℕ
+oneIf b = cond b 1 0
+
+-- "the date, the I and J layouts, the count of lines, of B lines and of K lines": the layouts by the lengths of their lines; then of N lines the count and the length; then
+-- "'signed' yes or no"
 abbrev pub flightNumbers : Flight → List ℕ
 flightNumbers f =
-    f .date .day ∷ f .date .month ∷ f .date .year ∷ f .lines ∷ f .counts .b ∷ f .counts .k ∷ lineLength (firstStart family.B) (f .layouts .b) ∷ lineLength (firstStart (family.Extra extra.K)) (f .layouts .k) ∷ f .counts .n ∷ lineLength (firstStart (family.Extra extra.N)) (f .layouts .n) ∷ []
+    f .date .day ∷ f .date .month ∷ f .date .year ∷ f .lines ∷ f .counts .b ∷ f .counts .k ∷ lineLength (firstStart family.B) (f .layouts .b) ∷ lineLength (firstStart (family.Extra extra.K)) (f .layouts .k) ∷ f .counts .n ∷ lineLength (firstStart (family.Extra extra.N)) (f .layouts .n) ∷ oneIf (f .signed) ∷ []
 
 -- the answer on a file
 unfoldable pub checkedNumbers : Checked → Numbers

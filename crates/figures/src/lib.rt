@@ -1,7 +1,7 @@
 // What the check says of a file, in numbers.
 ghost use mathlib.Core.Path.{_≡_};
 ghost use Rattle.answers.specs.Answers.{accepting};
-ghost use Rattle.figures.specs.Figures.{flightNumbers, FileNumbered};
+ghost use Rattle.figures.specs.Figures.{oneIf, flightNumbers, FileNumbered};
 use answers::Numbers;
 use answers::accepted;
 use answers::refused;
@@ -10,6 +10,16 @@ use rules::Extra;
 use rules::Family;
 use rules::Flight;
 use rules::Outcome;
+
+// Yes or no as a number.
+fn one_if(b: bool) -> u64
+    ensures { λ r. ⌜ r ≡ oneIf b ⌝ }
+{
+    if b {
+        return 1;
+    }
+    0
+}
 
 // What an accepted file says.
 fn flight(f: Flight) -> Numbers
@@ -25,6 +35,7 @@ fn flight(f: Flight) -> Numbers
     let month = date.month as u64;
     let year = date.year as u64;
     let lines = f.lines as u64;
+    let signed = one_if(f.signed);
     accepted(
         &[
             day,
@@ -37,6 +48,7 @@ fn flight(f: Flight) -> Numbers
             k,
             counts.n as u64,
             n,
+            signed,
         ],
     )
 }

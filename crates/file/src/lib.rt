@@ -20,15 +20,15 @@ fn check_whole(seal: Seal, file: &[u8], lent: bool, table: &mut [u32]) -> Checke
     lines::check_lines(seal, file, lent, table)
 }
 
-// The check of a whole file: what it says, with the table's first entries set to its lines' offsets. Refused with 1 to 16, the table then set for the lines before
-// the faulty one; entries past the last good line stay as they are.
+// The check of a whole file: what it says, with the table's first entries set to its lines' offsets. Refused with 1 to 16 or 22 to 25, the table then set for the
+// lines before the faulty one; entries past the last good line stay as they are.
 pub fn check(seal: Seal, file: &[u8], table: &mut [u32]) -> Checked
     ensures { λ r. ⌜ FileChecked seal (now (file .entry)) (now (table .entry)) r (now (table .exit)) ⌝ }
 {
     check_whole(seal, file, true, table)
 }
 
-// The check of a whole file where no table is lent: what it says. Refused with 1 to 14 or 16.
+// The check of a whole file where no table is lent: what it says. Refused with 1 to 14, 16 or 22 to 25.
 pub fn check_untabled(seal: Seal, file: &[u8]) -> Checked
     ensures { λ r. ⌜ FileJudged seal (now (file .entry)) r ⌝ }
 {

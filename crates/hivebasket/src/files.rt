@@ -1,14 +1,22 @@
-// A file: its check, a line by its number, a reading place over its lines; two files merged.
-ghost use Rattle.calls_file.specs.Calls.{CheckAnswered};
+// A file: its two checks, the usual one and the strict one, a line by its number, a reading place over its lines; two files merged.
+ghost use Rattle.calls_file.specs.Calls.{UsuallyChecked, StrictlyChecked};
 ghost use Rattle.calls_place.specs.Calls.{LineAnswered, StepAnswered};
 ghost use Rattle.calls_merge.specs.Calls.{MergeAnswered};
 
-// The check of a whole file, with the table of its lines' offsets.
+// The usual check of a whole file, with the table of its lines' offsets.
 #[no_mangle]
 pub extern "C" fn hive_check(file: &[u8], table: &mut [u32], answer: &mut [u64]) -> u32
-    ensures { λ r. ⌜ CheckAnswered (now (file .entry)) (now (table .entry)) (now (answer .entry)) r (now (table .exit)) (now (answer .exit)) ⌝ }
+    ensures { λ r. ⌜ UsuallyChecked (now (file .entry)) (now (table .entry)) (now (answer .entry)) r (now (table .exit)) (now (answer .exit)) ⌝ }
 {
     calls_file::check(file, table, answer)
+}
+
+// The strict check, which takes only a signed file.
+#[no_mangle]
+pub extern "C" fn hive_check_strict(file: &[u8], table: &mut [u32], answer: &mut [u64]) -> u32
+    ensures { λ r. ⌜ StrictlyChecked (now (file .entry)) (now (table .entry)) (now (answer .entry)) r (now (table .exit)) (now (answer .exit)) ⌝ }
+{
+    calls_file::check_strict(file, table, answer)
 }
 
 // A line of the file by its number.

@@ -1,62 +1,18 @@
-// A file by its name: read whole, then listed, checked, or its track printed.
-ghost use Rattle.io.specs.Counts.{Counts};
+// A file by its name, listed, checked, or its track printed: by the usual check.
 use crate::tracks::print_track;
 use console::fate_of;
 use console::print_accepted;
 use console::print_heading;
 use console::print_refusal;
 use console::print_refused;
-use console::say_unopened;
-use console::say_unread;
+use named::read_named;
 use rules::Outcome;
 use rules::Seal;
 use verbs::Fate;
 use verbs::Verb;
 
-// How many bytes of the input are the file's, and whether they are all that it has.
-pub struct Got {
-    pub count: usize,
-    pub whole: bool,
-}
-
-// Whether a file of which so many bytes were read has no more. Of one that is too long this is not asked: it is refused as such.
-fn is_whole(fd: i32, count: usize) -> bool {
-    if 16777216 < count {
-        return true;
-    }
-    lister::is_at_end(fd)
-}
-
-fn read_open(fd: i32, input: &mut [u8]) -> Got
-    ensures { λ r. ⌜ Counts (r .count) (now (input .exit)) ⌝ }
-{
-    let count = io::read_full(fd, input);
-    let whole = is_whole(fd, count);
-    libc::close(fd);
-    Got { count, whole }
-}
-
-// A file read into the input. What cannot be opened or read to its end is said.
-pub(crate) fn read_named(name: &[u8], input: &mut [u8]) -> Got
-    ensures { λ r. ⌜ Counts (r .count) (now (input .exit)) ⌝ }
-{
-    let fd = os::open_read(name);
-    if fd < 0 {
-        say_unopened(name);
-        return Got {
-            count: 0,
-            whole: false,
-        };
-    }
-    let got = read_open(fd, input);
-    if !got.whole {
-        say_unread(name);
-    }
-    got
-}
-
 fn list(file: &[u8], table: &mut [u32]) -> Fate {
-    let checked = file::check(Seal::Strict, file, table);
+    let checked = file::check(Seal::Usual, file, table);
     let outcome = checked.outcome;
     let flight = checked.flight;
     match outcome {
@@ -66,7 +22,7 @@ fn list(file: &[u8], table: &mut [u32]) -> Fate {
 }
 
 fn check(name: &[u8], file: &[u8], table: &mut [u32]) -> Fate {
-    let checked = file::check(Seal::Strict, file, table);
+    let checked = file::check(Seal::Usual, file, table);
     let outcome = checked.outcome;
     let flight = checked.flight;
     match outcome {

@@ -1,10 +1,10 @@
 // Two copies of a file by their names: merged into a new file, which takes no other file's place.
-use crate::files::read_named;
 use console::fate_of;
 use console::print_noted;
 use console::print_refused;
 use console::print_unmerged;
 use merge::Brought;
+use named::read_named;
 use verbs::Fate;
 
 // How many notes each copy has, and the new file.

@@ -26,7 +26,10 @@ fn ruled_line(r: Role, line: &[u8], st: State) -> Judged
         Role::Event => after::after_time(line::event(line), st),
         Role::Satellites => after::after_time(line::satellites(line), st),
         Role::Differential => after::after_outcome(line::differential(line), st),
-        Role::Seals => after::after_outcome(shape::shaped(line, 2, 255, false), st),
+        Role::Seals => after::after_outcome(
+            shape::shaped(line, 2, 255, false),
+            state::signed_off(st),
+        ),
         Role::Remark => after::after_outcome(shape::shaped(line, 1, 99, false), st),
         Role::Other => after::after_outcome(shape::shaped(line, 1, 255, false), st),
         Role::NoRole => after::refused_at(Reason::Kind, 1),

@@ -5,4 +5,5 @@ pub mod Passing
 pub mod Splitting
 pub mod LineEnds
 pub mod Counted
+pub mod Signing
 pub mod Walking

@@ -13,7 +13,7 @@ use Rattle.rules.specs.Families.{firstStart, layoutOf}
 use Rattle.rules.specs.Refusals.{Said, says, refuses, inLine, andThen}
 use Rattle.rules.specs.Lines.{kindOf, aLine, dateLine, hLine, layoutLine, headLine, pointLine, dLine, eLine, fLine, columnedLine, lLine, gLine, otherLine}
 use Rattle.rules.specs.Roles.{roleOf, isRole, afterH, leading}
-use Rattle.rules.specs.Order.{orderOf, moved, dated, laidOut, counted, begun, pointed, clocked, passing, isBack, timed, declarationLine, headerLine, ruled, judge}
+use Rattle.rules.specs.Order.{orderOf, moved, dated, laidOut, counted, signedOff, begun, pointed, clocked, passing, isBack, timed, declarationLine, headerLine, ruled, judge}
 use Rattle.rules.specs.Split.{Lines, line}
 use Rattle.rules.specs.Files.{endsAfter, hasRoom, run}
 use Rattle.rules.specs.declared.Date.{Date}
@@ -42,6 +42,7 @@ leading-inv low high next stage s e =
 
 -- whatever a file must have at its end, its front is over there
 pub front-over : (seal : Seal) → afterH ≤ endsAfter seal
+front-over seal.Usual = omega arith
 front-over seal.Strict = omega arith
 
 -- ---- a line that passes
@@ -66,7 +67,7 @@ pub data Leaves (l : List ℕ) (m : State) : Role → State → Type 0 where
   event : (t : ℕ) → eLine l ≡ says t → Onward (m .clock) t → Leaves l m role.Event (clocked t m)
   satellites : (t : ℕ) → fLine l ≡ says t → Onward (m .clock) t → Leaves l m role.Satellites (clocked t m)
   differential : dLine l ≡ says tt → Leaves l m role.Differential m
-  seals : gLine l ≡ says tt → Leaves l m role.Seals m
+  seals : gLine l ≡ says tt → Leaves l m role.Seals (signedOff m)
   remark : lLine l ≡ says tt → Leaves l m role.Remark m
   other : otherLine l ≡ says tt → Leaves l m role.Other m
 
@@ -82,8 +83,8 @@ module _ (l : List ℕ) (m after : State) where
   abbrev Left : Role → Type 0
   Left r = Leaves l m r after
 
-  quiet : {r : Role} (s : Said (Unit {0})) → (s ≡ says tt → Leaves l m r m) → andThen s (λ _. says m) ≡ says after → Left r
-  quiet s f e = let t = then-inv s after _ e in let q : m ≡ after = cc in rw (← q) (f (t .1))
+  quiet : {r : Role} (n : State) (s : Said (Unit {0})) → (s ≡ says tt → Leaves l m r n) → andThen s (λ _. says n) ≡ says after → Left r
+  quiet n s f e = let t = then-inv s after _ e in let q : n ≡ after = cc in rw (← q) (f (t .1))
 
   in-time : {r : Role} (s : Said ℕ) (n : State) → ((t : ℕ) → s ≡ says t → Onward (n .clock) t → Leaves l m r (clocked t n)) → andThen s (λ t. timed t n) ≡ says after → Left r
   in-time s n f e =
@@ -100,7 +101,7 @@ module _ (l : List ℕ) (m after : State) where
           let d = then-inv (dateLine l) after _ e in
           let q : dated (d .0) m ≡ after = cc in
           rw (← q) (date (d .0) (eqb-true (m .flight .lines) 2 n) (d .1))
-      by false n e = quiet (hLine l) (header (eqb-false (m .flight .lines) 2 n)) e
+      by false n e = quiet m (hLine l) (header (eqb-false (m .flight .lines) 2 n)) e
 
   declaration-there : declarationLine l m ≡ says after → Left role.Declares
   unfolding declarationLine
@@ -118,7 +119,7 @@ module _ (l : List ℕ) (m after : State) where
 
   pub leaves : (r : Role) → ruled r l m ≡ says after → Left r
   unfolding ruled
-  leaves role.Opens e = quiet (aLine l) opens e
+  leaves role.Opens e = quiet m (aLine l) opens e
   leaves role.Heads e = header-there e
   leaves (role.Tells f) e =
       let i = then-inv (layoutLine (firstStart f) l) after _ e in
@@ -128,10 +129,10 @@ module _ (l : List ℕ) (m after : State) where
   leaves role.Declares e = declaration-there e
   leaves role.Event e = in-time (eLine l) m event e
   leaves role.Satellites e = in-time (fLine l) m satellites e
-  leaves role.Differential e = quiet (dLine l) differential e
-  leaves role.Seals e = quiet (gLine l) seals e
-  leaves role.Remark e = quiet (lLine l) remark e
-  leaves role.Other e = quiet (otherLine l) other e
+  leaves role.Differential e = quiet m (dLine l) differential e
+  leaves role.Seals e = quiet (signedOff m) (gLine l) seals e
+  leaves role.Remark e = quiet m (lLine l) remark e
+  leaves role.Other e = quiet m (otherLine l) other e
   leaves role.NoRole e = absurd (refuses-says e)
 
 onward-timed : (t : ℕ) (m : State) → Onward (m .clock) t → timed t m ≡ says (clocked t m)

@@ -1,5 +1,5 @@
--- A flight over three midnights, worked out by hand: its track, the answers for lists of several lengths, and the lists afterwards; then a file that is refused, and one without B
--- lines. Computed. Assumes nothing.
+-- A flight over three midnights, worked out by hand: its track, the answers for lists of several lengths, and the lists afterwards; then a file that is refused, one that is not
+-- signed, and one without B lines. Computed. Assumes nothing.
 use Prim.Native.Nat.{ℕ}
 use Prim.Native.Char.{code}
 use mathlib.Core.List.{List, [], _∷_, _++_}
@@ -55,18 +55,29 @@ list-of-nights = (refl, refl)
 
 -- ---- a file refused, with a list that is too short as well
 
--- a G line is missing: "the file's own, then 18 if the list is short". The file ends before line 5, and its two B lines have no room in a list of one
+-- a D line stands behind the G line: "the file's own, then 18 if the list is short". It is line 6, and the two B lines have no room in a list of one
+abbrev pub spoiled : List ℕ
+unfolding fileOf
+spoiled = fileOf ("AXYZ001" ∷ "HFDTE311216" ∷ "B2359585130000N00015000WA0010000120" ∷ "B0000055130001N00015001WV0010100121" ∷ "GABC" ∷ "D11234" ∷ [])
+
+pub said-of-spoiled : (trackSaid spoiled 2 ≡ refuses 6 6 1) × (trackSaid spoiled 1 ≡ refuses 6 6 1) × (trackSaid spoiled 0 ≡ refuses 6 6 1)
+unfolding everything fileOf flightTracked
+said-of-spoiled = (refl, refl, refl)
+
+pub list-of-spoiled : (listAfter spoiled (replicate 2 lent) ≡ replicate 2 lent) × (listAfter spoiled (lent ∷ []) ≡ lent ∷ [])
+unfolding everything fileOf trackFrom flightTracked
+list-of-spoiled = (refl, refl)
+
+-- ---- a file that is not signed
+
+-- no G line: "The usual check now accepts a file with no G"
 abbrev pub unsealed : List ℕ
 unfolding fileOf
 unsealed = fileOf ("AXYZ001" ∷ "HFDTE311216" ∷ "B2359585130000N00015000WA0010000120" ∷ "B0000055130001N00015001WV0010100121" ∷ [])
 
-pub said-of-unsealed : (trackSaid unsealed 2 ≡ refuses 16 5 0) × (trackSaid unsealed 1 ≡ refuses 16 5 0) × (trackSaid unsealed 0 ≡ refuses 16 5 0)
+pub said-of-unsealed : (trackSaid unsealed 2 ≡ says 2) × (trackSaid unsealed 1 ≡ refuses 18 0 0)
 unfolding everything fileOf flightTracked
-said-of-unsealed = (refl, refl, refl)
-
-pub list-of-unsealed : (listAfter unsealed (replicate 2 lent) ≡ replicate 2 lent) × (listAfter unsealed (lent ∷ []) ≡ lent ∷ [])
-unfolding everything fileOf trackFrom flightTracked
-list-of-unsealed = (refl, refl)
+said-of-unsealed = (refl, refl)
 
 -- ---- a file without B lines
 

@@ -37,7 +37,7 @@ use Rattle.weave.specs.Weave.{all, wovenSaid, outWoven, NotesWoven}
 use Rattle.weave.proofs.Reading.{sets-append}
 use Rattle.weave.specs.declared.Woven.{Woven}
 use Rattle.weave.specs.declared.Woven.the-variants as woven
-use Rattle.merge.specs.Merge.{Accepted, mergeTold, FilesMerged}
+use Rattle.merge.specs.Merge.{StrictlyAccepted, mergeTold, FilesMerged}
 use Rattle.merge.specs.declared.Brought.{Brought}
 use Rattle.merge.specs.declared.Brought.the-variants as brought
 
@@ -121,11 +121,11 @@ refused-is (refuses n l b) r e =
     let t : r .byte ≡ b = cc in
     rw (p, q, t)
 
-pub accepted-is : (file : List ℕ) (o : Outcome) → outcomeTold o ≡ outcome (verdict seal.Strict file none) → o ≡ outcomes.Accepted → Accepted file
+pub accepted-is : (file : List ℕ) (o : Outcome) → outcomeTold o ≡ outcome (verdict seal.Strict file none) → o ≡ outcomes.Accepted → StrictlyAccepted file
 unfolding outcomeTold
 accepted-is file o e g = go (verdict seal.Strict file none) refl (rw g at e)
   where
-    go : (s : Said Flight) → verdict seal.Strict file none ≡ s → says tt ≡ outcome s → Accepted file
+    go : (s : Said Flight) → verdict seal.Strict file none ≡ s → says tt ≡ outcome s → StrictlyAccepted file
     go (says f) h k = (f, h)
     go (refuses n l b) h k = absurd (refuses-says (sym k))
 
@@ -136,7 +136,7 @@ module _ (first second out : List ℕ) (o : Outcome) (r : Refusal) (g : o ≡ ou
       let v = refused-is (verdict seal.Strict first none) r (rw g at e) in
       made first second out (brought.First r) out (rw v) (rw v)
 
-  pub second-refused : Accepted first → outcomeTold o ≡ outcome (verdict seal.Strict second none) → FilesMerged first second out (brought.Second r) out
+  pub second-refused : StrictlyAccepted first → outcomeTold o ≡ outcome (verdict seal.Strict second none) → FilesMerged first second out (brought.Second r) out
   unfolding outcomeTold mergeSaid mergeTold
   second-refused a e =
       let v = refused-is (verdict seal.Strict second none) r (rw g at e) in
@@ -144,7 +144,7 @@ module _ (first second out : List ℕ) (o : Outcome) (r : Refusal) (g : o ≡ ou
 
 -- ---- two accepted files
 
-module _ (first second out : List ℕ) (a : Accepted first) (b : Accepted second) where
+module _ (first second out : List ℕ) (a : StrictlyAccepted first) (b : StrictlyAccepted second) where
   abbrev one : List ℕ
   one = commonPart (linesOf first)
 

@@ -18,7 +18,7 @@ use Rattle.rules.proofs.Inverse.{need-inv}
 use Rattle.notes.specs.Notes.{commonPart, isSame}
 use Rattle.notes.specs.Merging.{Merged, merged, ofNeither, acceptFirst, acceptSecond, mergedFile, mergeSaid, outMerged}
 use Rattle.common.proofs.Common.{same-is}
-use Rattle.merge.specs.Merge.{Accepted, mergeTold, FilesMerged}
+use Rattle.merge.specs.Merge.{StrictlyAccepted, mergeTold, FilesMerged}
 use Rattle.merge.specs.declared.Brought.{Brought}
 use Rattle.merge.specs.declared.Brought.the-variants as brought
 
@@ -36,8 +36,8 @@ neither-merged : (k l b n : ℕ) → ofNeither k l b ≡ merged n → ⊥
 neither-merged k l b n e = let z : _≡_ {A = ℕ} 0 1 = cc in omega arith
 
 pub record NotRefused (first second file : List ℕ) (room n : ℕ) : Type 0 where
-  pub one : Accepted first
-  pub two : Accepted second
+  pub one : StrictlyAccepted first
+  pub two : StrictlyAccepted second
   pub same : commonPart (linesOf first) ≡ commonPart (linesOf second)
   pub short : length file ≤ 16777216
   pub fits : length file ≤ room

@@ -15,9 +15,9 @@ use Rattle.notes.specs.Merging.{Merged, merged, ofFirst, ofSecond, ofNeither, m
 use Rattle.merge.specs.declared.Brought.{Brought}
 use Rattle.merge.specs.declared.Brought.the-variants as brought
 
--- the file passes the check that wants a G line, with no table
-abbrev pub Accepted : List ℕ → Type 0
-Accepted file = (f : Flight) × (verdict seal.Strict file none ≡ says f)
+-- "a separate strict check keeps the old rule, and .. the merge of CR 3 must now ask for it by name": the file passes the strict check, with no table
+abbrev pub StrictlyAccepted : List ℕ → Type 0
+StrictlyAccepted file = (f : Flight) × (verdict seal.Strict file none ≡ says f)
 
 -- the answer, in the paper's terms
 unfoldable pub mergeTold : Brought → Merged
@@ -26,7 +26,7 @@ mergeTold (brought.First r) = ofFirst (number (r .reason)) (r .line) (r .byte)
 mergeTold (brought.Second r) = ofSecond (number (r .reason)) (r .line) (r .byte)
 mergeTold (brought.Neither r) = ofNeither (number (r .reason)) (r .line) (r .byte)
 
--- "that common part, then the L lines after it, each kept as often as it occurs in whichever copy has it more often, in ascending byte order": of these notes the answer and the output
+-- "Given two accepted files", by the strict check, "that common part, then the L lines after it, each kept as often as it occurs in whichever copy has it more often, in ascending byte order": of these notes the answer and the output
 -- afterwards are told
 pub record FilesMerged (first second out : List ℕ) (r : Brought) (after : List ℕ) : Type 0 where
   pub notes : List (List ℕ)

@@ -3,7 +3,7 @@ ghost use mathlib.Core.Path.{_≡_};
 ghost use Prim.Native.Nat.{_≤_};
 ghost use lib.ListN.{length, take, drop};
 ghost use lib.Seq.{sets};
-ghost use Rattle.merge.specs.Merge.{Accepted, FilesMerged};
+ghost use Rattle.merge.specs.Merge.{StrictlyAccepted, FilesMerged};
 use rules::Found;
 use rules::Outcome;
 use rules::Reason;
@@ -41,9 +41,9 @@ fn copy_front(from: &[u8], n: usize, out: &mut [u8])
     }
 }
 
-// Two accepted files merged.
+// Two files merged that pass the strict check.
 fn bring(first: &[u8], second: &[u8], out: &mut [u8]) -> Brought
-    requires { ⌜ Accepted (now first) × Accepted (now second) ⌝ }
+    requires { ⌜ StrictlyAccepted (now first) × StrictlyAccepted (now second) ⌝ }
     ensures { λ r. ⌜ FilesMerged (now (first .entry)) (now (second .entry)) (now (out .entry)) r (now (out .exit)) ⌝ }
 {
     let Found::At(n) = common::alike(first, second) else {
@@ -62,8 +62,9 @@ fn bring(first: &[u8], second: &[u8], out: &mut [u8]) -> Brought
 }
 
 // Two copies of a file merged: everything up to the end of the last G line, then the L lines behind it in ascending byte order, a line that begins another first, each as
-// often as in the copy that has it more often; how many bytes these are. Refused with the first file's refusal, then the second's, 26 where the bytes up to the end of the
-// last G lines differ, 2 where the merged file is over 16,777,216 bytes, 18 where the output is shorter. The output is unchanged where refused; bytes past the merged file stay.
+// often as in the copy that has it more often; how many bytes these are. Refused with the first file's refusal in the strict check, then the second's, 26 where the bytes up to
+// the end of the last G lines differ, 2 where the merged file is over 16,777,216 bytes, 18 where the output is shorter. The output is unchanged where refused; bytes past the
+// merged file stay.
 pub fn merge(first: &[u8], second: &[u8], out: &mut [u8]) -> Brought
     ensures { λ r. ⌜ FilesMerged (now (first .entry)) (now (second .entry)) (now (out .entry)) r (now (out .exit)) ⌝ }
 {

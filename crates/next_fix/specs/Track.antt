@@ -20,9 +20,10 @@ use Rattle.rules.specs.declared.Seal.{Seal}
 use Rattle.rules.specs.declared.Seal.the-variants as seal
 use Rattle.next_fix.specs.declared.Record.{Record}
 
--- the check that a file passes whose track is asked for
+-- the usual check, which a file passes whose track is asked for: "The usual check now accepts a file with no G"; of the strict one: "the badge list and the merge of CR 3
+-- must now ask for it by name"
 abbrev pub trackSeal : Seal
-trackSeal = seal.Strict
+trackSeal = seal.Usual
 
 -- "fix records: line number, day number counted from 0, seconds, position, validity, both altitudes": of the line that a walk has passed last
 abbrev pub recordOf : Walk → Fix → Record

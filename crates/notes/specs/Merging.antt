@@ -35,7 +35,8 @@ abbrev pub mergedFile : List ℕ → List (List ℕ) → List ℕ
 mergedFile first notes = commonPart (linesOf first) ++ joined notes
 
 -- "Refusals: first file's, second file's, then 26 NOT_SAME, then 2 for the result, then 18 if the output is shorter; 26 and every later new number come with line 0,
--- byte 0": where the output has `room` bytes, and the merged file is `result`. "No table is lent here"
+-- byte 0": where the output has `room` bytes, and the merged file is `result`. "No table is lent here". A file's refusal is that of the strict check: "the merge of CR 3 must now ask
+-- for it by name"
 unfoldable pub mergeSaid : List ℕ → List ℕ → List ℕ → ℕ → Merged
 mergeSaid first second result room =
     acceptFirst (verdict seal.Strict first none) λ _.

@@ -1,19 +1,21 @@
 -- For each promise of this crate: two answers that meet it are the same, and so is the buffer afterwards. Assumes nothing.
 use Prim.Native.Nat.{ℕ}
-use mathlib.Core.Bool.{Bool}
 use mathlib.Core.List.{List}
 use mathlib.Core.Path.{_≡_}
 use Rattle.rules.specs.declared.Flight.{Flight}
 use Rattle.rules.specs.declared.Refusal.{Refusal}
 use Rattle.pieces.proofs.Only.{only-piece-put}
-use Rattle.notice.specs.Notice.{HeadingPut, AcceptedPut, RefusedPut, FailedPut, BothPut, NotedPut}
+use Rattle.notice.specs.Notice.{HeadingPut, AcceptedPut, FitPut, RefusedPut, FailedPut, BothPut, NotedPut}
 
 module _ (name out : List ℕ) (r r′ : ℕ) (after after′ : List ℕ) where
   pub only-heading-put : HeadingPut name out r after → HeadingPut name out r′ after′ → (r ≡ r′) × (after ≡ after′)
   only-heading-put = only-piece-put out r r′ after after′ 0 _
 
-  pub only-accepted-put : (f : Flight) (signed : Bool) → AcceptedPut name f signed out r after → AcceptedPut name f signed out r′ after′ → (r ≡ r′) × (after ≡ after′)
-  only-accepted-put f signed = only-piece-put out r r′ after after′ 0 _
+  pub only-accepted-put : (f : Flight) → AcceptedPut name f out r after → AcceptedPut name f out r′ after′ → (r ≡ r′) × (after ≡ after′)
+  only-accepted-put f = only-piece-put out r r′ after after′ 0 _
+
+  pub only-fit-put : (f : Flight) (file : List ℕ) → FitPut name f file out r after → FitPut name f file out r′ after′ → (r ≡ r′) × (after ≡ after′)
+  only-fit-put f file = only-piece-put out r r′ after after′ 0 _
 
   pub only-refused-put : (file : List ℕ) (why : Refusal) → RefusedPut name file why out r after → RefusedPut name file why out r′ after′ → (r ≡ r′) × (after ≡ after′)
   only-refused-put file why = only-piece-put out r r′ after after′ 0 _

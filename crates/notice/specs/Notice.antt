@@ -1,10 +1,10 @@
--- What igc says of a file by its name, and the promises of the functions that put it into a buffer: as much of the text as has room.
+-- What the programs say of a file by its name, and the promises of the functions that put it into a buffer: as much of the text as has room.
 use Prim.Native.Nat.{ℕ}
 use mathlib.Core.Bool.{Bool, cond}
 use mathlib.Core.List.{List, _++_}
-use lib.Dec.{eqb}
+use lib.Dec.{eqb, leb}
 use lib.ListN.{length}
-use Rattle.rules.specs.Choice.{bytes}
+use Rattle.rules.specs.Choice.{bytes, byte, part}
 use Rattle.rules.specs.Listing.{shown, lf}
 use Rattle.rules.specs.declared.Counts.{Counts}
 use Rattle.rules.specs.declared.Flight.{Flight}
@@ -37,17 +37,35 @@ unfoldable pub signedShown : Bool → List ℕ
 unfolding bytes
 signedShown signed = cond signed (bytes ", signed" ++ lf) (bytes ", not signed" ++ lf)
 
-unfoldable pub acceptedShown : Flight → Bool → List ℕ
+unfoldable pub acceptedShown : Flight → List ℕ
 unfolding bytes
-acceptedShown f signed = bytes ": accepted, " ++ (dateShown (f .date) ++ (countsShown (f .lines) (f .counts) ++ signedShown signed))
+acceptedShown f = bytes ": accepted, " ++ (dateShown (f .date) ++ (countsShown (f .lines) (f .counts) ++ signedShown (f .signed)))
+
+-- ---- a file that is fit for a claim: its date, its recorder, its count of fixes, and whether a G line is there
+
+-- "3 code characters for the maker, 3 for the serial": bytes 2 to 7 of line 1, which is where the file begins
+unfoldable pub recorderShown : List ℕ → List ℕ
+unfolding bytes
+recorderShown file = cond (leb 7 (length file)) (bytes ", recorder " ++ part (byte 2) (byte 8) file) (bytes ", no recorder")
+
+unfoldable pub flownShown : ℕ → Bool → List ℕ
+unfolding bytes
+flownShown fixes signed = counted (bytes ", fixes") fixes ++ signedShown signed
+
+unfoldable pub fitShown : Flight → List ℕ → List ℕ
+unfolding bytes
+fitShown f file = bytes ": " ++ (dateShown (f .date) ++ (recorderShown file ++ flownShown (f .counts .b) (f .signed)))
 
 -- ---- the promises
 
 abbrev pub HeadingPut : List ℕ → List ℕ → ℕ → List ℕ → Type 0
 HeadingPut name out r after = PiecePut out 0 (bytes "== " ++ (nameShown name ++ lf)) r after
 
-abbrev pub AcceptedPut : List ℕ → Flight → Bool → List ℕ → ℕ → List ℕ → Type 0
-AcceptedPut name f signed out r after = PiecePut out 0 (nameShown name ++ acceptedShown f signed) r after
+abbrev pub AcceptedPut : List ℕ → Flight → List ℕ → ℕ → List ℕ → Type 0
+AcceptedPut name f out r after = PiecePut out 0 (nameShown name ++ acceptedShown f) r after
+
+abbrev pub FitPut : List ℕ → Flight → List ℕ → List ℕ → ℕ → List ℕ → Type 0
+FitPut name f file out r after = PiecePut out 0 (nameShown name ++ fitShown f file) r after
 
 -- a file that is refused, explained with the caret
 abbrev pub RefusedPut : List ℕ → List ℕ → Refusal → List ℕ → ℕ → List ℕ → Type 0

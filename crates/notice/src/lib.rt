@@ -1,7 +1,7 @@
-// What igc says of a file by its name: the heading of its listing, the line of its check, its refusal explained, its notes counted, why it was not read. Each is put at the
+// What the programs say of a file by its name: the heading of its listing, the line of its check, its line in the badge list, its refusal explained, its notes counted, why it was not read. Each is put at the
 // start of a lent buffer, and the answer is how many bytes that is; a full buffer takes no more.
 ghost use Rattle.pieces.specs.Buffer.{PiecePut};
-ghost use Rattle.notice.specs.Notice.{nameShown, counted, countsShown, extrasShown, signedShown, acceptedShown, HeadingPut, AcceptedPut, RefusedPut, FailedPut, BothPut, NotedPut};
+ghost use Rattle.notice.specs.Notice.{nameShown, counted, countsShown, extrasShown, signedShown, acceptedShown, recorderShown, flownShown, fitShown, HeadingPut, AcceptedPut, FitPut, RefusedPut, FailedPut, BothPut, NotedPut};
 use dates::put_date;
 use pieces::put_byte;
 use pieces::put_shown;
@@ -50,15 +50,42 @@ fn put_signed(out: &mut [u8], at: usize, signed: bool) -> usize
     put_text(out, at, b", not signed\n")
 }
 
-fn put_accepted(out: &mut [u8], at: usize, f: Flight, signed: bool) -> usize
-    ensures { λ r. ⌜ PiecePut (now (out .entry)) at (acceptedShown f signed) r (now (out .exit)) ⌝ }
+fn put_accepted(out: &mut [u8], at: usize, f: Flight) -> usize
+    ensures { λ r. ⌜ PiecePut (now (out .entry)) at (acceptedShown f) r (now (out .exit)) ⌝ }
 {
     let date = f.date;
     let counts = f.counts;
     let a = put_text(out, at, b": accepted, ");
     let b = put_date(out, a, date);
     let c = put_counts(out, b, f.lines, counts);
-    put_signed(out, c, signed)
+    put_signed(out, c, f.signed)
+}
+
+fn put_recorder(out: &mut [u8], at: usize, file: &[u8]) -> usize
+    ensures { λ r. ⌜ PiecePut (now (out .entry)) at (recorderShown (now (file .entry))) r (now (out .exit)) ⌝ }
+{
+    if file.len() < 7 {
+        return put_text(out, at, b", no recorder");
+    }
+    let next = put_text(out, at, b", recorder ");
+    put_text(out, next, &file[1..7])
+}
+
+fn put_flown(out: &mut [u8], at: usize, fixes: u32, signed: bool) -> usize
+    ensures { λ r. ⌜ PiecePut (now (out .entry)) at (flownShown fixes signed) r (now (out .exit)) ⌝ }
+{
+    let next = put_counted(out, at, b", fixes", fixes);
+    put_signed(out, next, signed)
+}
+
+fn put_fit(out: &mut [u8], at: usize, f: Flight, file: &[u8]) -> usize
+    ensures { λ r. ⌜ PiecePut (now (out .entry)) at (fitShown f (now (file .entry))) r (now (out .exit)) ⌝ }
+{
+    let date = f.date;
+    let a = put_text(out, at, b": ");
+    let b = put_date(out, a, date);
+    let c = put_recorder(out, b, file);
+    put_flown(out, c, f.counts.b, f.signed)
 }
 
 // The line before what is printed of a file, where there are several.
@@ -71,11 +98,19 @@ pub fn heading(name: &[u8], out: &mut [u8]) -> usize
 }
 
 // The line of an accepted file: its date, how many lines, fixes, K and N lines it has, and whether it is signed.
-pub fn accepted(name: &[u8], f: Flight, signed: bool, out: &mut [u8]) -> usize
-    ensures { λ r. ⌜ AcceptedPut (now (name .entry)) f signed (now (out .entry)) r (now (out .exit)) ⌝ }
+pub fn accepted(name: &[u8], f: Flight, out: &mut [u8]) -> usize
+    ensures { λ r. ⌜ AcceptedPut (now (name .entry)) f (now (out .entry)) r (now (out .exit)) ⌝ }
 {
     let next = put_name(out, 0, name);
-    put_accepted(out, next, f, signed)
+    put_accepted(out, next, f)
+}
+
+// The line of a file in the badge list: its date, its recorder, how many fixes it has, and whether it is signed.
+pub fn fit(name: &[u8], f: Flight, file: &[u8], out: &mut [u8]) -> usize
+    ensures { λ r. ⌜ FitPut (now (name .entry)) f (now (file .entry)) (now (out .entry)) r (now (out .exit)) ⌝ }
+{
+    let next = put_name(out, 0, name);
+    put_fit(out, next, f, file)
 }
 
 // A refused file's name, and behind it the refusal explained.

@@ -37,11 +37,12 @@ fn after_layout(family: Family) -> u8
     }
 }
 
-// The part of a file that its lines must have reached at its end.
+// The part of a file that its lines must have reached at its end, by the check that it is put through.
 pub fn ends_after(seal: Seal) -> u8
     ensures { λ r. ⌜ EndGiven seal r ⌝ }
 {
     match seal {
+        Seal::Usual => AFTER_H,
         Seal::Strict => AFTER_G,
     }
 }

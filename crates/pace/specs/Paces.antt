@@ -27,7 +27,7 @@ paced st p = record {
   declared = st .declared;
   points = st .points;
   clock = p .clock;
-  flight = record { date = st .flight .date; layouts = st .flight .layouts; lines = p .lines; counts = p .counts };
+  flight = record { date = st .flight .date; layouts = st .flight .layouts; lines = p .lines; counts = p .counts; signed = st .flight .signed };
 }
 
 -- ---- a line taken

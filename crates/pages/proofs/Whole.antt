@@ -256,7 +256,7 @@ listed-whole seal most file table out r entries after room enough b =
     rw (shown-text (b .shown), b .lines, b .layout, b .entered) (listed-by seal most file table room enough (opened seal most file (length table)) refl)
 
 -- with the most bytes and the room that document 01 gives the listing program, it is `listing`
-pub listing-whole : (input table out : List ℕ) (r : Begun) (entries after : List ℕ) (room : ℕ) → length table ≡ 16384 → 4096 ≤ room → Begins seal.Strict 65536 input table out r entries after
+pub listing-whole : (input table out : List ℕ) (r : Begun) (entries after : List ℕ) (room : ℕ) → length table ≡ 16384 → 4096 ≤ room → Begins seal.Usual 65536 input table out r entries after
     → take (r .count) after ++ joined input entries (r .lines) (r .layout) room (r .lines) 0 ≡ listing input
 unfolding opened listing
-listing-whole input table out r entries after room sixteen enough b = listed-whole seal.Strict 65536 input table out r entries after room enough b ∙ rw sixteen
+listing-whole input table out r entries after room sixteen enough b = listed-whole seal.Usual 65536 input table out r entries after room enough b ∙ rw sixteen

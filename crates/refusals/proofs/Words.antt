@@ -151,6 +151,6 @@ pub name-room : (reason : Reason) → length (name reason) ≤ 10
 unfolding name names rows bytes
 name-room reason = none-longer names (number reason - 1)
 
-pub meaning-room : (reason : Reason) → length (meaning reason) ≤ 60
+pub meaning-room : (reason : Reason) → length (meaning reason) ≤ 75
 unfolding meaning meanings rows bytes
 meaning-room reason = omega (arith, none-longer meanings (number reason - 1))

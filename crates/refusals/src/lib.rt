@@ -65,7 +65,7 @@ const NAME_ENDS: [usize; 27] = [
 ];
 
 // When each number is given, in the same way.
-const MEANINGS: [u8; 670] = *b"\
+const MEANINGS: [u8; 706] = *b"\
     no bytes\
     over the limit\
     first CR or LF is not CR LF, or none comes\
@@ -81,7 +81,7 @@ const MEANINGS: [u8; 670] = *b"\
     listed column against its rule\
     time falls\
     good line, no entry left\
-    end inside a declaration or without G\
+    end inside a declaration, before line 2, or in the strict check without G\
     value, layout, line number or place given is not allowed\
     output shorter than place + length + 2\
     code (any 3 bytes) not in the layout\
@@ -111,17 +111,17 @@ const MEANING_ENDS: [usize; 27] = [
     255,
     265,
     289,
-    326,
-    382,
-    420,
+    362,
+    418,
     456,
-    480,
-    513,
-    540,
-    578,
-    603,
-    624,
-    670,
+    492,
+    516,
+    549,
+    576,
+    614,
+    639,
+    660,
+    706,
 ];
 
 // The number of a refusal, by the table.

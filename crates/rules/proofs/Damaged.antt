@@ -36,6 +36,7 @@ pub verdict-of-five : verdict seal.Strict fiveLines (some 16) ≡ says (record {
   layouts = record { b = fiveLayout; k = emptyLayout; n = emptyLayout };
   lines = 5;
   counts = record { b = 1; k = 0; n = 0 };
+  signed = true;
 })
 unfolding everything fileOf
 verdict-of-five = refl

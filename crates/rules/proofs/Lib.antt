@@ -6,4 +6,5 @@ pub mod Computed
 pub mod Marked
 pub mod Damaged
 pub mod NLines
+pub mod SignedFiles
 pub mod LeapSecond

@@ -40,6 +40,7 @@ pub verdict-of-n-lines : verdict seal.Strict sevenAndG (some 16) ≡ says (recor
   layouts = record { b = emptyLayout; k = noise; n = pulse };
   lines = 8;
   counts = record { b = 0; k = 1; n = 2 };
+  signed = true;
 })
 unfolding everything fileOf
 verdict-of-n-lines = refl

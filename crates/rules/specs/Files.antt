@@ -10,7 +10,7 @@ use Rattle.rules.specs.Choice.{need}
 use Rattle.rules.specs.Refusals.{number, Said, says, refuses, no, inLine, andThen, outcome, outcomeTold, valueOr}
 use Rattle.rules.specs.Split.{Lines, end, broken, line, linesOf, offsets}
 use Rattle.rules.specs.Order.{start, noFlight, judge}
-use Rattle.rules.specs.Roles.{afterG}
+use Rattle.rules.specs.Roles.{afterH, afterG}
 use Rattle.rules.specs.declared.Reason.the-variants.{Empty, TooLong, LineEnd, TableFull, EndsEarly}
 use Rattle.rules.specs.declared.Flight.{Flight}
 use Rattle.rules.specs.declared.Seal.{Seal}
@@ -18,11 +18,14 @@ use Rattle.rules.specs.declared.Seal.the-variants as seal
 use Rattle.rules.specs.declared.State.{State}
 use Rattle.rules.specs.declared.Checked.{Checked}
 
--- the part of the file that its lines must have reached at its end: "At least one G is needed (h)."
+-- the part of the file that its lines must have reached at its end. "The usual check now accepts a file with no G": but not "a file that ends before its second line". "A
+-- separate strict check keeps the old rule": "At least one G is needed (h)."
 abbrev pub endsAfter : Seal → ℕ
+endsAfter seal.Usual = afterH
 endsAfter seal.Strict = afterG
 
--- "16 ENDS_EARLY: end inside a declaration or without G; lines + 1, 0"
+-- "16 ENDS_EARLY: end inside a declaration or without G; lines + 1, 0"; "16 in the usual check only for an unfinished declaration, and for a file that ends before its
+-- second line"
 unfoldable pub finish : Seal → State → Said Flight
 finish seal st =
     need (eqb (st .points) 0) (refuses (number EndsEarly) (st .flight .lines + 1) 0) λ _.
@@ -64,7 +67,7 @@ over entries table = entries ++ drop (length entries) table
 unfoldable pub tableAfter : Seal → List ℕ → List ℕ → List ℕ
 tableAfter seal file table = over (take (goodLines (verdict seal file (some (length table)))) (offsets 0 (linesOf file))) table
 
--- what the file says stands beside the answer; all zero where refused
+-- what the file says stands beside the answer; all zero and not signed where refused
 pub record CheckedTold (s : Said Flight) (r : Checked) : Type 0 where
   pub answer : outcomeTold (r .outcome) ≡ outcome s
   pub flight : r .flight ≡ valueOr noFlight s

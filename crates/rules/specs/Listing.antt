@@ -113,6 +113,7 @@ unfoldable pub listedAs : List ℕ → Said Flight → List ℕ
 listedAs file (says f) = okText f ++ fixesShown 1 (f .layouts .b) (linesOf file)
 listedAs file (refuses n l b) = refusedText n l b
 
--- "The listing program reads standard input, lends a table of 16,384 entries"; "21 INPUT_OVER: program's input over 65,536 bytes; 0, 0"
+-- "The listing program reads standard input, lends a table of 16,384 entries"; "21 INPUT_OVER: program's input over 65,536 bytes; 0, 0". It asks for the usual check: "instructors want
+-- their flights too", and only "the badge list and the merge of CR 3 must now ask for" the strict one
 unfoldable pub listing : List ℕ → List ℕ
-listing input = listedAs input (need (leb (length input) 65536) (no InputOver 0) λ _. verdict seal.Strict input (some 16384))
+listing input = listedAs input (need (leb (length input) 65536) (no InputOver 0) λ _. verdict seal.Usual input (some 16384))

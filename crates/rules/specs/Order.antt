@@ -35,13 +35,14 @@ orderOf r st = need (fitsDeclaration (isDeclaring r) st) none λ _. stageAfter r
 abbrev pub noDate : Date
 noDate = record { day = 0; month = 0; year = 0 }
 
--- beside a refusal
+-- beside a refusal; and before the first line, when no G line has come
 abbrev pub noFlight : Flight
 noFlight = record {
   date = noDate;
   layouts = record { b = emptyLayout; k = emptyLayout; n = emptyLayout };
   lines = 0;
   counts = record { b = 0; k = 0; n = 0 };
+  signed = false;
 }
 
 -- before the first line; the clock stands at 0, from which no time falls
@@ -59,21 +60,25 @@ moved stage st = record {
   declared = st .declared;
   points = st .points;
   clock = st .clock;
-  flight = record { date = st .flight .date; layouts = st .flight .layouts; lines = st .flight .lines + 1; counts = st .flight .counts };
+  flight = record { date = st .flight .date; layouts = st .flight .layouts; lines = st .flight .lines + 1; counts = st .flight .counts; signed = st .flight .signed };
 }
 
 abbrev pub dated : Date → State → State
-dated d st = withFlight st (record { date = d; layouts = st .flight .layouts; lines = st .flight .lines; counts = st .flight .counts })
+dated d st = withFlight st (record { date = d; layouts = st .flight .layouts; lines = st .flight .lines; counts = st .flight .counts; signed = st .flight .signed })
 
 -- the layout of a family is told
 abbrev pub laidOut : Family → Layout → State → State
 laidOut f l st =
-    withFlight st (record { date = st .flight .date; layouts = withLayout f l (st .flight .layouts); lines = st .flight .lines; counts = st .flight .counts })
+    withFlight st (record { date = st .flight .date; layouts = withLayout f l (st .flight .layouts); lines = st .flight .lines; counts = st .flight .counts; signed = st .flight .signed })
 
 -- one line of a family more
 abbrev pub counted : Family → State → State
 counted f st =
-    withFlight st (record { date = st .flight .date; layouts = st .flight .layouts; lines = st .flight .lines; counts = oneMore f (st .flight .counts) })
+    withFlight st (record { date = st .flight .date; layouts = st .flight .layouts; lines = st .flight .lines; counts = oneMore f (st .flight .counts); signed = st .flight .signed })
+
+-- "'signed' is yes exactly when a G line exists": a G line has come
+abbrev pub signedOff : State → State
+signedOff st = withFlight st (record { date = st .flight .date; layouts = st .flight .layouts; lines = st .flight .lines; counts = st .flight .counts; signed = true })
 
 -- "its point lines, as many as its turn points plus 4 (take-off, start, finish, landing)"
 abbrev pub begun : Head → State → State
@@ -121,7 +126,7 @@ ruled role.Declares l st = declarationLine l st
 ruled role.Event l st = andThen (eLine l) λ t. timed t st
 ruled role.Satellites l st = andThen (fLine l) λ t. timed t st
 ruled role.Differential l st = andThen (dLine l) λ _. says st
-ruled role.Seals l st = andThen (gLine l) λ _. says st
+ruled role.Seals l st = andThen (gLine l) λ _. says (signedOff st)
 ruled role.Remark l st = andThen (lLine l) λ _. says st
 ruled role.Other l st = andThen (otherLine l) λ _. says st
 ruled role.NoRole l st = no reason.Kind 1

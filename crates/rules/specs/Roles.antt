@@ -54,6 +54,10 @@ isBare = elim [ role.Opens ↦ false | role.Heads ↦ false | role.Tells f ↦ f
 abbrev pub isEvent : Role → Bool
 isEvent = elim [ role.Opens ↦ false | role.Heads ↦ false | role.Tells f ↦ false | role.Columned f ↦ false | role.Declares ↦ false | role.Event ↦ true | role.Satellites ↦ false | role.Differential ↦ false | role.Seals ↦ false | role.Remark ↦ false | role.Other ↦ false | role.NoRole ↦ false ]
 
+-- a G line
+abbrev pub isSealing : Role → Bool
+isSealing = elim [ role.Opens ↦ false | role.Heads ↦ false | role.Tells f ↦ false | role.Columned f ↦ false | role.Declares ↦ false | role.Event ↦ false | role.Satellites ↦ false | role.Differential ↦ false | role.Seals ↦ true | role.Remark ↦ false | role.Other ↦ false | role.NoRole ↦ false ]
+
 -- "B, E, F and K lines run in time order."; of N lines: "and it joins the time order"
 abbrev pub isTimed : Role → Bool
 isTimed = elim [ role.Opens ↦ false | role.Heads ↦ false | role.Tells f ↦ false | role.Columned f ↦ true | role.Declares ↦ false | role.Event ↦ true | role.Satellites ↦ true | role.Differential ↦ false | role.Seals ↦ false | role.Remark ↦ false | role.Other ↦ false | role.NoRole ↦ false ]

@@ -303,8 +303,9 @@ pub enum Role {
     NoRole,
 }
 
-// What a file must have at its end. Strict: a G line.
+// What a file must have at its end, by the check that it is put through. Usual: its first two lines, with a G line or without one. Strict: a G line.
 pub enum Seal {
+    Usual,
     Strict,
 }
 
@@ -322,12 +323,13 @@ pub struct Counts {
     pub n: u32,
 }
 
-// What an accepted file says: its date, the layouts of its families, how many lines it has, and how many of each family.
+// What an accepted file says: its date, the layouts of its families, how many lines it has, how many of each family, and whether it is signed: it has a G line.
 pub struct Flight {
     pub date: Date,
     pub layouts: Layouts,
     pub lines: u32,
     pub counts: Counts,
+    pub signed: bool,
 }
 
 // What the lines so far have left: the part of the file that they reached, whether a declaration was begun, how many of its points are
@@ -346,7 +348,7 @@ pub struct Judged {
     pub state: State,
 }
 
-// A whole file checked: what it says, or all zero beside a refusal.
+// A whole file checked: what it says, or all zero and not signed beside a refusal.
 pub struct Checked {
     pub outcome: Outcome,
     pub flight: Flight,

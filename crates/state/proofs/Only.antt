@@ -7,7 +7,7 @@ use Rattle.rules.specs.declared.Layout.{Layout}
 use Rattle.rules.specs.declared.Layouts.{Layouts}
 use Rattle.rules.specs.declared.State.{State}
 use Rattle.only.proofs.Only.{Only, same}
-use Rattle.state.specs.States.{FewTest, NoFlight, BeforeAll, Moved, Dated, LayoutKept, LaidOut, CountedIn, Begun, Pointed, Clocked}
+use Rattle.state.specs.States.{FewTest, NoFlight, BeforeAll, Moved, Dated, LayoutKept, LaidOut, CountedIn, SignedOff, Begun, Pointed, Clocked}
 
 pub only-few-test : (st : State) → Only (FewTest st)
 only-few-test st = same
@@ -32,6 +32,9 @@ only-laid-out f layout st = same
 
 pub only-counted-in : (f : Family) (st : State) → Only (CountedIn f st)
 only-counted-in f st = same
+
+pub only-signed-off : (st : State) → Only (SignedOff st)
+only-signed-off st = same
 
 pub only-begun : (head : Head) (st : State) → Only (Begun head st)
 only-begun head st = same

@@ -4,7 +4,7 @@ use Prim.Native.Nat.{ℕ, _+_, _≤_}
 use mathlib.Core.Bool.{Bool, _&&_, cond}
 use mathlib.Core.Path.{_≡_}
 use Rattle.rules.specs.Families.{layoutOf, countOf}
-use Rattle.rules.specs.Order.{noFlight, start, withFlight, moved, dated, laidOut, begun, pointed, clocked}
+use Rattle.rules.specs.Order.{noFlight, start, withFlight, moved, dated, laidOut, signedOff, begun, pointed, clocked}
 use Rattle.rules.specs.declared.Date.{Date}
 use Rattle.rules.specs.declared.Family.{Family}
 use Rattle.rules.specs.declared.Flight.{Flight}
@@ -53,10 +53,13 @@ LaidOut f layout st r = r ≡ laidOut f layout st
 
 abbrev pub countedIn : Family → State → State
 countedIn f st =
-    withFlight st (record { date = st .flight .date; layouts = st .flight .layouts; lines = st .flight .lines; counts = moreOf f (st .flight .counts) })
+    withFlight st (record { date = st .flight .date; layouts = st .flight .layouts; lines = st .flight .lines; counts = moreOf f (st .flight .counts); signed = st .flight .signed })
 
 abbrev pub CountedIn : Family → State → State → Type 0
 CountedIn f st r = r ≡ countedIn f st
+
+abbrev pub SignedOff : State → State → Type 0
+SignedOff st r = r ≡ signedOff st
 
 abbrev pub Begun : Head → State → State → Type 0
 Begun head st r = r ≡ begun head st

@@ -1,7 +1,7 @@
 // The state that the lines so far have left: at the start, and what a line changes in it.
 ghost use mathlib.Core.Path.{_≡_};
 ghost use Rattle.rules.specs.Families.{withLayout};
-ghost use Rattle.state.specs.States.{FewTest, NoFlight, BeforeAll, Moved, Dated, LayoutKept, LaidOut, CountedIn, Begun, Pointed, Clocked};
+ghost use Rattle.state.specs.States.{FewTest, NoFlight, BeforeAll, Moved, Dated, LayoutKept, LaidOut, CountedIn, SignedOff, Begun, Pointed, Clocked};
 use rules::Counts;
 use rules::Date;
 use rules::Extra;
@@ -42,6 +42,7 @@ pub fn no_flight() -> Flight
         layouts,
         lines: 0,
         counts: Counts { b: 0, k: 0, n: 0 },
+        signed: false,
     }
 }
 
@@ -135,6 +136,15 @@ pub fn counted_in(family: Family, st: State) -> State
     flight.counts = tally::one_more(family, flight.counts);
     let mut next = st;
     next.flight = flight;
+    next
+}
+
+// The state after a G line.
+pub fn signed_off(st: State) -> State
+    ensures { λ r. ⌜ SignedOff st r ⌝ }
+{
+    let mut next = st;
+    next.flight.signed = true;
     next
 }
 

@@ -77,12 +77,12 @@ fn for_flight(flight: Flight, room: usize) -> Course
     }
 }
 
-// What is to be stored into a list of `room` records: how many fixes the file has, and where their reading starts. Refused with the file's own refusal (no table is lent, so
+// What is to be stored into a list of `room` records: how many fixes the file has, and where their reading starts. Refused with the usual check's refusal (no table is lent, so
 // 15 is not met), then with 18 where the file has more fixes.
 pub fn plan(file: &[u8], room: usize) -> Course
     ensures { λ r. ⌜ CoursePlanned (now (file .entry)) room r ⌝ }
 {
-    let checked = file::check_untabled(Seal::Strict, file);
+    let checked = file::check_untabled(Seal::Usual, file);
     let outcome = checked.outcome;
     let flight = checked.flight;
     match outcome {
@@ -91,7 +91,7 @@ pub fn plan(file: &[u8], room: usize) -> Course
     }
 }
 
-// All fixes of a file as records from the list's front on: how many there are. Refused with the file's own refusal, then with 18 where the list is shorter than the number
+// All fixes of a file as records from the list's front on: how many there are. Refused with the usual check's refusal, then with 18 where the list is shorter than the number
 // of B lines. No record is changed where refused, and records past the count stay.
 pub fn track(file: &[u8], list: &mut [Record]) -> Tracked
     ensures { λ r. ⌜ FileTracked (now (file .entry)) (now (list .entry)) r (now (list .exit)) ⌝ }

@@ -116,4 +116,5 @@ module _ (low : ℕ) where
 
 -- and what a file must have at its end, it has in all of these parts or in none
 pub sealed-alike : (seal : Seal) (s s′ : ℕ) → afterH ≤ s → s < inBody → afterH ≤ s′ → s′ < inBody → leb (endsAfter seal) s′ ≡ leb (endsAfter seal) s
+sealed-alike seal.Usual s s′ a b a′ b′ = le-leb afterH s′ a′ ∙ sym (le-leb afterH s a)
 sealed-alike seal.Strict s s′ a b a′ b′ = lt-leb afterG s′ (omega arith) ∙ sym (lt-leb afterG s (omega arith))

@@ -15,11 +15,12 @@ use Rattle.rules.specs.declared.Seal.{Seal}
 use Rattle.rules.specs.declared.Seal.the-variants as seal
 use Rattle.rules.proofs.Computed.{everything, fileOf}
 use Rattle.rules.proofs.Damaged.{fiveLines, fiveLayout, verdict-of-five}
+use Rattle.rules.proofs.SignedFiles.{fourLines, twoLines, verdict-of-two}
 use Rattle.wider.specs.Wider.{WiderFile}
 use Rattle.wider.specs.Before.{putIn, ReadsAsBefore}
 use Rattle.wider.proofs.WholeFile.{reads-as-before}
-use Rattle.wider.proofs.Instances.{enlBetween, between, othersMoved, before-and-moved, noColumns, withI, put-i, withJ, put-j, withM, put-m, withJAndM, put-m-behind, withAll, put-all, everyKind, allWidened, all-widened, someWidened, some-widened, put-in}
-use Rattle.wider.proofs.NotWider.{five, textChanged, text-changed, valueChanged, value-changed, leftOut, left-out, usedTwice, used-twice, ruleBroken, rule-broken, characterInvalid, character-invalid, wrongPlace, wrong-place, tooEarly, too-early}
+use Rattle.wider.proofs.Instances.{enlBetween, between, enlBetweenFour, between-four, twoAndI, put-i-last, othersMoved, before-and-moved, noColumns, withI, put-i, withJ, put-j, withM, put-m, withJAndM, put-m-behind, withAll, put-all, everyKind, allWidened, all-widened, someWidened, some-widened, put-in}
+use Rattle.wider.proofs.NotWider.{five, two, textChanged, text-changed, valueChanged, value-changed, leftOut, left-out, usedTwice, used-twice, ruleBroken, rule-broken, characterInvalid, character-invalid, wrongPlace, wrong-place, tooEarly, too-early}
 
 module _ (seal : Seal) (file file′ : List ℕ) (room room′ : Option ℕ) (f : Flight)
     -- take any accepted file, whatever it must have at its end
@@ -39,15 +40,22 @@ module _ (seal : Seal) (file file′ : List ℕ) (room room′ : Option ℕ) (f 
 -- ---- there are such files, and not every file is one
 
 -- ENL put between FXA and SIU of document 01's file of five lines; ZZZ put first and the old columns in the other order; an I line put in; a J line put in; an M line put in, with
--- no J line and behind one; all three put in; all three changed; those of the B lines and the N lines changed
+-- no J line and behind one; all three put in; all three changed; those of the B lines and the N lines changed. And with no G line: ENL put between FXA and SIU; an I line put in
+-- behind the A line and the H line, where there is no other
 pub instances : WiderFile fiveLines enlBetween × WiderFile fiveLines othersMoved × WiderFile noColumns withI × WiderFile noColumns withJ × WiderFile noColumns withM
     × WiderFile withJ withJAndM × WiderFile noColumns withAll × WiderFile everyKind allWidened × WiderFile everyKind someWidened
-instances = (between, before-and-moved, put-i, put-j, put-m, put-m-behind, put-all, all-widened, some-widened)
+    × WiderFile fourLines enlBetweenFour × WiderFile twoLines twoAndI
+instances = (between, before-and-moved, put-i, put-j, put-m, put-m-behind, put-all, all-widened, some-widened, between-four, put-i-last)
 
 -- so of the first of these all that is claimed above holds
 pub enl-put-in : (f′ : Flight) × (verdict seal.Strict enlBetween (some 16) ≡ says f′) × ReadsAsBefore fiveLines enlBetween (five fiveLayout) f′ (putIn between)
 unfolding everything fileOf
 enl-put-in = widened seal.Strict fiveLines enlBetween (some 16) (some 16) (five fiveLayout) verdict-of-five between (lit≤ tt) (rw (put-in .0) refl)
+
+-- and of the last, which is not signed, by the usual check
+pub i-put-in : (f′ : Flight) × (verdict seal.Usual twoAndI (some 16) ≡ says f′) × ReadsAsBefore twoLines twoAndI two f′ (putIn put-i-last)
+unfolding everything fileOf
+i-put-in = widened seal.Usual twoLines twoAndI (some 16) (some 16) two verdict-of-two put-i-last (lit≤ tt) (rw (put-in .9) refl)
 
 -- the text of an old column changed; the fix changed; an old column left out; a code used twice; a listed code's text against its rule; an invalid character; the J line,
 -- and the M line, put in before the I line

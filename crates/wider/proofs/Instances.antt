@@ -18,6 +18,7 @@ use Rattle.rules.specs.declared.Family.{Family}
 use Rattle.rules.specs.declared.Family.the-variants as family
 use Rattle.rules.proofs.Computed.{everything, fileOf}
 use Rattle.rules.proofs.Damaged.{fiveLines}
+use Rattle.rules.proofs.SignedFiles.{fourLines, twoLines}
 use Rattle.wider.specs.Wider.{widthIn, textIn, KeepsRules, AfterLayouts, done, same, columned, LayoutLines, all, without, changed, put, noLayouts, front, from, WiderFile}
 use Rattle.wider.specs.Before.{putIn}
 
@@ -49,6 +50,28 @@ between =
     (rest {old = laid "I023638FXA3940SIU" "" ""} {new = laid "I033638FXA3941ENL4243SIU" "" ""}
     (columned family.B refl (record { fields = refl; long = refl; kept = (refl, (refl, tt)); added = (fit refl refl, (fit refl refl, (fit refl refl, tt))) })
     (same refl done))))))
+
+-- the same without the G line
+abbrev pub enlBetweenFour : List ℕ
+unfolding fileOf
+enlBetweenFour = fileOf ("AXYZ001" ∷ "HFDTE150724" ∷ "I033638FXA3941ENL4243SIU" ∷ "B1200005130000N00015000WA001000012001234508" ∷ [])
+
+pub between-four : WiderFile fourLines enlBetweenFour
+unfolding everything fileOf widthIn textIn told
+between-four =
+    front refl (front refl (from (changed {i = told family.B "I023638FXA3940SIU"} {i′ = told family.B "I033638FXA3941ENL4243SIU"} refl refl (refl, (refl, tt))
+    (rest {old = laid "I023638FXA3940SIU" "" ""} {new = laid "I033638FXA3941ENL4243SIU" "" ""}
+    (columned family.B refl (record { fields = refl; long = refl; kept = (refl, (refl, tt)); added = (fit refl refl, (fit refl refl, (fit refl refl, tt))) })
+    done)))))
+
+-- an I line put in behind the A line and the H line, where there is no other
+abbrev pub twoAndI : List ℕ
+unfolding fileOf
+twoAndI = fileOf ("AXYZ001" ∷ "HFDTE150724" ∷ "I023638FXA3940SIU" ∷ [])
+
+pub put-i-last : WiderFile twoLines twoAndI
+unfolding everything fileOf told
+put-i-last = front refl (front refl (from (put {i′ = told family.B "I023638FXA3940SIU"} refl (rest {old = noLayouts} {new = laid "I023638FXA3940SIU" "" ""} done))))
 
 -- an unlisted code put before FXA, and the old columns in the other order
 abbrev pub othersMoved : List ℕ
@@ -187,5 +210,6 @@ some-widened =
 
 -- how many lines were put in
 pub put-in : (putIn between ≡ 0) × (putIn put-i ≡ 1) × (putIn put-j ≡ 1) × (putIn put-m ≡ 1) × (putIn put-m-behind ≡ 1) × (putIn put-all ≡ 3) × (putIn all-widened ≡ 0) × (putIn some-widened ≡ 0)
-unfolding between put-i put-j put-m put-m-behind put-all all-widened some-widened
-put-in = (refl, refl, refl, refl, refl, refl, refl, refl)
+    × (putIn between-four ≡ 0) × (putIn put-i-last ≡ 1)
+unfolding between put-i put-j put-m put-m-behind put-all all-widened some-widened between-four put-i-last
+put-in = (refl, refl, refl, refl, refl, refl, refl, refl, refl, refl)

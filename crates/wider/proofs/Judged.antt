@@ -31,7 +31,7 @@ use Rattle.wider.proofs.OneLine.{says-same, as-before}
 
 -- what is said of it: its own layouts, and its own count of lines
 abbrev pub wideFlight : Layouts → ℕ → Flight → Flight
-wideFlight new n f = record { date = f .date; layouts = new; lines = n; counts = f .counts }
+wideFlight new n f = record { date = f .date; layouts = new; lines = n; counts = f .counts; signed = f .signed }
 
 abbrev pub wide : Layouts → ℕ → State → State
 wide new n st = record { stage = st .stage; declared = st .declared; points = st .points; clock = st .clock; flight = wideFlight new n (st .flight) }

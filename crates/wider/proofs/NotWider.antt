@@ -1,7 +1,7 @@
 -- Worked files that are no file of five lines with added columns: of each, what is computed is not what is proved of such files. Assumes nothing.
 use Prim.Native.Nat.{ℕ, _≤_}
 use Prim.Native.String.{String}
-use mathlib.Core.Bool.{true}
+use mathlib.Core.Bool.{true, false}
 use mathlib.Core.List.{List, [], _∷_}
 use mathlib.Core.Option.{none, some}
 use mathlib.Core.Path.{_≡_, refl, sym, ap, _∙_}
@@ -30,7 +30,11 @@ use Rattle.wider.proofs.Instances.{told}
 
 -- what is said of document 01's file, with another layout of its B lines
 abbrev pub five : Layout → Flight
-five i = record { date = record { day = 15; month = 7; year = 2024 }; layouts = record { b = i; k = emptyLayout; n = emptyLayout }; lines = 5; counts = record { b = 1; k = 0; n = 0 } }
+five i = record { date = record { day = 15; month = 7; year = 2024 }; layouts = record { b = i; k = emptyLayout; n = emptyLayout }; lines = 5; counts = record { b = 1; k = 0; n = 0 }; signed = true }
+
+-- and of its first two lines alone
+abbrev pub two : Flight
+two = record { date = record { day = 15; month = 7; year = 2024 }; layouts = record { b = emptyLayout; k = emptyLayout; n = emptyLayout }; lines = 2; counts = record { b = 0; k = 0; n = 0 }; signed = false }
 
 module _ (file′ : List ℕ) (long : length file′ ≤ 16777216) (w : WiderFile fiveLines file′) where
   so : (f′ : Flight) × (verdict seal.Strict file′ none ≡ says f′) × ReadsAsBefore fiveLines file′ (five fiveLayout) f′ (putIn w)

@@ -74,6 +74,7 @@ module _ (seal : Seal) (file file′ : List ℕ) (room room′ : Option ℕ) (f 
     date = refl;
     lines = more-lines;
     counts = λ g. refl;
+    signed = refl;
     declaration = others-same (λ k. isDeclaring (roleOf k)) (λ k g e. ap isDeclaring e) (λ k g e. ap isDeclaring e) w;
     events = others-same (λ k. isEvent (roleOf k)) (λ k g e. ap isEvent e) (λ k g e. ap isEvent e) w;
     others = λ test i c. others-same test i c w;

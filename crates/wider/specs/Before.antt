@@ -87,12 +87,13 @@ putIn (front x w) = putIn w
 putIn (from r) = putInto r
 
 -- What file′, of which f′ is said, has in common with file, of which f is said, where so many layout lines were put in: the date; the count of B lines, of K lines and of
--- N lines; the declaration, the events and all other lines of kinds that neither tell a layout nor have columns; the first fix, the second and so on, and so the K lines and
+-- N lines; whether it is signed; the declaration, the events and all other lines of kinds that neither tell a layout nor have columns; the first fix, the second and so on, and so the K lines and
 -- the N lines, in every old value and every old column.
 pub record ReadsAsBefore (file file′ : List ℕ) (f f′ : Flight) (more : ℕ) : Type 0 where
   pub date : f′ .date ≡ f .date
   pub lines : f′ .lines ≡ f .lines + more
   pub counts : (g : Family) → countOf g (f′ .counts) ≡ countOf g (f .counts)
+  pub signed : f′ .signed ≡ f .signed
   pub declaration : linesWith (λ k. isDeclaring (roleOf k)) (linesOf file′) ≡ linesWith (λ k. isDeclaring (roleOf k)) (linesOf file)
   pub events : linesWith (λ k. isEvent (roleOf k)) (linesOf file′) ≡ linesWith (λ k. isEvent (roleOf k)) (linesOf file)
   pub others : (test : Kind → Bool) → ((k : Kind) (g : Family) → roleOf k ≡ role.Tells g → test k ≡ false)

@@ -58,7 +58,7 @@ fn head_values(h: &Head) -> [u64; 9] {
     [d, m, y, h.time.into(), fd, fm, fy, h.task.into(), h.turns.into()]
 }
 
-/// What hive_check answers from answer[2] on.
+/// What hive_check and hive_check_strict answer from answer[2] on.
 fn checked_values(a: &reading::Accepted) -> [u64; ANSWER - 2] {
     let mut answer = [0; ANSWER];
     let [d, m, y] = date_values(&a.date);
@@ -74,24 +74,49 @@ fn checked_values(a: &reading::Accepted) -> [u64; ANSWER - 2] {
         (library::B_LENGTH, b),
         (library::K_LENGTH, k),
         (library::N_LENGTH, n),
+        (library::SIGNED, a.signed.into()),
     ] {
         answer[place] = value;
     }
     answer[2..].try_into().unwrap()
 }
 
-/// The check with a table of so many entries, and every entry afterwards. The checks in C that the library is measured against are held too.
-pub fn check(tally: &mut Tally, file: &[u8], entries: usize) -> Held<(Answer<reading::Accepted>, Vec<u32>)> {
+/// A check of the library, or one that it is measured against, by its name.
+type Named = (&'static str, fn(&[u8], &mut [u32]) -> Told);
+
+/// What a check answers with a table of so many entries, and the table afterwards.
+type Checked = (Answer<reading::Accepted>, Vec<u32>);
+
+/// The usual check, and the checks in C that it is measured against.
+const USUAL: [Named; 4] = [
+    ("hive_check", library::check_usual),
+    ("bench/check.c", library::check_by_hand),
+    ("bench/ahead.c", library::check_ahead),
+    ("bench/rival.c", library::check_of_rival),
+];
+
+const STRICT: [Named; 1] = [("hive_check_strict", library::check_strict)];
+
+pub fn check_usual(tally: &mut Tally, file: &[u8], entries: usize) -> Held<Checked> {
+    check(tally, file, entries, reading::check_usual, &USUAL)
+}
+
+pub fn check_strict(tally: &mut Tally, file: &[u8], entries: usize) -> Held<Checked> {
+    check(tally, file, entries, reading::check_strict, &STRICT)
+}
+
+/// Checks that must answer alike, with a table of so many entries, and every entry afterwards.
+fn check(
+    tally: &mut Tally,
+    file: &[u8],
+    entries: usize,
+    read: fn(&[u8], &mut [u32]) -> Answer<reading::Accepted>,
+    checks: &[Named],
+) -> Held<Checked> {
     let lent: Vec<u32> = (0..entries as u32).map(|n| 0xDEAD_0000 ^ n).collect();
     let mut theirs = lent.clone();
-    let answer = reading::check(file, &mut theirs);
-    let checks: [(&str, fn(&[u8], &mut [u32]) -> Told); 4] = [
-        ("hive_check", library::check_file),
-        ("bench/check.c", library::check_by_hand),
-        ("bench/ahead.c", library::check_ahead),
-        ("bench/rival.c", library::check_of_rival),
-    ];
-    for (name, check) in checks {
+    let answer = read(file, &mut theirs);
+    for &(name, check) in checks {
         let mut ours = lent.clone();
         let raw = check(file, &mut ours);
         let asked = format!("a table of {entries} entries");

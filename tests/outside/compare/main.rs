@@ -11,10 +11,12 @@ mod track;
 
 use hold::{Held, Tally};
 use outside::files::filled::filled;
+use outside::files::generate;
 use outside::files::pairs::{Pair, at_limit, many, pair};
 use outside::files::random::Random;
 use outside::files::reached::Reached;
 use outside::files::reached_pairs;
+use outside::files::reached_signed;
 use outside::files::reached_track;
 use outside::files::{Known, Run, examples};
 use outside::options::Options;
@@ -25,6 +27,7 @@ use outside::reading::{LIMIT, Refusal};
 struct Met {
     tally: Tally,
     reached: Reached,
+    ends: reached_signed::Reached,
     pairs: reached_pairs::Reached,
     tracks: reached_track::Reached,
     lines: u64,
@@ -33,8 +36,11 @@ struct Met {
 
 /// Every operation over one file. `thinned`: the readers of a line are asked for one line in so many.
 fn hold_file(met: &mut Met, random: &mut Random, file: &[u8], entries: usize, known: Known, thinned: usize) -> Held<()> {
-    let (answer, table) = hold::check(&mut met.tally, file, entries)?;
+    let (answer, table) = hold::check_usual(&mut met.tally, file, entries)?;
     known.agrees(&answer)?;
+    let (strict, _) = hold::check_strict(&mut met.tally, file, entries)?;
+    known.strictly().agrees(&strict)?;
+    met.ends.add(file, &answer, &strict)?;
     met.aimed += u64::from(matches!(known, Known::Refused(_)));
     met.reached.add(file, &answer);
     hold::in_words(&mut met.tally, random, file, &answer)?;
@@ -51,15 +57,18 @@ fn hold_file(met: &mut Met, random: &mut Random, file: &[u8], entries: usize, kn
     Ok(())
 }
 
-/// A check that lends an answer of the wrong length changes nothing.
+/// A check, of either kind, that lends an answer of the wrong length changes nothing.
 fn wrong_answers(met: &mut Met, file: &[u8]) -> Held<()> {
-    for length in [0, 1, library::ANSWER - 1, library::ANSWER + 1] {
-        let (mut table, mut answer) = ([7; 9], vec![library::BEFORE; length]);
-        let number = library::check_answering(file, &mut table, &mut answer);
-        if number != 17 || table != [7; 9] || answer.iter().any(|&a| a != library::BEFORE) {
-            return Err(format!("hive_check with an answer of {length}: {number}, {table:?}, {answer:?}"));
+    type Answering = fn(&[u8], &mut [u32], &mut [u64]) -> u32;
+    let checks: [(&str, Answering); 2] =
+        [("hive_check", library::check_usual_answering), ("hive_check_strict", library::check_strict_answering)];
+    for (name, check) in checks {
+        for length in [0, 1, library::ANSWER - 1, library::ANSWER + 1] {
+            let (mut table, mut answer) = ([7; 9], vec![library::BEFORE; length]);
+            let number = check(file, &mut table, &mut answer);
+            let unchanged = (17, [7; 9], vec![library::BEFORE; length]);
+            met.tally.same(name, &format!("an answer of {length}"), number, (number, table, answer), unchanged)?;
         }
-        met.tally.answers.entry("hive_check").and_modify(|n| *n += 1);
     }
     Ok(())
 }
@@ -68,7 +77,8 @@ fn wrong_answers(met: &mut Met, file: &[u8]) -> Held<()> {
 fn ends(met: &mut Met, seed: u64, out: &str) {
     let mut random = Random::new(seed ^ 0xE4D5);
     for (file, b_lines, n_lines) in [(examples::FIVE, 1, 0), (examples::UNSIGNED, 0, 1)] {
-        let held = hold_file(met, &mut random, file, 16_384, Known::Counts { lines: 5, b_lines, k_lines: 0, n_lines }, 1);
+        let known = Known::Counts { lines: 5, b_lines, k_lines: 0, n_lines, signed: true };
+        let held = hold_file(met, &mut random, file, 16_384, known, 1);
         stop_at(held, file, out);
     }
     for line in examples::MARKED {
@@ -78,13 +88,13 @@ fn ends(met: &mut Met, seed: u64, out: &str) {
     let nothing = hold_file(met, &mut random, b"", 3, Known::Refused(Refusal::of(1)), 1);
     stop_at(nothing, b"", out);
     for size in [300_000, 1_500_000, LIMIT] {
-        let sample = filled(&mut random, size);
+        let sample = filled(&mut random, size, generate::sample);
         let file = sample.bytes();
         assert_eq!(file.len(), size);
         let held = hold_file(met, &mut random, &file, sample.lines.len() + 3, Known::of(&sample), 50);
         stop_at(held, &file, out);
     }
-    let sample = filled(&mut random, LIMIT + 1);
+    let sample = filled(&mut random, LIMIT + 1, generate::sample);
     let over = sample.bytes();
     let held = hold_file(met, &mut random, &over, sample.lines.len(), Known::Refused(Refusal::of(2)), 1000);
     stop_at(held, &over, out);
@@ -146,6 +156,7 @@ fn summary(met: &Met, options: &Options) {
     println!("outside: fields that a refusal names, by number, kind of line and byte: {}", met.reached.by_field());
     println!("outside: branches of the rules on layouts: {}", met.reached.by_branch());
     println!("outside: byte values reached as characters: {}", met.reached.by_character());
+    println!("outside: where files end: {}", met.ends.told());
     println!("outside: tracks: {}", met.tracks.told());
     println!("outside: {} pairs of copies brought together, {} refused: {}", met.pairs.merged, met.pairs.refused, met.pairs.told());
     for (operation, count) in &met.tally.answers {
@@ -155,7 +166,7 @@ fn summary(met: &Met, options: &Options) {
     }
     let unasked: Vec<&str> = library::OPERATIONS.into_iter().filter(|o| !met.tally.answers.contains_key(o)).collect();
     let (mut never, strange) = (met.reached.never(&[]), met.reached.strange());
-    never.extend(met.pairs.never(true).into_iter().chain(met.tracks.never()).map(str::to_string));
+    never.extend(met.pairs.never(true).into_iter().chain(met.tracks.never()).chain(met.ends.never()).map(str::to_string));
     if !never.is_empty() || !strange.is_empty() || !unasked.is_empty() || accepted == 0 {
         println!("outside: FAILED: accepted {accepted} files, never met {never:?}, met {strange:?}, never asked {unasked:?}");
         std::process::exit(1);

@@ -1,10 +1,10 @@
-//! What the program `igc` must print of the files that tests/igc/args names, in tests/igc/data: listed, checked, and their tracks; and what it must say on standard error, each
-//! time, of those that it cannot read. A name without a file, and a folder, are among them.
+//! What the program `igc` must print of the files that tests/igc/args names, in tests/igc/data: listed, checked, and their tracks; what the program `badge` must print of them;
+//! and what both must say on standard error, each time, of those that they cannot read. A name without a file, and a folder, are among them.
 
 use super::words;
 use outside::reading::explained::explained;
 use outside::reading::listing::flight;
-use outside::reading::{Accepted, Answer, check, track, tracked};
+use outside::reading::{Accepted, Answer, badge, check_usual, track, tracked};
 use std::path::Path;
 
 /// The most lines that a file can have: a byte and CR LF each.
@@ -27,7 +27,7 @@ fn fate(path: &str) -> Fate {
     }
     let Ok(file) = std::fs::read(path) else { return Fate::Unread("cannot be opened: No such file or directory") };
     let mut table = vec![0; ENTRIES];
-    let said = check(&file, &mut table);
+    let said = check_usual(&file, &mut table);
     Fate::Read { file, table, said }
 }
 
@@ -61,11 +61,20 @@ pub fn checked() -> Vec<u8> {
     named().iter().map(check).collect::<String>().into_bytes()
 }
 
-/// An accepted file has a G line, so it is signed.
 fn accepted(said: &Accepted) -> String {
     let d = said.date;
     let date = format!("{}-{:02}-{:02}", d.year, d.month, d.day);
-    format!("accepted, {date}, lines {}, fixes {}, K lines {}, N lines {}, signed\n", said.lines, said.b_lines, said.k_lines, said.n_lines)
+    let counts = format!("lines {}, fixes {}, K lines {}, N lines {}", said.lines, said.b_lines, said.k_lines, said.n_lines);
+    format!("accepted, {date}, {counts}, {}\n", if said.signed { "signed" } else { "not signed" })
+}
+
+/// The badge list: each file's name, and behind it its date, recorder and fixes, or why the strict check refuses it.
+pub fn badges() -> Vec<u8> {
+    let list = |(name, fate): &(String, Fate)| match fate {
+        Fate::Read { file, .. } => format!("{name}: {}", badge(file)),
+        Fate::Unread(_) => String::new(),
+    };
+    named().iter().map(list).collect::<String>().into_bytes()
 }
 
 /// What is said on standard error.

@@ -11,8 +11,8 @@ use outside::reading::lines::{Role, differential, header, recorder, text_line};
 use outside::reading::listing::{fix, listing, refusal};
 use outside::reading::refusals::BAD_VALUE;
 use outside::reading::{
-    Answer, Family, LIMIT, Layouts, Read, Refusal, check, read_date, read_event, read_extra, read_fix, read_head, read_layout, read_point,
-    read_satellites,
+    Answer, Family, LIMIT, Layouts, Read, Refusal, check_usual, read_date, read_event, read_extra, read_fix, read_head, read_layout,
+    read_point, read_satellites,
 };
 
 pub fn printed() -> Vec<u8> {
@@ -32,7 +32,7 @@ pub fn printed() -> Vec<u8> {
 
 /// The verdict on so many bytes without a line end.
 fn large(bytes: usize) -> String {
-    refusal(&check(&vec![b'A'; bytes], &mut [0; 4]).unwrap_err())
+    refusal(&check_usual(&vec![b'A'; bytes], &mut [0; 4]).unwrap_err())
 }
 
 fn said<T>(answer: Answer<T>) -> String {

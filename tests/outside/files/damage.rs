@@ -86,7 +86,7 @@ fn find(random: &mut Random, sample: &Sample, wanted: impl Fn(&Line) -> bool) ->
     (!places.is_empty()).then(|| *random.pick(&places))
 }
 
-/// Damage that must be refused with `number` (3 to 14, 16, or 22 to 25), where the file has a line that it can be done to.
+/// Damage that both checks must refuse with `number` (3 to 14, 16, or 22 to 25), where the file has a line that it can be done to.
 pub fn aimed(random: &mut Random, sample: &Sample, number: u32) -> Option<Aimed> {
     match number {
         3 => Some(ending(random, sample)),
@@ -377,12 +377,19 @@ fn seconds(text: &[u8]) -> u32 {
     text.chunks(2).fold(0, |n, d| n * 60 + u32::from(d[0] - b'0') * 10 + u32::from(d[1] - b'0'))
 }
 
-/// A file that stops before its first G line, or inside its declaration; whole lines only.
+/// A file that stops inside its declaration, or behind its first line; whole lines only.
 fn early(random: &mut Random, sample: &Sample) -> Aimed {
-    let seal = sample.first(Role::Seal).unwrap();
     let keep = match find(random, sample, |l| l.role == Role::Point) {
-        Some(point) if random.once_in(2) => point,
-        _ => random.within(1, seal),
+        Some(point) if !random.once_in(4) => point,
+        _ => 1,
     };
+    (join(&sample.lines[..keep]), refused(16, keep, 0))
+}
+
+/// A signed file that stops before its first G line, behind its second line or later and not inside its declaration. The strict check refuses it so; the usual one accepts it.
+pub fn unsealed(random: &mut Random, sample: &Sample) -> Aimed {
+    let seal = sample.first(Role::Seal).unwrap();
+    let places: Vec<usize> = (2..=seal).filter(|&keep| sample.lines[keep].role != Role::Point).collect();
+    let keep = *random.pick(&places);
     (join(&sample.lines[..keep]), refused(16, keep, 0))
 }

@@ -1,15 +1,15 @@
 //! Valid files of an exact size.
 
-use super::generate::{self, Line, Sample};
+use super::generate::{Line, Sample};
 use super::random::Random;
 use crate::reading::Role;
 
-/// A valid file of exactly `size` bytes: L lines before its first G fill it up.
-pub fn filled(random: &mut Random, size: usize) -> Sample {
-    let mut sample = generate::sample(random, size / 90);
+/// A valid file of exactly `size` bytes, of those that `make` makes with so many body lines: L lines before its first G, or at its end, fill it up.
+pub fn filled(random: &mut Random, size: usize, make: fn(&mut Random, usize) -> Sample) -> Sample {
+    let mut sample = make(random, size / 90);
     let missing = size - sample.bytes().len();
-    let seal = sample.first(Role::Seal).unwrap();
-    sample.lines.splice(seal..seal, remarks(missing));
+    let end = sample.first(Role::Seal).unwrap_or(sample.lines.len());
+    sample.lines.splice(end..end, remarks(missing));
     sample
 }
 

@@ -1,5 +1,5 @@
 //! Valid files, made at random from a seed: every kind of line, layouts of listed and unlisted codes in any order and width,
-//! declarations, midnight, the leap second, texts at their limits.
+//! declarations, midnight, the leap second, texts at their limits; with G lines and without.
 
 use super::random::Random;
 use crate::reading::characters::{is_code, is_valid};
@@ -353,11 +353,23 @@ const BODY: [Role; 23] = [
     Role::Other,
 ];
 
-/// A valid file with about `body` lines between its layouts and its G lines.
+/// A valid file with about `body` lines behind its layouts. A third of the files have no G line.
 pub fn sample(random: &mut Random, body: usize) -> Sample {
+    let is_signed = !random.once_in(3);
+    made(random, body, is_signed)
+}
+
+/// The same with G lines.
+pub fn signed(random: &mut Random, body: usize) -> Sample {
+    made(random, body, true)
+}
+
+fn made(random: &mut Random, body: usize, is_signed: bool) -> Sample {
     let mut maker = Maker::new(random);
     maker.top();
     maker.body(body);
-    maker.end();
+    if is_signed {
+        maker.end();
+    }
     maker.sample
 }

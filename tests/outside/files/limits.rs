@@ -154,7 +154,7 @@ fn small(random: &mut Random, role: Role) -> Sample {
     sample
 }
 
-/// The same by this layout, which need not be allowed.
+/// The same by this layout, which need not be allowed. A third of the files have no G line.
 fn small_by(random: &mut Random, role: Role, layout: Option<(Family, Layout)>) -> Sample {
     let mut maker = Maker::new(random);
     maker.push(Role::Recorder);
@@ -168,7 +168,9 @@ fn small_by(random: &mut Random, role: Role, layout: Option<(Family, Layout)>) -
         Role::Head | Role::Point => maker.declare(0),
         _ => maker.push(role),
     }
-    maker.push(Role::Seal);
+    if role == Role::Seal || !maker.random.once_in(3) {
+        maker.push(Role::Seal);
+    }
     maker.sample
 }
 

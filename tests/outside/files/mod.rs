@@ -11,27 +11,37 @@ pub mod pairs;
 pub mod random;
 pub mod reached;
 pub mod reached_pairs;
+pub mod reached_signed;
 pub mod reached_track;
 mod rules;
 
 use crate::reading::layouts::FAMILIES;
-use crate::reading::refusals::TABLE_FULL;
-use crate::reading::{Accepted, Answer, Refusal};
+use crate::reading::refusals::{ENDS_EARLY, TABLE_FULL};
+use crate::reading::{Accepted, Answer, Refusal, Role};
 use generate::Sample;
 use limits::Limit;
 use random::Random;
 
-/// What the maker of a file knows of its answer.
+/// What the maker of a file knows of a check's answer.
+#[derive(Clone, Copy)]
 pub enum Known {
     Nothing,
-    Counts { lines: u64, b_lines: u64, k_lines: u64, n_lines: u64 },
+    Counts { lines: u64, b_lines: u64, k_lines: u64, n_lines: u64, signed: bool },
     Refused(Refusal),
 }
 
 impl Known {
     pub fn of(sample: &Sample) -> Known {
         let [b_lines, k_lines, n_lines] = FAMILIES.map(|family| sample.count(family.role()));
-        Known::Counts { lines: sample.lines.len() as u64, b_lines, k_lines, n_lines }
+        Known::Counts { lines: sample.lines.len() as u64, b_lines, k_lines, n_lines, signed: sample.count(Role::Seal) > 0 }
+    }
+
+    /// What is known of the strict check's answer, where this is known of the usual one's: a file without G ends early.
+    pub fn strictly(self) -> Known {
+        match self {
+            Known::Counts { lines, signed: false, .. } => Known::Refused(Refusal { number: ENDS_EARLY, line: lines + 1, byte: 0 }),
+            other => other,
+        }
     }
 
     /// What is known where the table has this many entries.
@@ -48,9 +58,10 @@ impl Known {
     pub fn agrees(&self, answer: &Answer<Accepted>) -> Result<(), String> {
         let (agrees, known) = match (self, answer) {
             (Known::Nothing, _) => return Ok(()),
-            (Known::Counts { lines, b_lines, k_lines, n_lines }, _) => {
-                let counts = answer.as_ref().map(|a| (a.lines, a.b_lines, a.k_lines, a.n_lines));
-                (counts == Ok((*lines, *b_lines, *k_lines, *n_lines)), format!("a valid file of {lines} lines"))
+            (Known::Counts { lines, b_lines, k_lines, n_lines, signed }, _) => {
+                let counts = answer.as_ref().map(|a| (a.lines, a.b_lines, a.k_lines, a.n_lines, a.signed));
+                let how = if *signed { "signed" } else { "not signed" };
+                (counts == Ok((*lines, *b_lines, *k_lines, *n_lines, *signed)), format!("a valid file of {lines} lines, {how}"))
             }
             (Known::Refused(r), _) => (answer.as_ref().err() == Some(r), format!("refused with {r:?}")),
         };
@@ -58,7 +69,7 @@ impl Known {
     }
 }
 
-/// A file of a run, the entries of the table lent with it, and what is known of its answer with that table.
+/// A file of a run, the entries of the table lent with it, and what is known of the usual check's answer with that table.
 pub struct Made {
     pub file: Vec<u8>,
     pub entries: usize,

@@ -74,7 +74,7 @@ fn notes<const N: usize>(random: &mut Random) -> Vec<Note<N>> {
 
 /// The lines of a valid file up to its last G line.
 fn signed(random: &mut Random, body: usize) -> Sample {
-    let mut sample = generate::sample(random, body);
+    let mut sample = generate::signed(random, body);
     let seal = sample.lines.iter().rposition(|l| l.role == Role::Seal).unwrap();
     sample.lines.truncate(seal + 1);
     sample
@@ -177,8 +177,10 @@ fn refused(random: &mut Random, copies: [Sample; 2]) -> Pair {
             if which == 1 - n {
                 return copy.bytes();
             }
-            let number = *random.pick(&[3, 4, 5, 6, 7, 8, 9, 10, 11, 12, 13, 14, 16, 22, 23, 24, 25]);
-            match damage::aimed(random, copy, number) {
+            let number = *random.pick(&[3, 4, 5, 6, 7, 8, 9, 10, 11, 12, 13, 14, 16, 16, 16, 22, 23, 24, 25]);
+            let aimed =
+                if number == 16 && random.once_in(2) { Some(damage::unsealed(random, copy)) } else { damage::aimed(random, copy, number) };
+            match aimed {
                 Some((file, refusal)) if !random.once_in(4) => {
                     if matches!(known, Known::Nothing) && !unknown {
                         known = Known::Refused(Unmerged { of: Some([Which::First, Which::Second][n]), refusal });
@@ -228,7 +230,7 @@ fn differing(random: &mut Random, copies: [Sample; 2]) -> Pair {
 
 /// Copies whose result has just as many bytes as a file may have, and one byte more, which is refused whether or not the output is short.
 pub fn at_limit(random: &mut Random) -> [Pair; 3] {
-    let mut sample = filled(random, LIMIT - 100);
+    let mut sample = filled(random, LIMIT - 100, generate::signed);
     let seal = sample.lines.iter().rposition(|l| l.role == Role::Seal).unwrap();
     sample.lines.truncate(seal + 1);
     let note = Line { role: Role::Remark, text: b"LNOTE".to_vec() };

@@ -1,14 +1,16 @@
 //! What the pairs of copies of a run have reached.
 
 use super::pairs::Pair;
-use crate::reading::{Unmerged, Which, merge};
+use crate::reading::{Unmerged, Which, check_usual_alone, merge};
 use std::collections::BTreeMap;
 
 /// What a run must reach: refusals of one copy or of both, of the two together, for want of room; and what notes of copies can be to each other.
-const WANTED: [&str; 22] = [
+const WANTED: [&str; 24] = [
     "refused of the first alone",
     "refused of the second",
     "refused of the first, and the second would be",
+    "refused of the first for want of a G line alone",
+    "refused of the second for want of a G line alone",
     "not the same, and one part begins the other",
     "not the same",
     "not the same, and no room",
@@ -78,7 +80,10 @@ impl Reached {
 fn of_refused(pair: &Pair, refused: &Unmerged, swapped: &Result<Vec<u8>, Unmerged>) -> Vec<&'static str> {
     let (first, second) = (&pair.first, &pair.second);
     let longer = first.len().max(second.len());
+    let unsigned = |file: &[u8]| check_usual_alone(file).is_ok_and(|said| !said.signed);
     match (refused.of, refused.refusal.number) {
+        (Some(Which::First), 16) if unsigned(first) => vec!["refused of the first for want of a G line alone"],
+        (Some(Which::Second), 16) if unsigned(second) => vec!["refused of the second for want of a G line alone"],
         (Some(Which::First), _) => match swapped {
             Err(Unmerged { of: Some(Which::First), .. }) => vec!["refused of the first, and the second would be"],
             _ => vec!["refused of the first alone"],

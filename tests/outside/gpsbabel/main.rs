@@ -7,10 +7,10 @@
 #[path = "../library.rs"]
 mod library;
 
-use outside::files::generate::{self, Sample};
+use outside::files::generate::{self, Line, Sample};
 use outside::files::random::Random;
-use outside::reading::fields::days_in;
-use outside::reading::{self, Role};
+use outside::reading::fields::{LEAP, days_in};
+use outside::reading::{self, Family, Role};
 use std::path::Path;
 use std::process::Command;
 
@@ -39,10 +39,12 @@ struct Point {
 }
 
 /// A valid file that gpsbabel reads too: it wants a letter after the A, lines of three bytes or more, no kind past L, no second date line, and takes the years 70 to 79 for 1970 to 1979.
+/// An N line becomes an event of the same time, so that the time order stays.
 fn tamed(random: &mut Random) -> Sample {
     let body = random.within(5, 120);
     let mut sample = generate::sample(random, body);
-    sample.lines.retain(|l| l.role != Role::Other && (l.text.len() >= 3 || l.role == Role::Seal));
+    let unread = [Role::Other, Role::Layout(Family::Unsigned)];
+    sample.lines.retain(|l| !unread.contains(&l.role) && (l.text.len() >= 3 || l.role == Role::Seal));
     for line in &mut sample.lines {
         match line.role {
             Role::Recorder if !line.text[1].is_ascii_alphabetic() => line.text[1] = b'X',
@@ -50,6 +52,7 @@ fn tamed(random: &mut Random) -> Sample {
             Role::Head => move_day(&mut line.text[1..7]),
             Role::Header if &line.text[2..5] == b"DTE" => line.text[2] = b'G',
             Role::Seal if line.text.len() < 3 => line.text.push(b'x'),
+            Role::Unsigned => *line = Line { role: Role::Event, text: [b"E", &line.text[1..7], b"PEV"].concat() },
             _ => {}
         }
     }
@@ -98,7 +101,7 @@ fn fix_of(record: &library::Record, line: &[u8], layout: &[u8], follows: bool) -
 /// A file by the library: checked, stepped through, each B and C line read, the B lines also as its track.
 fn flight(file: &[u8]) -> Flight {
     let mut table = vec![0; file.len() / 3 + 1];
-    let told = library::check_file(file, &mut table);
+    let told = library::check_usual(file, &mut table);
     assert_eq!(told.number, 0, "a valid file is accepted: {:?}", told.answer);
     let date = [told.answer[2], told.answer[3], told.answer[4]];
     let mut flight = Flight { date, fixes: Vec::new(), head: None, points: Vec::new() };
@@ -166,7 +169,9 @@ fn next_day([day, month, year]: [u64; 3]) -> [u64; 3] {
     }
 }
 
-fn time_text([day, month, year]: [u64; 3], clock: u64) -> String {
+/// A date and time as gpsbabel writes them: it takes the leap second for the midnight behind it.
+fn time_text(date: [u64; 3], clock: u64) -> String {
+    let ([day, month, year], clock) = if clock == u64::from(LEAP) { (next_day(date), 0) } else { (date, clock) };
     format!("{year:04}-{month:02}-{day:02}T{:02}:{:02}:{:02}Z", clock / 3600, clock / 60 % 60, clock % 60)
 }
 
@@ -244,14 +249,16 @@ fn expected(file: &[u8]) -> (u32, u64, u64) {
     (0, 0, 0)
 }
 
-/// The library's and the reading's verdict on a file that gpsbabel wrote: number, line and byte.
+/// The library's and the reading's verdict on a file that gpsbabel wrote, by the usual check: number, line and byte. By the strict one they are alike too.
 fn judged(file: &[u8]) -> (u32, u64, u64) {
     let mut table = vec![0; file.len() / 3 + 1];
-    let told = library::check_file(file, &mut table);
-    let ours = (told.number, told.answer[0], told.answer[1]);
-    let theirs = reading::check(file, &mut table).err().map_or((0, 0, 0), |r| (r.number, r.line, r.byte));
-    assert_eq!(ours, theirs, "the library and the reading");
-    ours
+    let alike = |ours: library::Told, theirs: reading::Answer<reading::Accepted>| {
+        let ours = (ours.number, ours.answer[0], ours.answer[1]);
+        assert_eq!(ours, theirs.err().map_or((0, 0, 0), |r| (r.number, r.line, r.byte)), "the library and the reading");
+        ours
+    };
+    alike(library::check_strict(file, &mut table), reading::check_strict(file, &mut table));
+    alike(library::check_usual(file, &mut table), reading::check_usual(file, &mut table))
 }
 
 /// A task of five points and a track of two, from which gpsbabel writes a file of 14 lines: A, H, H, a declaration at 4 to 10, B at 11 and 12, L, G.

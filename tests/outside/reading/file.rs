@@ -22,6 +22,17 @@ pub struct Accepted {
     pub b_lines: u64,
     pub k_lines: u64,
     pub n_lines: u64,
+    /// "Yes exactly when a G line exists".
+    pub signed: bool,
+}
+
+/// Which of the two checks.
+#[derive(Clone, Copy, PartialEq, Eq, Debug)]
+pub enum Check {
+    /// "The usual check now accepts a file with no G and answers "signed" yes or no".
+    Usual,
+    /// "A separate strict check keeps the old rule".
+    Strict,
 }
 
 /// How far a file has come: what may follow is told from this.
@@ -148,6 +159,7 @@ impl Course {
         self.said.b_lines += u64::from(role == Role::Fix);
         self.said.k_lines += u64::from(role == Role::Extra);
         self.said.n_lines += u64::from(role == Role::Unsigned);
+        self.said.signed |= role == Role::Seal;
         Ok(())
     }
 }
@@ -162,19 +174,33 @@ fn pass_first(course: &mut Course, rest: &[u8]) -> Read<usize> {
     Ok(length)
 }
 
-/// The whole check of a file. The table gets the offset of each good line.
-pub fn check(file: &[u8], table: &mut [u32]) -> Answer<Accepted> {
-    let enter = |line: usize, at: usize| table.get_mut(line).map(|entry| *entry = at as u32).is_some();
-    walk(file, enter)
+/// The usual check of a whole file. The table gets the offset of each good line.
+pub fn check_usual(file: &[u8], table: &mut [u32]) -> Answer<Accepted> {
+    walk(file, Check::Usual, into(table))
 }
 
-/// The same where "no table is lent", "so 15 isn't met".
-pub fn check_alone(file: &[u8]) -> Answer<Accepted> {
-    walk(file, |_, _| true)
+/// The strict check of a whole file, with a table as for the usual one.
+pub fn check_strict(file: &[u8], table: &mut [u32]) -> Answer<Accepted> {
+    walk(file, Check::Strict, into(table))
 }
 
-/// The check, with what enters the offset of a line, counted from 0, and says whether there was an entry for it.
-fn walk(file: &[u8], mut enter: impl FnMut(usize, usize) -> bool) -> Answer<Accepted> {
+/// The usual check where "no table is lent", "so 15 isn't met".
+pub fn check_usual_alone(file: &[u8]) -> Answer<Accepted> {
+    walk(file, Check::Usual, |_, _| true)
+}
+
+/// The strict check without a table.
+pub fn check_strict_alone(file: &[u8]) -> Answer<Accepted> {
+    walk(file, Check::Strict, |_, _| true)
+}
+
+/// Enters the offset of a line, counted from 0, in a table, and says whether there was an entry for it.
+fn into(table: &mut [u32]) -> impl FnMut(usize, usize) -> bool {
+    |line, at| table.get_mut(line).map(|entry| *entry = at as u32).is_some()
+}
+
+/// A check, with what enters the offset of a line.
+fn walk(file: &[u8], check: Check, mut enter: impl FnMut(usize, usize) -> bool) -> Answer<Accepted> {
     if file.is_empty() {
         return Err(Refusal::of(EMPTY));
     }
@@ -191,9 +217,18 @@ fn walk(file: &[u8], mut enter: impl FnMut(usize, usize) -> bool) -> Answer<Acce
         }
         at += length + 2;
     }
-    // "At least one G is needed (h)."
-    if course.points_due > 0 || course.stage < Stage::Seal {
+    if course.points_due > 0 || ends_early(&course.said, check) {
         return Err(Refusal { number: ENDS_EARLY, line: course.said.lines + 1, byte: 0 });
     }
     Ok(course.said)
+}
+
+/// Whether a file whose lines are all good, and whose declaration is finished, ends before it may.
+fn ends_early(said: &Accepted, check: Check) -> bool {
+    match check {
+        // "16 in the usual check only for an unfinished declaration, and for a file that ends before its second line."
+        Check::Usual => said.lines < 2,
+        // "At least one G is needed (h)."
+        Check::Strict => !said.signed,
+    }
 }

@@ -1,6 +1,6 @@
 //! The listing: what the program of that name prints of a file.
 
-use super::file::{Accepted, check};
+use super::file::{Accepted, check_usual};
 use super::layouts::{FAMILIES, Layout};
 use super::lines::{Fix, fix_line};
 use super::places::line;
@@ -18,7 +18,7 @@ pub fn listing(file: &[u8]) -> String {
         return refusal(&Refusal::of(INPUT_OVER));
     }
     let mut table = vec![0; ENTRIES];
-    match check(file, &mut table) {
+    match check_usual(file, &mut table) {
         Ok(said) => flight(file, &table, &said),
         Err(refused) => refusal(&refused),
     }

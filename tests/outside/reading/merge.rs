@@ -1,6 +1,6 @@
 //! Evening notes brought together: of two copies of a file with different notes, the one that has the notes of both.
 
-use super::file::{LIMIT, check_alone};
+use super::file::{LIMIT, check_strict_alone};
 use super::refusals::{NO_ROOM, NOT_SAME, Refusal, TOO_LONG};
 use std::collections::BTreeMap;
 
@@ -44,10 +44,10 @@ fn together<'a>(copies: [Vec<&'a [u8]>; 2]) -> Vec<&'a [u8]> {
     counts.into_iter().flat_map(|(note, [first, second])| vec![note; first.max(second)]).collect()
 }
 
-/// The whole result, for an output of so many bytes. "Refusals: first file's, second file's, then 26 NOT_SAME, then 2 for the result, then 18 if the output is shorter".
+/// The whole result, for an output of so many bytes. It asks for the strict check "by name". "Refusals: first file's, second file's, then 26 NOT_SAME, then 2 for the result, then 18 if the output is shorter".
 pub fn merge(first: &[u8], second: &[u8], room: usize) -> Result<Vec<u8>, Unmerged> {
     for (copy, file) in [(Which::First, first), (Which::Second, second)] {
-        check_alone(file).map_err(|refusal| Unmerged { of: Some(copy), refusal })?;
+        check_strict_alone(file).map_err(|refusal| Unmerged { of: Some(copy), refusal })?;
     }
     let ((common, notes), (other, others)) = (parted(first), parted(second));
     if common != other {

@@ -2,6 +2,7 @@
 //! meets. Written from the documents and from the list of open points alone, so that a mistake in the library's own definitions is not made here again. A sentence in
 //! quotation marks is a document's. Where document 01 says "7 to 13", 22 to 25 stand in 9's place.
 
+pub mod badge;
 pub mod characters;
 pub mod degrees;
 pub mod explained;
@@ -19,10 +20,11 @@ pub mod track;
 pub mod tracked;
 pub mod writers;
 
+pub use badge::badge;
 pub use degrees::degrees;
 pub use explained::{explained, name};
 pub use fields::{Date, Position};
-pub use file::{Accepted, LIMIT, check, check_alone};
+pub use file::{Accepted, LIMIT, check_strict, check_strict_alone, check_usual, check_usual_alone};
 pub use given::{column_given, layout_given, write_extra_given, write_layout_given};
 pub use layouts::{Entry, Family, LISTED, Layout, Layouts, Listed};
 pub use lines::{Fix, Head, Point, Role};

@@ -24,7 +24,7 @@ refusals! {
     13 COLUMN "listed column against its rule"
     14 BACK "time falls"
     15 TABLE_FULL "good line, no entry left"
-    16 ENDS_EARLY "end inside a declaration or without G"
+    16 ENDS_EARLY "end inside a declaration, before line 2, or in the strict check without G"
     17 BAD_VALUE "value, layout, line number or place given is not allowed"
     18 NO_ROOM "output shorter than place + length + 2"
     19 ABSENT "code (any 3 bytes) not in the layout"

@@ -1,7 +1,7 @@
 //! The whole track of a file: a record for each fix, with its line and its day.
 
 use super::fields::TIME;
-use super::file::{Accepted, HALF_DAY, check_alone};
+use super::file::{Accepted, HALF_DAY, check_usual_alone};
 use super::lines::Fix;
 use super::readers::read_fix;
 use super::refusals::{Answer, NO_ROOM, Refusal};
@@ -38,9 +38,9 @@ fn records(file: &[u8], said: &Accepted) -> Vec<Record> {
     records
 }
 
-/// The track of a file alone. "No table is lent".
+/// The track of a file, by the usual check. "No table is lent".
 pub fn track(file: &[u8]) -> Answer<Vec<Record>> {
-    check_alone(file).map(|said| records(file, &said))
+    check_usual_alone(file).map(|said| records(file, &said))
 }
 
 /// The track put at the start of a list; the count. "Records beyond stay as lent. Refusals: the file's own, then 18 if the list is short, with no record changed."

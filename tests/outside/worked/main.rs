@@ -13,11 +13,12 @@ mod places;
 mod printed;
 mod programs;
 mod readers;
+mod signed;
 mod track;
 mod unsigned;
 mod writers;
 
-use outside::reading::{Answer, Entry, Layout, Refusal, check};
+use outside::reading::{Answer, Entry, Layout, Refusal, check_strict, check_usual};
 
 const A: &str = "AXYZ001";
 const DATE: &str = "HFDTE150724";
@@ -59,10 +60,15 @@ type Verdict = (u32, u64, u64);
 
 const OK: Verdict = (0, 0, 0);
 
-/// The verdict with a table of so many entries, which is looked at on the way: it has the offset of each good line, and else what was lent.
+/// The usual check's verdict with a table of so many entries, which is looked at on the way: it has the offset of each good line, and else what was lent. The strict check
+/// leaves the same table, and gives the same verdict but where a file is accepted that is not signed.
 fn verdict_with(room: usize, file: &[u8]) -> Verdict {
     let mut table = vec![7; room];
-    let answer = check(file, &mut table);
+    let answer = check_usual(file, &mut table);
+    let mut strict_table = vec![7; room];
+    let strict = check_strict(file, &mut strict_table);
+    assert_eq!(strict_table, table, "the strict check's table");
+    assert!(strict == answer || answer.as_ref().is_ok_and(|said| !said.signed), "the strict check: {strict:?}");
     let (verdict, good) = match &answer {
         Ok(said) => (OK, said.lines),
         Err(r) => ((r.number, r.line, r.byte), r.line.saturating_sub(1)),
@@ -76,6 +82,11 @@ fn verdict_with(room: usize, file: &[u8]) -> Verdict {
 
 fn verdict(file: &[u8]) -> Verdict {
     verdict_with(100, file)
+}
+
+/// The strict check's verdict.
+fn strict_verdict(file: &[u8]) -> Verdict {
+    check_strict(file, &mut [7; 200]).err().map_or(OK, |r| (r.number, r.line, r.byte))
 }
 
 /// The verdict on A, the date line, these lines, G.

@@ -128,10 +128,10 @@ fn largest_file() {
     let data = [top, long.repeat(whole), file(&["O".repeat(rest - 2)]), end].concat();
     assert_eq!((data.len(), LIMIT), (16_777_216, 16_777_216));
     let mut table = vec![7; whole + 5];
-    assert_eq!(check(&data, &mut table).map(|said| said.lines), Ok(whole as u64 + 4));
+    assert_eq!(check_usual(&data, &mut table).map(|said| said.lines), Ok(whole as u64 + 4));
     assert_eq!(table[whole + 3..], [16_777_216 - 4, 7]);
     let over = [&data[..data.len() - 2], b"X\r\n"].concat();
-    assert_eq!(check(&over, &mut [7]), no(2, 0));
+    assert_eq!(check_usual(&over, &mut [7]), no(2, 0));
 }
 
 #[test]

@@ -5,7 +5,7 @@ use outside::files::pairs;
 use outside::files::random::Random;
 use outside::files::reached_pairs::Reached;
 use outside::reading::listing::listing;
-use outside::reading::{LIMIT, Unmerged, Which, check_alone, merge, merge_into};
+use outside::reading::{LIMIT, Unmerged, Which, check_strict_alone, merge, merge_into};
 
 /// A, the date line, G, and these notes.
 fn copy(notes: &[&str]) -> Vec<u8> {
@@ -87,6 +87,13 @@ fn refusals_in_their_order() {
     let long = vec![b'A'; LIMIT + 1];
     assert_eq!(merge(&good, &long, 0), of(Which::Second, 2, 0, 0));
     assert_eq!(merge(&long, &good, 0), of(Which::First, 2, 0, 0));
+    // copies without a G line, which the usual check accepts, alone and before other refusals
+    let unsigned = file(&[A, DATE, "LA"]);
+    assert_eq!(merge(&unsigned, &unsigned, 1_000), of(Which::First, 16, 4, 0));
+    assert_eq!(merge(&unsigned, &good, 0), of(Which::First, 16, 4, 0));
+    assert_eq!(merge(&good, &unsigned, 0), of(Which::Second, 16, 4, 0));
+    assert_eq!(merge(&unsigned, &bad, 0), of(Which::First, 16, 4, 0));
+    assert_eq!(merge(&bad, &unsigned, 0), of(Which::First, 8, 4, 2));
     // two files that are the same and refused
     assert_eq!(merge(&bad, &bad, 1_000), of(Which::First, 8, 4, 2));
 }
@@ -96,7 +103,7 @@ fn no_table() {
     // 15 is not met, however many lines there are
     let many = copy(&times(20_000, "L"));
     assert_eq!(merge(&many, &copy(&[]), 100_000), Ok(many.clone()));
-    assert_eq!(check_alone(&many).map(|said| said.lines), Ok(20_003));
+    assert_eq!(check_strict_alone(&many).map(|said| said.lines), Ok(20_003));
 }
 
 #[test]
@@ -161,7 +168,7 @@ fn of_any_copies() {
         // "The order of the two copies changes no byte".
         assert_eq!(swapped.as_ref(), Ok(&result), "pair {n}");
         // The result is accepted, and reads as each copy does but for its notes.
-        let [said, ours, theirs] = [&result, &pair.first, &pair.second].map(|f| check_alone(f).unwrap());
+        let [said, ours, theirs] = [&result, &pair.first, &pair.second].map(|f| check_strict_alone(f).unwrap());
         assert_eq!(
             (said.date, &said.layouts, said.b_lines, said.k_lines, said.n_lines),
             (ours.date, &ours.layouts, ours.b_lines, ours.k_lines, ours.n_lines)

@@ -42,7 +42,7 @@ fn explanations() {
     assert_eq!(of(data, 7, 1, 0).unwrap(), "REFUSED 7 LENGTH, line 1: outside its limits\nAB\n");
     assert_eq!(of(data, 8, 2, 2).unwrap(), "REFUSED 8 CHARACTER, line 2, byte 2: first invalid one\nC?D\n ^\n");
     // line 2 does not end with CR LF, so that nothing is known of a line 3
-    assert_eq!(of(data, 16, 3, 0).unwrap(), "REFUSED 16 ENDS_EARLY, line 3: end inside a declaration or without G\n");
+    assert_eq!(of(data, 16, 3, 0).unwrap(), "REFUSED 16 ENDS_EARLY, line 3: end inside a declaration, before line 2, or in the strict check without G\n");
     assert_eq!(of(data, 6, 3, 1).unwrap(), "REFUSED 6 ORDER, line 3, byte 1: kind not allowed here\n\n^\n");
     let long: Vec<u8> = (0..200u8).map(|n| b'0' + n % 10).collect();
     let wanted = format!(

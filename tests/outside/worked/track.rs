@@ -104,6 +104,15 @@ fn lines_without_a_time() {
 }
 
 #[test]
+fn without_a_signature() {
+    // the usual check: no G is needed
+    let lines = [A, DATE, &fix_at("235959"), "K000000", &fix_at("000001")];
+    let records: Vec<_> = track(&file(&lines)).unwrap().iter().map(|r| (r.line, r.day, r.fix.time)).collect();
+    assert_eq!(records, [(3, 0, 86_399), (5, 1, 1)]);
+    assert_eq!(track(&file(&[A, DATE])), Ok(vec![]));
+}
+
+#[test]
 fn the_leap_second() {
     let times = ["235959", "235960", "235960", "000000", "235960", "000000"];
     let expected = [(3, 0, 86_399), (4, 0, 86_400), (5, 0, 86_400), (6, 1, 0), (7, 1, 86_400), (8, 2, 0)];
@@ -172,7 +181,7 @@ fn of_any_file() {
             assert_eq!(list[..set], answer.as_deref().unwrap_or(&[])[..set], "file {n}");
             assert_eq!(list[set..], lent_list(room)[set..], "file {n}");
         }
-        let said = check(&made.file, &mut vec![0; made.file.len() / 3 + 1]);
+        let said = check_usual(&made.file, &mut vec![0; made.file.len() / 3 + 1]);
         // Refused as the check with a table that has room; else a record for each B line.
         assert_eq!(said.as_ref().err(), answer.as_ref().err(), "file {n}");
         let (Ok(said), Ok(records)) = (said, answer) else { continue };

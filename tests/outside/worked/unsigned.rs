@@ -19,7 +19,7 @@ fn heart() -> Layout {
 fn the_standards_own() {
     assert_eq!(UNSIGNED, file(&[A, DATE, M2, N13, G]));
     let mut table = [7; 6];
-    let said = check(UNSIGNED, &mut table).unwrap();
+    let said = check_usual(UNSIGNED, &mut table).unwrap();
     assert_eq!((said.lines, said.b_lines, said.k_lines, said.n_lines), (5, 0, 0, 1));
     assert_eq!((said.layouts.fixes, said.layouts.extras, said.layouts.unsigned), (layout(&[]), layout(&[]), heart()));
     // 9 bytes, 13, 19, 15
@@ -197,7 +197,7 @@ fn the_table() {
     assert_eq!(verdict_with(3, &data), (15, 4, 0));
     assert_eq!(verdict_with(2, &file(&[A, DATE, "M010710HRT"])), (10, 3, 4));
     assert_eq!(verdict_with(3, &file(&[A, DATE, M2, "N12000011209"])), (7, 4, 0));
-    assert_eq!(verdict(&file(&[A, DATE, M2, N13])), (16, 5, 0));
+    assert_eq!(verdict_with(4, &file(&[A, DATE, M2, N13])), OK);
 }
 
 #[test]

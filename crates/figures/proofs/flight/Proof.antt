@@ -5,8 +5,8 @@ use Rattle.figures.proofs.flight.Tie as tie
 
 returns : tie.Need-returns
 returns c =
-    let n = c .before .before .before .before .before .before .before .before .before in
-    rw (← n .before .before .line-length .ensures, ← n .before .line-length2 .ensures, ← n .line-length3 .ensures) (c .accepted .ensures)
+    let n = c .before .before .before .before .before .before .before .before .before .before in
+    rw (← n .before .before .line-length .ensures, ← n .before .line-length2 .ensures, ← n .line-length3 .ensures, ← c .before .before .before .before .before .one-if .ensures) (c .accepted .ensures)
 
 pub flight-spec : {M : Type 1} → statement M
 flight-spec =
@@ -22,6 +22,7 @@ flight-spec =
     (λ c. search needs)
     (λ c. search needs)
     (λ c. search needs)
+    (λ c κs. search needs)
     (λ c. search needs)
     (λ c. search needs)
     (λ c. search needs)
