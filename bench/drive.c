@@ -150,7 +150,7 @@ static void measure_checks(int repetitions)
         printf(" %s %.2f%s", names[which], sixteen.each[which] / one.each[which], which == RIVAL ? "\n" : ",");
 }
 
-/* One fix, one column and one column's number, each asked of the same B line; nanoseconds for a call. */
+/* One fix with its columns, the look for one of them and for its number, each asked of the same B line; nanoseconds for a call. */
 static void measure_readers(void)
 {
     static const char line[] = "B1200005130000N00015000WA001000012001208123";
@@ -159,23 +159,24 @@ static void measure_readers(void)
     enum { CALLS = 200000 };
     uint64_t answer[HIVE_ANSWER];
     int32_t heights[HIVE_HEIGHTS];
+    uint64_t entries[HIVE_ENTRIES];
     int64_t number[HIVE_NUMBER];
     uint32_t refused = 0;
     double began = now();
     for (int n = 0; n < CALLS; n++)
-        refused |= hive_fix(text, strlen(line), layout, strlen(usual), answer, HIVE_ANSWER, heights, HIVE_HEIGHTS);
+        refused |= hive_fix(text, strlen(line), layout, strlen(usual), answer, HIVE_ANSWER, heights, HIVE_HEIGHTS, entries, HIVE_ENTRIES);
     double fixes = now();
     for (int n = 0; n < CALLS; n++)
-        refused |= hive_column(text, strlen(line), layout, strlen(usual), 'E', 'N', 'L', answer, HIVE_ANSWER);
+        refused |= hive_look(text, strlen(line), entries, HIVE_ENTRIES, 'E', 'N', 'L', answer, HIVE_ANSWER);
     double columns = now();
     for (int n = 0; n < CALLS; n++)
-        refused |= hive_column_number(text, strlen(line), layout, strlen(usual), 'E', 'N', 'L', answer, HIVE_ANSWER, number, HIVE_NUMBER);
+        refused |= hive_look_number(text, strlen(line), entries, HIVE_ENTRIES, 'E', 'N', 'L', answer, HIVE_ANSWER, number, HIVE_NUMBER);
     double numbers = now();
     if (refused || number[0] != 123) {
         printf("bench: FAILED: a reader refuses\n");
         exit(1);
     }
-    printf("a fix read from its line in %.0f ns, a column found in %.0f ns, a column's number in %.0f ns\n", (fixes - began) / CALLS * 1e9,
+    printf("a fix read from its line with its columns in %.0f ns, a column found in %.0f ns, a column's number in %.0f ns\n", (fixes - began) / CALLS * 1e9,
            (columns - fixes) / CALLS * 1e9, (numbers - columns) / CALLS * 1e9);
 }
 
