@@ -6,19 +6,8 @@ use mathlib.Core.Path.{_≡_}
 use lib.IntN.{ℤ}
 use Rattle.answers.specs.Answers.{size, inNumbers, presenceNumbers, hasRoom, Answered, AnswerGiven}
 use Rattle.given.specs.Given.{entryBy, presenceBy}
-use Rattle.lent_entries.specs.Lent.{takenSaid}
-use Rattle.rules.specs.Layouts.{Span}
-use Rattle.rules.specs.Looks.{lookSaid, lookNumber}
-use Rattle.rules.specs.Refusals.{Said, andThen}
-use Rattle.rules.specs.declared.Signed.{Signed}
+use Rattle.lent_look.specs.Looks.{lookBy, numberBy}
 use Rattle.calls_column.specs.Values.{spanNumbers, signedNumbers, entryNumbers, integersOf}
-
--- the look into the entries that a reading gave: any line, any numbers
-unfoldable pub lookBy : List ℕ → List ℕ → List ℕ → Said Span
-lookBy line ns name = andThen (takenSaid ns) λ es. lookSaid line es name
-
-unfoldable pub numberBy : List ℕ → List ℕ → List ℕ → Said Signed
-numberBy line ns name = andThen (takenSaid ns) λ es. lookNumber line es name
 
 -- where a column's text stands
 abbrev pub LookAnswered : List ℕ → List ℕ → List ℕ → List ℕ → ℕ → List ℕ → Type 0

@@ -2,29 +2,13 @@
 ghost use mathlib.Core.List.{_∷_, []};
 ghost use mathlib.Core.Path.{_≡_};
 ghost use lib.ListN.{length};
-ghost use Rattle.rules.specs.Layouts.{columnTold};
 ghost use Rattle.rules.specs.Reads.{numberReadTold};
 ghost use Rattle.calls_column.specs.Values.{integersOf};
-ghost use Rattle.calls_column.specs.Calls.{lookBy, numberBy, LookAnswered, NumberAnswered, EntryAnswered, PresenceAnswered};
+ghost use Rattle.calls_column.specs.Calls.{LookAnswered, NumberAnswered, EntryAnswered, PresenceAnswered};
 use answers::SIZE;
-use rules::ColumnRead;
 use rules::NumberRead;
-use rules::Outcome;
 
 mod values;
-
-// Where the column of a code stands, in entries that are told as numbers.
-fn span_in(line: &[u8], entries: &[u64], code: [u8; 3]) -> ColumnRead
-    ensures { λ r. ⌜ columnTold r ≡ lookBy (now (line .entry)) (now (entries .entry)) code ⌝ }
-{
-    let taken = lent_entries::taken(entries);
-    let outcome = taken.outcome;
-    let es = taken.layout;
-    if let Outcome::Refused(why) = outcome {
-        return ColumnRead::Refused(why);
-    }
-    look::column(line, es, code)
-}
 
 // The look for a code into the entries that a reading gave: where the column's text stands.
 pub fn look(
@@ -38,20 +22,10 @@ pub fn look(
     ensures { λ r. ⌜ LookAnswered (now (line .entry)) (now (entries .entry)) (code0 ∷ code1 ∷ code2 ∷ []) (now (answer .entry)) r (now (answer .exit)) ⌝ }
 {
     let code = [code0, code1, code2];
-    answers::give(answer, values::column(span_in(line, entries, code)))
-}
-
-// That column as a whole number, in entries that are told as numbers.
-fn number_in(line: &[u8], entries: &[u64], code: [u8; 3]) -> NumberRead
-    ensures { λ r. ⌜ numberReadTold r ≡ numberBy (now (line .entry)) (now (entries .entry)) code ⌝ }
-{
-    let taken = lent_entries::taken(entries);
-    let outcome = taken.outcome;
-    let es = taken.layout;
-    if let Outcome::Refused(why) = outcome {
-        return NumberRead::Refused(why);
-    }
-    look::number(line, es, code)
+    answers::give(
+        answer,
+        values::column(lent_look::column(line, entries, code)),
+    )
 }
 
 // A column's number, or 0.
@@ -87,7 +61,7 @@ pub fn look_number(
         return 17;
     }
     let code = [code0, code1, code2];
-    let read = number_in(line, entries, code);
+    let read = lent_look::number(line, entries, code);
     put_number(number, read);
     answers::give(answer, values::signed(read))
 }

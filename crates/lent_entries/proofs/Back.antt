@@ -1,8 +1,8 @@
--- What is put is taken again: of the numbers that a reading's entries are put as, `taken` tells those entries. So a look into what a reading left is a look into its entries.
+-- What is put is taken again: of the numbers that a reading's entries are put as, `takenSaid` tells those entries. So a look into what a reading left is a look into its entries.
 -- Assumes nothing.
 use Prim.Native.Nat.{ℕ, _+_, _-_, _/_, _%_, _≤_}
 use mathlib.Core.Bool.{true, _&&_}
-use mathlib.Core.List.{List, [], _∷_, _++_, append-assoc, append-nil}
+use mathlib.Core.List.{List, [], _∷_, _++_}
 use mathlib.Core.Option.{some}
 use mathlib.Core.Path.{_≡_, refl, sym, ap, subst, _∙_}
 use native.Mathlib.Omega.{arith}
@@ -10,7 +10,8 @@ use borrow.Author.Tests.{le-leb, leb-true, eq-eqb}
 use lib.Dec.{leb}
 use lib.ListN.{length, drop, replicate, length-append}
 use Rattle.rules.specs.Chars.{isCode}
-use Rattle.rules.specs.Layouts.{unused, emptyLayout, entriesOf, withEntry, isSpelt}
+use Rattle.rules.specs.Choice.{given}
+use Rattle.rules.specs.Layouts.{unused, emptyLayout, entriesOf, isSpelt}
 use Rattle.rules.specs.Listed.{isCodeWord}
 use Rattle.rules.specs.Refusals.{says}
 use Rattle.rules.specs.declared.Entry.{Entry}
@@ -19,8 +20,9 @@ use Rattle.rules.proofs.Inverse.{and-inv}
 use Rattle.trips.proofs.Laws.{past, byte-here}
 use Rattle.sound.proofs.Entries.{Fits, Tiled, code-range}
 use Rattle.sound.proofs.Placed.{laid, with-laid, Sound, allowed-there}
-use Rattle.lent_entries.specs.Lent.{entriesSize, triples, entryNumbers, entryIn, takenFrom, takenSaid}
+use Rattle.lent_entries.specs.Lent.{entriesSize, triples, entryNumbers, entryIn, noEntries, takenFrom, takenSaid}
 use Rattle.lent_entries.proofs.Laws.{numbers-long}
+use Rattle.lent_entries.proofs.Taken.{entriesIn, taken-entries}
 
 triples-join : (xs ys : List Entry) → triples (xs ++ ys) ≡ triples xs ++ triples ys
 triples-join [] ys = refl
@@ -47,15 +49,15 @@ entry-back ns at e rest s h d =
 
 -- entries one behind the other
 entries-back : (es pre : List Entry) (start : ℕ) (ns : List ℕ) (at : ℕ) (rest : List ℕ) → length pre + length es ≤ 13 → Tiled es start (laid pre) → drop at ns ≡ triples es ++ rest
-    → takenFrom (length es) ns at (laid pre) ≡ says (laid (pre ++ es))
-unfolding takenFrom
-entries-back [] pre start ns at rest n w d = ap (λ (x : List Entry). says (laid x)) (sym (append-nil pre))
+    → entriesIn (length es) ns at ≡ some es
+unfolding entriesIn
+entries-back [] pre start ns at rest n w d = refl
 entries-back (e ∷ es) pre start ns at rest n w d =
     let f : Fits start (laid pre) e = w .1 in
     let t = with-laid pre e (omega arith) in
     let r = entries-back es (pre ++ (e ∷ [])) (e .last + 1) ns (at + 3) rest (omega (arith, length-append pre (e ∷ []))) (subst (Tiled es (e .last + 1)) t (w .2))
     (past ns at 3 (at + 3) (e .code ∷ e .first ∷ e .last ∷ []) (triples es ++ rest) refl refl d) in
-    rw (entry-back ns at e (triples es ++ rest) (w .0) (f .ends) d, t) (r ∙ ap (λ (x : List Entry). says (laid x)) (append-assoc pre (e ∷ []) es))
+    rw (entry-back ns at e (triples es ++ rest) (w .0) (f .ends) d, r)
 
 -- a layout that a line can tell
 pub put-taken : (start : ℕ) (es : Layout) → Sound start es → takenSaid (entryNumbers es) ≡ says es
@@ -67,5 +69,6 @@ put-taken start es s =
     let d : drop 1 (entryNumbers es) ≡ triples xs ++ rest = ap (λ (l : Layout). triples (l .entries)) (a .1) ∙ triples-join xs (replicate (13 - length xs) unused) in
     let n : length xs ≡ es .count = a .0 .count in
     let t = entries-back xs [] start (entryNumbers es) 1 rest (omega (arith, a .0 .few, n)) (a .0 .tiled) d in
+    let w = taken-entries (length xs) (entryNumbers es) 1 (omega (arith, a .0 .few, n)) ∙ ap (λ o. given o noEntries λ ys. says (laid ys)) t in
     rw (eq-eqb (length (entryNumbers es)) entriesSize (numbers-long es (s .full)), le-leb (es .count) 13 (a .0 .few))
-    (ap (λ k. takenFrom k (entryNumbers es) 1 emptyLayout) (sym n) ∙ t ∙ ap says (sym (a .1)))
+    (ap (λ k. takenFrom k (entryNumbers es) 1 emptyLayout) (sym n) ∙ w ∙ ap says (sym (a .1)))

@@ -1,17 +1,14 @@
--- Three numbers of an entry stored behind others, and entries taken one after the other. Assumes nothing.
+-- Three numbers of an entry stored behind others. Assumes nothing.
 use Prim.Native.Nat.{ℕ, zero, suc, _+_, _-_, _*_, _≤_, _<_}
 use mathlib.Core.List.{List, [], _∷_}
-use mathlib.Core.Option.{Option, none, some}
 use mathlib.Core.Path.{_≡_, refl, sym, _∙_, ap, subst}
 use native.Mathlib.Omega.{arith}
 use lib.ListN.{length, getD, take, set, length-set}
-use Rattle.rules.specs.Choice.{given}
-use Rattle.rules.specs.Refusals.{says}
-use Rattle.rules.specs.Layouts.{unused, withEntry}
+use Rattle.rules.specs.Layouts.{unused}
 use Rattle.rules.specs.declared.Entry.{Entry}
 use Rattle.rules.specs.declared.Layout.{Layout}
 use Rattle.answers.proofs.Laws.{one-more}
-use Rattle.lent_entries.specs.Lent.{triples, entryNumbers, withTriple, entryIn, noEntries, takenFrom}
+use Rattle.lent_entries.specs.Lent.{triples, entryNumbers, withTriple}
 
 -- ---- the numbers of an entry
 
@@ -66,24 +63,3 @@ module _ (es : Layout) (list : List ℕ) (i : ℕ) (full : length (es .entries) 
       let three = stored (set (set list (3 * i + 1) (e .code)) (3 * i + 1 + 1) (e .first)) (entryNumbers es) (3 * i + 1 + 2) (e .last) (ap (λ k. getD (entryNumbers es) k 0) q ∙ t .2)
       (subst (λ k. take k (set (set list (3 * i + 1) (e .code)) (3 * i + 1 + 1) (e .first)) ≡ take k (entryNumbers es)) r two) (omega arith) (omega arith) in
       subst (λ k. take k (withTriple list (3 * i + 1) e) ≡ take k (entryNumbers es)) s three
-
--- ---- entries taken, i of count being taken
-
-module _ (count i : ℕ) (ns : List ℕ) (at : ℕ) (before : Layout) where
-  one-left : i < count → count - i ≡ suc (count - (i + 1))
-  one-left h = omega arith
-
-  none-left : count ≤ i → count - i ≡ 0
-  none-left h = omega arith
-
-  pub taken-one : i < count → (e : Entry) → entryIn ns at ≡ some e → takenFrom (count - i) ns at before ≡ takenFrom (count - (i + 1)) ns (at + 3) (withEntry before e)
-  unfolding takenFrom
-  taken-one h e p = rw (one-left h, p)
-
-  pub taken-stop : i < count → entryIn ns at ≡ none → takenFrom (count - i) ns at before ≡ noEntries
-  unfolding takenFrom
-  taken-stop h p = rw (one-left h, p)
-
-  pub taken-done : count ≤ i → takenFrom (count - i) ns at before ≡ says before
-  unfolding takenFrom
-  taken-done h = rw (none-left h)

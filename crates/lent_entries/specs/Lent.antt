@@ -1,4 +1,4 @@
--- The entries of a reading as numbers, and the entries that numbers tell; the promises of this crate.
+-- The entries of a reading as numbers, and the entries that numbers tell; the promise of this crate.
 use Prim.Native.Nat.{ℕ, zero, suc, _+_}
 use mathlib.Core.Bool.{cond}
 use mathlib.Core.List.{List, [], _∷_}
@@ -8,13 +8,10 @@ use lib.Dec.{eqb, leb}
 use lib.ListN.{length, getD, set}
 use Rattle.rules.specs.Choice.{given, need}
 use Rattle.rules.specs.Refusals.{Said, says, no}
-use Rattle.rules.specs.Layouts.{LayoutTold, emptyLayout, withEntry}
+use Rattle.rules.specs.Layouts.{emptyLayout, withEntry}
 use Rattle.rules.specs.declared.Entry.{Entry}
 use Rattle.rules.specs.declared.Layout.{Layout}
-use Rattle.rules.specs.declared.LayoutRead.{LayoutRead}
 use Rattle.rules.specs.declared.Reason.the-variants.{BadValue}
-use Rattle.lent_entries.specs.declared.EntryIn.{EntryIn}
-use Rattle.lent_entries.specs.declared.EntryIn.the-variants as found
 
 -- how many numbers the entries have: their count, and three for each of 13
 abbrev pub entriesSize : ℕ
@@ -57,15 +54,7 @@ takenSaid ns =
     need (leb (getD ns 0 0) 13) noEntries λ _.
     takenFrom (getD ns 0 0) ns 1 emptyLayout
 
--- an entry, or none
-unfoldable pub entryInTold : EntryIn → Option Entry
-entryInTold (found.Is e) = some e
-entryInTold found.Nothing = none
-
--- ---- the promises
+-- ---- the promise
 
 abbrev pub EntriesPut : Layout → List ℕ → List ℕ → Type 0
 EntriesPut es list after = after ≡ cond (eqb (length list) entriesSize) (entryNumbers es) list
-
-abbrev pub EntriesTaken : List ℕ → LayoutRead → Type 0
-EntriesTaken ns r = LayoutTold (takenSaid ns) r

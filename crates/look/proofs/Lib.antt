@@ -1,3 +1,3 @@
 -- Laws that the proofs share, and looks worked out.
-mod Laws
+pub mod Laws
 pub mod Worked

@@ -12,4 +12,4 @@ look-spec =
     (λ c κs. search needs)
     (λ c κs. search needs)
     (λ c. search needs)
-    (λ c. given-said _ _ _ _ _ _ _ _ (c .before .before .before .before .span-in .ensures) (c .before .before .before .column .ensures) (c .before .before .give .ensures)))
+    (λ c. given-said _ _ _ _ _ _ _ _ (c .before .before .before .before .column .ensures) (c .before .before .before .column2 .ensures) (c .before .before .give .ensures)))

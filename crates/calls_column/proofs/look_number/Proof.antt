@@ -16,4 +16,4 @@ look-number-spec =
     (λ c κs. search needs)
     (λ c. search needs)
     (λ c. search needs)
-    (λ c. number-answered _ _ _ _ _ _ _ _ _ _ (c .before .before .before .before .before .before .before .before .before .before .if1 .left) (c .before .before .before .before .before .before .before .before .before .if2 .left) (c .before .before .before .before .before .before .before .before .number-in .ensures) (c .before .before .before .signed .ensures) (c .before .before .before .before .before .before .put-number .ensures) (c .before .before .give .ensures)))
+    (λ c. number-answered _ _ _ _ _ _ _ _ _ _ (c .before .before .before .before .before .before .before .before .before .before .if1 .left) (c .before .before .before .before .before .before .before .before .before .if2 .left) (c .before .before .before .before .before .before .before .before .number .ensures) (c .before .before .before .signed .ensures) (c .before .before .before .before .before .before .put-number .ensures) (c .before .before .give .ensures)))
