@@ -5,3 +5,4 @@ pub mod Entries
 pub mod Placed
 pub mod Columns
 pub mod Looked
+pub mod AsBefore
