@@ -5,4 +5,3 @@ pub mod Entries
 pub mod Placed
 pub mod Columns
 pub mod Looked
-pub mod AsBefore
