@@ -1,5 +1,5 @@
 /* Measures the library's check against those that are written by hand in C, on the same files, one after the other in one process:
-       drive [REPETITIONS]        prints the table of speeds and ratios, how the time of a byte grows with the size, and what a line's readers take
+       drive [REPETITIONS]        prints the table of speeds and ratios, how the time of a byte grows with the size, what a line's readers take, and a listing beside the check
        drive once NUMBER          each check once, on 1 MiB of the flight of that number alone, where instructions are counted
        drive write FIXES          writes a flight with so many fixes to standard output, for the programs
    Ends with status 1 where two of the checks give different answers or tables. */
@@ -150,33 +150,123 @@ static void measure_checks(int repetitions)
         printf(" %s %.2f%s", names[which], sixteen.each[which] / one.each[which], which == RIVAL ? "\n" : ",");
 }
 
-/* One fix, one column and one column's number, each asked of the same B line; nanoseconds for a call. */
-static void measure_readers(void)
-{
-    static const char line[] = "B1200005130000N00015000WA001000012001208123";
-    const char *usual = flights[0].fixes;
-    const uint8_t *text = (const uint8_t *)line, *layout = (const uint8_t *)usual;
-    enum { CALLS = 200000 };
-    uint64_t answer[HIVE_ANSWER];
+/* What a reading of a B line leaves, and what the looks into it answer. */
+struct reading {
+    uint64_t answer[HIVE_ANSWER], entries[HIVE_ENTRIES], place[HIVE_ANSWER];
     int32_t heights[HIVE_HEIGHTS];
     int64_t number[HIVE_NUMBER];
+};
+
+/* A line of a file, or its I line. */
+struct text {
+    const uint8_t *bytes;
+    size_t length;
+};
+
+static uint32_t read_fix(struct text line, struct text layout, struct reading *r)
+{
+    return hive_fix(line.bytes, line.length, layout.bytes, layout.length, r->answer, HIVE_ANSWER, r->heights, HIVE_HEIGHTS, r->entries, HIVE_ENTRIES);
+}
+
+static uint32_t look(struct text line, const uint8_t *code, struct reading *r)
+{
+    return hive_look(line.bytes, line.length, r->entries, HIVE_ENTRIES, code[0], code[1], code[2], r->place, HIVE_ANSWER);
+}
+
+static uint32_t look_number(struct text line, const uint8_t *code, struct reading *r)
+{
+    return hive_look_number(line.bytes, line.length, r->entries, HIVE_ENTRIES, code[0], code[1], code[2], r->place, HIVE_ANSWER, r->number, HIVE_NUMBER);
+}
+
+/* The usual three columns of a line, each as text and as a number. */
+static uint32_t look_all(struct text line, struct reading *r)
+{
     uint32_t refused = 0;
-    double began = now();
-    for (int n = 0; n < CALLS; n++)
-        refused |= hive_fix(text, strlen(line), layout, strlen(usual), answer, HIVE_ANSWER, heights, HIVE_HEIGHTS);
-    double fixes = now();
-    for (int n = 0; n < CALLS; n++)
-        refused |= hive_column(text, strlen(line), layout, strlen(usual), 'E', 'N', 'L', answer, HIVE_ANSWER);
-    double columns = now();
-    for (int n = 0; n < CALLS; n++)
-        refused |= hive_column_number(text, strlen(line), layout, strlen(usual), 'E', 'N', 'L', answer, HIVE_ANSWER, number, HIVE_NUMBER);
-    double numbers = now();
-    if (refused || number[0] != 123) {
+    for (const char *code = "FXASIUENL"; *code; code += 3)
+        refused |= look(line, (const uint8_t *)code, r) | look_number(line, (const uint8_t *)code, r);
+    return refused;
+}
+
+/* One fix with its columns, the look for one of them and for its number, and a fix with three columns, each as text and as a number, all asked of the same B line;
+   nanoseconds, the shortest of the rounds. */
+static void measure_readers(int repetitions)
+{
+    static const char text[] = "B1200005130000N00015000WA001000012001208123";
+    const uint8_t *enl = (const uint8_t *)"ENL";
+    struct text line = {(const uint8_t *)text, strlen(text)}, layout = {(const uint8_t *)flights[0].fixes, strlen(flights[0].fixes)};
+    enum { CALLS = 20000, KINDS = 4 };
+    struct reading r;
+    double least[KINDS] = {0};
+    uint32_t refused = 0;
+    for (int round = 0; round < repetitions; round++)
+        for (int kind = 0; kind < KINDS; kind++) {
+            double began = now(), took;
+            for (int n = 0; n < CALLS; n++) {
+                if (kind == 0 || kind == 3)
+                    refused |= read_fix(line, layout, &r);
+                if (kind == 1)
+                    refused |= look(line, enl, &r);
+                if (kind == 2)
+                    refused |= look_number(line, enl, &r);
+                if (kind == 3)
+                    refused |= look_all(line, &r);
+            }
+            took = (now() - began) / CALLS * 1e9;
+            if (round == 0 || took < least[kind])
+                least[kind] = took;
+        }
+    if (refused || r.number[0] != 123) {
         printf("bench: FAILED: a reader refuses\n");
         exit(1);
     }
-    printf("a fix read from its line in %.0f ns, a column found in %.0f ns, a column's number in %.0f ns\n", (fixes - began) / CALLS * 1e9,
-           (columns - fixes) / CALLS * 1e9, (numbers - columns) / CALLS * 1e9);
+    printf("a fix read from its line with its columns in %.0f ns, a column found in %.0f ns, a column's number in %.0f ns\n", least[0], least[1], least[2]);
+    printf("a fix with three columns, each as text and as a number, in %.0f ns; seven readings of the line take %.0f ns\n", least[3], 7 * least[0]);
+}
+
+/* Every fix of a file that was checked, with its three columns, as c/fixes.c lists them but nothing printed; returns how many there are. */
+static size_t list_fixes(const uint8_t *file, size_t length, const uint32_t *table, size_t lines)
+{
+    struct text layout = {file, 0};
+    struct reading r;
+    size_t fixes = 0;
+    for (size_t n = 1; n <= lines; n++) {
+        uint64_t place[HIVE_ANSWER];
+        if (hive_line(file, length, table, lines, n, place, HIVE_ANSWER) != 0)
+            return 0;
+        struct text line = {file + place[HIVE_START], place[HIVE_LINE_LENGTH]};
+        if (line.bytes[0] == 'I')
+            layout = line;
+        if (line.bytes[0] == 'B')
+            fixes += read_fix(line, layout, &r) == 0 && look_all(line, &r) == 0;
+    }
+    return fixes;
+}
+
+/* The listing of a file of 300,000 fixes with three columns beside its check. */
+static void measure_listing(int repetitions)
+{
+    enum { FIXES = 300000 };
+    size_t size = 1024 + 64 * (size_t)FIXES, lines = FIXES + 8;
+    uint8_t *file = room(size);
+    uint32_t *table = room(lines * sizeof *table);
+    size_t length = make_fixes(file, size, FIXES);
+    struct said said = {0, {0}};
+    double check = 0, list = 0;
+    for (int n = 0; n < repetitions; n++) {
+        double took = timed(LIBRARY, file, length, table, lines, &said), began = now();
+        if (said.number != 0 || list_fixes(file, length, table, said.answer[HIVE_LINES]) != FIXES) {
+            printf("bench: FAILED: the listing has not every fix\n");
+            exit(1);
+        }
+        double listed = now() - began;
+        if (n == 0 || took < check)
+            check = took;
+        if (n == 0 || listed < list)
+            list = listed;
+    }
+    printf("300,000 fixes with three columns, each as text and as a number: %.1f ms; the check of their file: %.1f ms; %.1f times\n", list * 1e3, check * 1e3, list / check);
+    free(table);
+    free(file);
 }
 
 static int write_fixes(size_t fixes)
@@ -203,6 +293,7 @@ int main(int count, char **words)
     if (is_emulated())
         printf("bench: the processor is emulated: the figures say little\n");
     measure_checks(repetitions);
-    measure_readers();
+    measure_readers(repetitions);
+    measure_listing(repetitions);
     return 0;
 }

@@ -26,6 +26,7 @@ static const char N[] = "N1200050072";
 /* Filled with 9 before each call, so that what a call leaves is seen. */
 static uint64_t answer[HIVE_ANSWER];
 static int32_t heights[HIVE_HEIGHTS];
+static uint64_t entries[HIVE_ENTRIES + 1];
 static int64_t number[HIVE_NUMBER];
 static double degrees[HIVE_DEGREES];
 static uint8_t out[48];
@@ -36,6 +37,8 @@ static void fresh(void) {
     for (int i = 0; i < HIVE_ANSWER; i++)
         answer[i] = 9;
     heights[0] = heights[1] = 9;
+    for (int i = 0; i <= HIVE_ENTRIES; i++)
+        entries[i] = 9;
     number[0] = 9;
     degrees[0] = degrees[1] = 9;
     memset(out, '.', sizeof out);
@@ -52,8 +55,27 @@ static void say(const char *name, uint32_t returned) {
     fresh();
 }
 
+/* The entries: the first seven numbers, and then what all the others are. */
+static void say_entries(const char *name) {
+    printf("%s: entries", name);
+    for (int i = 0; i < 7; i++)
+        printf(" %llu", (unsigned long long)entries[i]);
+    for (int i = 8; i < HIVE_ENTRIES; i++)
+        if (entries[i] != entries[7]) {
+            printf(", number %d is %llu", i, (unsigned long long)entries[i]);
+            break;
+        }
+    printf(", then %llu\n", (unsigned long long)entries[7]);
+}
+
 static void say_fix(const char *name, uint32_t returned) {
     printf("%s: heights %d %d\n", name, (int)heights[0], (int)heights[1]);
+    say_entries(name);
+    say(name, returned);
+}
+
+static void say_extra(const char *name, uint32_t returned) {
+    say_entries(name);
     say(name, returned);
 }
 
@@ -142,33 +164,26 @@ static void files(void) {
 }
 
 static void lines(void) {
-    say_fix("fix", hive_fix(TEXT(B), TEXT(I), answer, HIVE_ANSWER, heights, HIVE_HEIGHTS));
-    say_fix("fix, heights of 1", hive_fix(TEXT(B), TEXT(I), answer, HIVE_ANSWER, heights, 1));
-    say_fix("fix by a J line", hive_fix(TEXT(B), TEXT(J), answer, HIVE_ANSWER, heights, HIVE_HEIGHTS));
-    say_fix("fix with no I line", hive_fix(TEXT(B), NULL, 0, answer, HIVE_ANSWER, heights, HIVE_HEIGHTS));
-    say_fix("fix over 90 degrees", hive_fix(TEXT("B1200009000001N00015000WA-001200120"), NULL, 0, answer, HIVE_ANSWER, heights, HIVE_HEIGHTS));
-    say_fix("fix at 24 hours", hive_fix(TEXT("B2400005130000N00015000WA0010000120"), NULL, 0, answer, HIVE_ANSWER, heights, HIVE_HEIGHTS));
-    say_fix("fix at minus zero metres", hive_fix(TEXT("B1200005130000N00015000WA00100-0000"), NULL, 0, answer, HIVE_ANSWER, heights, HIVE_HEIGHTS));
-    say_fix("fix, neither A nor V", hive_fix(TEXT("B1200005130000N00015000WX0010000120"), NULL, 0, answer, HIVE_ANSWER, heights, HIVE_HEIGHTS));
-    say_fix("fix below zero", hive_fix(TEXT("B1200009000000S18000000EV-001299999"), NULL, 0, answer, HIVE_ANSWER, heights, HIVE_HEIGHTS));
-    say("extra", hive_extra(TEXT(K), TEXT(J), answer, HIVE_ANSWER));
-    say("extra at 60 minutes", hive_extra(TEXT("K126000123"), TEXT(J), answer, HIVE_ANSWER));
-    say("extra by an I line", hive_extra(TEXT(K), TEXT(I), answer, HIVE_ANSWER));
-    say("extra, a B line", hive_extra(TEXT(B), TEXT(J), answer, HIVE_ANSWER));
-    say("extra, an E line", hive_extra(TEXT("E120000ABC"), TEXT(J), answer, HIVE_ANSWER));
-    say("extra, an N line", hive_extra(TEXT(N), TEXT(M), answer, HIVE_ANSWER));
-    say("extra, an N line with no M line", hive_extra(TEXT(N), NULL, 0, answer, HIVE_ANSWER));
-    say("extra, an N line by a J line", hive_extra(TEXT("N120005123"), TEXT(J), answer, HIVE_ANSWER));
-    say("extra, a K line by an M line", hive_extra(TEXT("K1200050072"), TEXT(M), answer, HIVE_ANSWER));
-    say("column SIU", hive_column(TEXT(B), TEXT(I), 'S', 'I', 'U', answer, HIVE_ANSWER));
-    say("column HDT", hive_column(TEXT(K), TEXT(J), 'H', 'D', 'T', answer, HIVE_ANSWER));
-    say("column HRT", hive_column(TEXT(N), TEXT(M), 'H', 'R', 'T', answer, HIVE_ANSWER));
-    say("column ENL", hive_column(TEXT(B), TEXT(I), 'E', 'N', 'L', answer, HIVE_ANSWER));
-    say_number("number FXA", hive_column_number(TEXT(B), TEXT(I), 'F', 'X', 'A', answer, HIVE_ANSWER, number, HIVE_NUMBER));
-    say_number("number HRT", hive_column_number(TEXT(N), TEXT(M), 'H', 'R', 'T', answer, HIVE_ANSWER, number, HIVE_NUMBER));
-    say_number("number -05", hive_column_number(TEXT("B1200005130000N00015000WA0010000120-05"), TEXT("I013638ZZZ"), 'Z', 'Z', 'Z', answer, HIVE_ANSWER, number, HIVE_NUMBER));
-    say_number("number AB1", hive_column_number(TEXT("B1200005130000N00015000WA0010000120AB1"), TEXT("I013638ZZZ"), 'Z', 'Z', 'Z', answer, HIVE_ANSWER, number, HIVE_NUMBER));
-    say_number("number, 2 of them", hive_column_number(TEXT(B), TEXT(I), 'F', 'X', 'A', answer, HIVE_ANSWER, number, 2));
+    say_fix("fix", hive_fix(TEXT(B), TEXT(I), answer, HIVE_ANSWER, heights, HIVE_HEIGHTS, entries, HIVE_ENTRIES));
+    say_fix("fix, heights of 1", hive_fix(TEXT(B), TEXT(I), answer, HIVE_ANSWER, heights, 1, entries, HIVE_ENTRIES));
+    say_fix("fix by a J line", hive_fix(TEXT(B), TEXT(J), answer, HIVE_ANSWER, heights, HIVE_HEIGHTS, entries, HIVE_ENTRIES));
+    say_fix("fix with no I line", hive_fix(TEXT(B), NULL, 0, answer, HIVE_ANSWER, heights, HIVE_HEIGHTS, entries, HIVE_ENTRIES));
+    say_fix("fix over 90 degrees", hive_fix(TEXT("B1200009000001N00015000WA-001200120"), NULL, 0, answer, HIVE_ANSWER, heights, HIVE_HEIGHTS, entries, HIVE_ENTRIES));
+    say_fix("fix at 24 hours", hive_fix(TEXT("B2400005130000N00015000WA0010000120"), NULL, 0, answer, HIVE_ANSWER, heights, HIVE_HEIGHTS, entries, HIVE_ENTRIES));
+    say_fix("fix at minus zero metres", hive_fix(TEXT("B1200005130000N00015000WA00100-0000"), NULL, 0, answer, HIVE_ANSWER, heights, HIVE_HEIGHTS, entries, HIVE_ENTRIES));
+    say_fix("fix, neither A nor V", hive_fix(TEXT("B1200005130000N00015000WX0010000120"), NULL, 0, answer, HIVE_ANSWER, heights, HIVE_HEIGHTS, entries, HIVE_ENTRIES));
+    say_fix("fix below zero", hive_fix(TEXT("B1200009000000S18000000EV-001299999"), NULL, 0, answer, HIVE_ANSWER, heights, HIVE_HEIGHTS, entries, HIVE_ENTRIES));
+    say_fix("fix, entries of 39", hive_fix(TEXT(B), TEXT(I), answer, HIVE_ANSWER, heights, HIVE_HEIGHTS, entries, 39));
+    say_extra("extra", hive_extra(TEXT(K), TEXT(J), answer, HIVE_ANSWER, entries, HIVE_ENTRIES));
+    say_extra("extra, entries of 41", hive_extra(TEXT(K), TEXT(J), answer, HIVE_ANSWER, entries, 41));
+    say_extra("extra at 60 minutes", hive_extra(TEXT("K126000123"), TEXT(J), answer, HIVE_ANSWER, entries, HIVE_ENTRIES));
+    say_extra("extra by an I line", hive_extra(TEXT(K), TEXT(I), answer, HIVE_ANSWER, entries, HIVE_ENTRIES));
+    say_extra("extra, a B line", hive_extra(TEXT(B), TEXT(J), answer, HIVE_ANSWER, entries, HIVE_ENTRIES));
+    say_extra("extra, an E line", hive_extra(TEXT("E120000ABC"), TEXT(J), answer, HIVE_ANSWER, entries, HIVE_ENTRIES));
+    say_extra("extra, an N line", hive_extra(TEXT(N), TEXT(M), answer, HIVE_ANSWER, entries, HIVE_ENTRIES));
+    say_extra("extra, an N line with no M line", hive_extra(TEXT(N), NULL, 0, answer, HIVE_ANSWER, entries, HIVE_ENTRIES));
+    say_extra("extra, an N line by a J line", hive_extra(TEXT("N120005123"), TEXT(J), answer, HIVE_ANSWER, entries, HIVE_ENTRIES));
+    say_extra("extra, a K line by an M line", hive_extra(TEXT("K1200050072"), TEXT(M), answer, HIVE_ANSWER, entries, HIVE_ENTRIES));
     say("column at 2", hive_column_at(TEXT(I), 2, answer, HIVE_ANSWER));
     say("column at 3", hive_column_at(TEXT(I), 3, answer, HIVE_ANSWER));
     say("column at 0", hive_column_at(TEXT(J), 0, answer, HIVE_ANSWER));
@@ -186,6 +201,43 @@ static void lines(void) {
     say_degrees("degrees, 0 S", hive_degrees(0, 'S', 10800000, 'E', degrees, HIVE_DEGREES));
     say_degrees("degrees, too many", hive_degrees(5400001, 'N', 15000, 'W', degrees, HIVE_DEGREES));
     say_degrees("degrees of 1", hive_degrees(3090000, 'N', 15000, 'W', degrees, 1));
+}
+
+/* Two columns as hive_fix tells those of B by I; what a look is to refuse is put into a copy. */
+static const uint64_t TWO[HIVE_ENTRIES] = {2, ('F' << 16) + ('X' << 8) + 'A', 36, 38, ('S' << 16) + ('I' << 8) + 'U', 39, 40};
+
+/* TWO with the number at a place changed. */
+static const uint64_t *but(int place, uint64_t value) {
+    memcpy(entries, TWO, sizeof TWO);
+    entries[place] = value;
+    return entries;
+}
+
+static void looks(void) {
+    uint64_t one[HIVE_ENTRIES] = {1, ('Z' << 16) + ('Z' << 8) + 'Z', 36, 38};
+    say("look FXA", hive_look(TEXT(B), TWO, HIVE_ENTRIES, 'F', 'X', 'A', answer, HIVE_ANSWER));
+    say("look SIU", hive_look(TEXT(B), TWO, HIVE_ENTRIES, 'S', 'I', 'U', answer, HIVE_ANSWER));
+    say("look SIX", hive_look(TEXT(B), TWO, HIVE_ENTRIES, 'S', 'I', 'X', answer, HIVE_ANSWER));
+    say("look ENL", hive_look(TEXT(B), TWO, HIVE_ENTRIES, 'E', 'N', 'L', answer, HIVE_ANSWER));
+    say("look into any line", hive_look(TEXT("forty bytes of no line that we know ..12"), TWO, HIVE_ENTRIES, 'S', 'I', 'U', answer, HIVE_ANSWER));
+    say("look, a line of 39", hive_look((const uint8_t *)B, 39, TWO, HIVE_ENTRIES, 'F', 'X', 'A', answer, HIVE_ANSWER));
+    say("look, entries of 39", hive_look(TEXT(B), TWO, 39, 'F', 'X', 'A', answer, HIVE_ANSWER));
+    say("look, 14 entries", hive_look(TEXT(B), but(HIVE_COLUMNS, 14), HIVE_ENTRIES, 'F', 'X', 'A', answer, HIVE_ANSWER));
+    say("look, a code twice", hive_look(TEXT(B), but(HIVE_COLUMN_CODE(1), TWO[HIVE_COLUMN_CODE(0)]), HIVE_ENTRIES, 'F', 'X', 'A', answer, HIVE_ANSWER));
+    say("look, first byte 0", hive_look(TEXT(B), but(HIVE_COLUMN_FIRST(0), 0), HIVE_ENTRIES, 'S', 'I', 'U', answer, HIVE_ANSWER));
+    say("look, last byte 41", hive_look(TEXT(B), but(HIVE_COLUMN_LAST(1), 41), HIVE_ENTRIES, 'F', 'X', 'A', answer, HIVE_ANSWER));
+    say("look, last before first", hive_look(TEXT(B), but(HIVE_COLUMN_LAST(0), 35), HIVE_ENTRIES, 'S', 'I', 'U', answer, HIVE_ANSWER));
+    say("look, a code of 33 bits", hive_look(TEXT(B), but(HIVE_COLUMN_CODE(1), (uint64_t)1 << 32), HIVE_ENTRIES, 'F', 'X', 'A', answer, HIVE_ANSWER));
+    say("look, columns that overlap", hive_look(TEXT(B), but(HIVE_COLUMN_FIRST(1), 1), HIVE_ENTRIES, 'S', 'I', 'U', answer, HIVE_ANSWER));
+    say("look, behind the last column", hive_look(TEXT(B), but(HIVE_COLUMN_LAST(2), 999), HIVE_ENTRIES, 'F', 'X', 'A', answer, HIVE_ANSWER));
+    say("look, only one column", hive_look(TEXT(B), but(HIVE_COLUMNS, 1), HIVE_ENTRIES, 'S', 'I', 'U', answer, HIVE_ANSWER));
+    say("look, answer of 15", hive_look(TEXT(B), TWO, HIVE_ENTRIES, 'F', 'X', 'A', answer, 15));
+    say_number("number FXA", hive_look_number(TEXT(B), TWO, HIVE_ENTRIES, 'F', 'X', 'A', answer, HIVE_ANSWER, number, HIVE_NUMBER));
+    say_number("number -05", hive_look_number(TEXT("B1200005130000N00015000WA0010000120-05"), one, HIVE_ENTRIES, 'Z', 'Z', 'Z', answer, HIVE_ANSWER, number, HIVE_NUMBER));
+    say_number("number AB1", hive_look_number(TEXT("B1200005130000N00015000WA0010000120AB1"), one, HIVE_ENTRIES, 'Z', 'Z', 'Z', answer, HIVE_ANSWER, number, HIVE_NUMBER));
+    say_number("number ENL", hive_look_number(TEXT(B), TWO, HIVE_ENTRIES, 'E', 'N', 'L', answer, HIVE_ANSWER, number, HIVE_NUMBER));
+    say_number("number, a line of 37", hive_look_number((const uint8_t *)B, 37, one, HIVE_ENTRIES, 'Z', 'Z', 'Z', answer, HIVE_ANSWER, number, HIVE_NUMBER));
+    say_number("number, 2 of them", hive_look_number(TEXT(B), TWO, HIVE_ENTRIES, 'F', 'X', 'A', answer, HIVE_ANSWER, number, 2));
 }
 
 static void others(void) {
@@ -300,6 +352,7 @@ int main(void) {
     fresh();
     files();
     lines();
+    looks();
     others();
     writers();
     merging();

@@ -12,12 +12,12 @@ struct text {
     size_t length;
 };
 
-static void print_column(struct text line, struct text layout, const uint64_t *entry) {
+/* Column n of a line that was read, by the look for its code. */
+static void print_column(struct text line, const uint64_t *entries, size_t n) {
     uint64_t answer[HIVE_ANSWER];
-    uint8_t code[3];
-    for (int i = 0; i < 3; i++)
-        code[i] = (uint8_t)entry[HIVE_CODE + i];
-    if (hive_column(line.bytes, line.length, layout.bytes, layout.length, code[0], code[1], code[2], answer, HIVE_ANSWER) != 0)
+    uint64_t packed = entries[HIVE_COLUMN_CODE(n)];
+    uint8_t code[3] = {(uint8_t)(packed >> 16), (uint8_t)(packed >> 8), (uint8_t)packed};
+    if (hive_look(line.bytes, line.length, entries, HIVE_ENTRIES, code[0], code[1], code[2], answer, HIVE_ANSWER) != 0)
         return;
     printf("COL %.3s %.*s\n", (const char *)code, (int)answer[HIVE_COLUMN_LENGTH], (const char *)line.bytes + answer[HIVE_START]);
 }
@@ -25,15 +25,16 @@ static void print_column(struct text line, struct text layout, const uint64_t *e
 static void print_fix(uint64_t number, struct text line, struct text layout) {
     uint64_t answer[HIVE_ANSWER];
     int32_t heights[HIVE_HEIGHTS];
-    if (hive_fix(line.bytes, line.length, layout.bytes, layout.length, answer, HIVE_ANSWER, heights, HIVE_HEIGHTS) != 0)
+    uint64_t entries[HIVE_ENTRIES];
+    if (hive_fix(line.bytes, line.length, layout.bytes, layout.length, answer, HIVE_ANSWER, heights, HIVE_HEIGHTS, entries, HIVE_ENTRIES) != 0)
         return;
     printf("FIX %llu %llu %llu %c %llu %c %c %d %d\n", (unsigned long long)number,
            (unsigned long long)answer[HIVE_SECONDS],
            (unsigned long long)answer[HIVE_LATITUDE], (char)answer[HIVE_LATITUDE_LETTER],
            (unsigned long long)answer[HIVE_LONGITUDE], (char)answer[HIVE_LONGITUDE_LETTER],
            (char)answer[HIVE_VALIDITY], (int)heights[HIVE_PRESSURE], (int)heights[HIVE_GNSS]);
-    for (size_t n = 1; hive_column_at(layout.bytes, layout.length, n, answer, HIVE_ANSWER) == 0; n++)
-        print_column(line, layout, answer);
+    for (size_t n = 0; n < entries[HIVE_COLUMNS]; n++)
+        print_column(line, entries, n);
 }
 
 static void print_file(const uint8_t *file, size_t length, uint32_t *table, size_t lines) {

@@ -17,7 +17,7 @@
    THE ANSWER is HIVE_ANSWER numbers, of every function but hive_degrees:
        answer[0], answer[1]   line and byte of a refusal, counted from 1; 0 where none is told, and where the call is good
        answer[2] and on       the values, named with each function; all 0 where refused, but for HIVE_WHOSE of hive_merge; 0 where no value is named
-   An answer of another length (or heights, a number or degrees of another length than is said) is refused with 17 at once, and then nothing that is lent is changed.
+   An answer of another length (or heights, entries that are lent for writing, a number or degrees of another length than is said) is refused with 17 at once, and then nothing that is lent is changed.
 
    PLACES that lead into memory are told by how many bytes stand before them: text + answer[HIVE_START]. Bytes of refusals and of layouts count from 1.
 
@@ -36,7 +36,7 @@
 extern "C" {
 #endif
 
-enum { HIVE_ANSWER = 16, HIVE_HEIGHTS = 2, HIVE_DEGREES = 2, HIVE_NUMBER = 1 };
+enum { HIVE_ANSWER = 16, HIVE_HEIGHTS = 2, HIVE_ENTRIES = 40, HIVE_DEGREES = 2, HIVE_NUMBER = 1 };
 
 /* Refusal numbers. The first field of a line that is against its rule is told by what it holds: HIVE_TIME a time, HIVE_POSITION a latitude or longitude, HIVE_ALTITUDE an
    altitude, HIVE_DATE a date, HIVE_FORM anything else. All five have the same place among the checks: after HIVE_CHARACTER, before HIVE_COLUMN. */
@@ -160,9 +160,16 @@ uint32_t hive_track(const uint8_t *file, size_t file_length,
 
 /* ---- a line: 17 for another kind of line or a layout that is not allowed, then with the byte 7, 8, a field's (9, 22 to 24), 13 */
 
-/* The fix of a B line. The counts are thousandths of a minute; letters and validity are the bytes of the line.
+/* A B line read, in one check of the line: its fix, and its columns. The counts are thousandths of a minute; letters and validity are the bytes of the line.
        2 seconds of the day  3 latitude  4 N or S  5 longitude  6 E or W  7 A or V
-       heights[0] pressure altitude, heights[1] GNSS altitude, in metres; 0 where refused */
+       heights[0] pressure altitude, heights[1] GNSS altitude, in metres; 0 where refused
+       entries[HIVE_COLUMNS] how many columns the line has, 0 to 13; then three numbers for each, in layout order, 0 behind the last column; all 0 where refused:
+       entries[HIVE_COLUMN_CODE(n)] the code of column n, counted from 0, its first character times 65536 plus its second times 256 plus its third;
+       entries[HIVE_COLUMN_FIRST(n)], entries[HIVE_COLUMN_LAST(n)] its first and its last byte in the line, counted from 1 */
+enum { HIVE_COLUMNS = 0 };
+#define HIVE_COLUMN_CODE(n) (3 * (n) + 1)
+#define HIVE_COLUMN_FIRST(n) (3 * (n) + 2)
+#define HIVE_COLUMN_LAST(n) (3 * (n) + 3)
 enum {
     HIVE_SECONDS = 2,
     HIVE_LATITUDE = 3,
@@ -176,29 +183,34 @@ enum {
 uint32_t hive_fix(const uint8_t *line, size_t line_length,
                   const uint8_t *layout, size_t layout_length,
                   uint64_t *answer, size_t answer_length,
-                  int32_t *heights, size_t heights_length);
+                  int32_t *heights, size_t heights_length,
+                  uint64_t *entries, size_t entries_length);
 
-/* The time of a K line by a J line, or of an N line by an M line: which of the two is told by the line's first byte.
+/* A K line read by a J line, or an N line by an M line: which of the two is told by the line's first byte. Its time, and its columns as hive_fix tells them.
        2 seconds of the day */
 uint32_t hive_extra(const uint8_t *line, size_t line_length,
-                   const uint8_t *layout, size_t layout_length,
+                    const uint8_t *layout, size_t layout_length,
+                    uint64_t *answer, size_t answer_length,
+                    uint64_t *entries, size_t entries_length);
+
+/* The look for the column of a code, any three bytes, in the entries that hive_fix or hive_extra gave for the line. The line is not checked again, and nothing is taken on
+   trust: 17 for entries of another length than HIVE_ENTRIES, for over 13 columns, for a code twice among them, for a column whose first byte is 0, whose last byte is past the
+   line lent here, or whose last byte is before its first, and for a number of a column that no entry holds (a code over 4294967295, a first or last byte over 255); then 19
+   where no column has the code. Numbers behind the last column are not looked at.
+       2 start  3 length of the column's text in the line */
+enum { HIVE_COLUMN_LENGTH = 3 };
+uint32_t hive_look(const uint8_t *line, size_t line_length,
+                   const uint64_t *entries, size_t entries_length,
+                   uint8_t code0, uint8_t code1, uint8_t code2,
                    uint64_t *answer, size_t answer_length);
 
-/* Where the column of a code, any three bytes, stands in a B, K or N line. After the line's refusals, 19.
-       2 start  3 length */
-enum { HIVE_COLUMN_LENGTH = 3 };
-uint32_t hive_column(const uint8_t *line, size_t line_length,
-                     const uint8_t *layout, size_t layout_length,
-                     uint8_t code0, uint8_t code1, uint8_t code2,
-                     uint64_t *answer, size_t answer_length);
-
-/* That column as a whole number. After what hive_column refuses, 20.
+/* That column as a whole number. After what hive_look refuses, 20.
        number[0] the number; 0 where refused */
-uint32_t hive_column_number(const uint8_t *line, size_t line_length,
-                            const uint8_t *layout, size_t layout_length,
-                            uint8_t code0, uint8_t code1, uint8_t code2,
-                            uint64_t *answer, size_t answer_length,
-                            int64_t *number, size_t number_length);
+uint32_t hive_look_number(const uint8_t *line, size_t line_length,
+                          const uint64_t *entries, size_t entries_length,
+                          uint8_t code0, uint8_t code1, uint8_t code2,
+                          uint64_t *answer, size_t answer_length,
+                          int64_t *number, size_t number_length);
 
 /* Column n, counted from 1, of an I, J or M line. 17 where n is 0 or over 13, and for another kind; then 7 to 12 with the byte; then 17 where n is past the line's columns.
        2, 3, 4 the code  5 first byte  6 last byte, in a B, K or N line, counted from 1 */

@@ -2,6 +2,9 @@
 
 pub const ANSWER: usize = 16;
 
+/// How many numbers the columns of a line are told in: how many there are, then code, first and last byte of each, up to 13.
+pub const ENTRIES: usize = 40;
+
 /// Places in the answer of hive_check and of hive_check_strict.
 pub const DAY: usize = 2;
 pub const MONTH: usize = 3;
@@ -77,14 +80,25 @@ mod c {
         pub fn hive_check_strict(f: *const u8, fl: usize, t: *mut u32, tl: usize, a: *mut u64, al: usize) -> u32;
         pub fn hive_line(f: *const u8, fl: usize, t: *const u32, tl: usize, n: usize, a: *mut u64, al: usize) -> u32;
         pub fn hive_step(f: *const u8, fl: usize, place: usize, a: *mut u64, al: usize) -> u32;
-        pub fn hive_fix(s: *const u8, sl: usize, y: *const u8, yl: usize, a: *mut u64, al: usize, h: *mut i32, hl: usize) -> u32;
-        pub fn hive_extra(s: *const u8, sl: usize, y: *const u8, yl: usize, a: *mut u64, al: usize) -> u32;
-        pub fn hive_column(s: *const u8, sl: usize, y: *const u8, yl: usize, c0: u8, c1: u8, c2: u8, a: *mut u64, al: usize) -> u32;
-        pub fn hive_column_number(
+        pub fn hive_fix(
             s: *const u8,
             sl: usize,
             y: *const u8,
             yl: usize,
+            a: *mut u64,
+            al: usize,
+            h: *mut i32,
+            hl: usize,
+            e: *mut u64,
+            el: usize,
+        ) -> u32;
+        pub fn hive_extra(s: *const u8, sl: usize, y: *const u8, yl: usize, a: *mut u64, al: usize, e: *mut u64, el: usize) -> u32;
+        pub fn hive_look(s: *const u8, sl: usize, e: *const u64, el: usize, c0: u8, c1: u8, c2: u8, a: *mut u64, al: usize) -> u32;
+        pub fn hive_look_number(
+            s: *const u8,
+            sl: usize,
+            e: *const u64,
+            el: usize,
             c0: u8,
             c1: u8,
             c2: u8,
@@ -252,28 +266,61 @@ pub fn step(file: &[u8], place: usize) -> Told {
     told(|a, al| unsafe { c::hive_step(file.as_ptr(), file.len(), place, a, al) })
 }
 
-pub fn fix(line: &[u8], layout: &[u8]) -> (Told, [i32; 2]) {
-    let mut heights = [0x5A5A_5A5A; 2];
-    let h = heights.as_mut_ptr();
-    let t = told(|a, al| unsafe { c::hive_fix(line.as_ptr(), line.len(), layout.as_ptr(), layout.len(), a, al, h, 2) });
-    (t, heights)
+/// What a call returns, and all that was lent to it for writing, of any length: the answer, the heights, the entries, the number.
+#[derive(Clone, PartialEq, Eq, Debug)]
+pub struct Lent {
+    pub number: u32,
+    pub answer: Vec<u64>,
+    pub heights: Vec<i32>,
+    pub entries: Vec<u64>,
+    pub value: Vec<i64>,
 }
 
-pub fn extra(line: &[u8], layout: &[u8]) -> Told {
-    told(|a, al| unsafe { c::hive_extra(line.as_ptr(), line.len(), layout.as_ptr(), layout.len(), a, al) })
+impl Lent {
+    /// What is lent for a call: so many numbers each, none of which a call gives.
+    pub fn of(answer: usize, heights: usize, entries: usize, value: usize) -> Lent {
+        Lent {
+            number: 0,
+            answer: vec![BEFORE; answer],
+            heights: vec![0x5A5A_5A5A; heights],
+            entries: vec![BEFORE; entries],
+            value: vec![BEFORE as i64; value],
+        }
+    }
 }
 
-pub fn column(line: &[u8], layout: &[u8], code: [u8; 3]) -> Told {
+/// A fix and its columns.
+pub fn fix(line: &[u8], layout: &[u8], mut lent: Lent) -> Lent {
+    let (a, al) = (lent.answer.as_mut_ptr(), lent.answer.len());
+    let (h, hl) = (lent.heights.as_mut_ptr(), lent.heights.len());
+    let (e, el) = (lent.entries.as_mut_ptr(), lent.entries.len());
+    lent.number = unsafe { c::hive_fix(line.as_ptr(), line.len(), layout.as_ptr(), layout.len(), a, al, h, hl, e, el) };
+    lent
+}
+
+/// The time of a K or an N line, and its columns.
+pub fn extra(line: &[u8], layout: &[u8], mut lent: Lent) -> Lent {
+    let (a, al) = (lent.answer.as_mut_ptr(), lent.answer.len());
+    let (e, el) = (lent.entries.as_mut_ptr(), lent.entries.len());
+    lent.number = unsafe { c::hive_extra(line.as_ptr(), line.len(), layout.as_ptr(), layout.len(), a, al, e, el) };
+    lent
+}
+
+/// The look for a column in any entries.
+pub fn look(line: &[u8], entries: &[u64], code: [u8; 3], mut lent: Lent) -> Lent {
     let [x, y, z] = code;
-    told(|a, al| unsafe { c::hive_column(line.as_ptr(), line.len(), layout.as_ptr(), layout.len(), x, y, z, a, al) })
+    let (a, al) = (lent.answer.as_mut_ptr(), lent.answer.len());
+    lent.number = unsafe { c::hive_look(line.as_ptr(), line.len(), entries.as_ptr(), entries.len(), x, y, z, a, al) };
+    lent
 }
 
-pub fn column_number(line: &[u8], layout: &[u8], code: [u8; 3]) -> (Told, i64) {
+/// The same as a number.
+pub fn look_number(line: &[u8], entries: &[u64], code: [u8; 3], mut lent: Lent) -> Lent {
     let [x, y, z] = code;
-    let mut number = BEFORE as i64;
-    let n = &raw mut number;
-    let t = told(|a, al| unsafe { c::hive_column_number(line.as_ptr(), line.len(), layout.as_ptr(), layout.len(), x, y, z, a, al, n, 1) });
-    (t, number)
+    let (a, al) = (lent.answer.as_mut_ptr(), lent.answer.len());
+    let (n, nl) = (lent.value.as_mut_ptr(), lent.value.len());
+    lent.number = unsafe { c::hive_look_number(line.as_ptr(), line.len(), entries.as_ptr(), entries.len(), x, y, z, a, al, n, nl) };
+    lent
 }
 
 pub fn column_at(layout: &[u8], n: usize) -> Told {
@@ -459,8 +506,8 @@ pub const OPERATIONS: [&str; 25] = [
     "hive_step",
     "hive_fix",
     "hive_extra",
-    "hive_column",
-    "hive_column_number",
+    "hive_look",
+    "hive_look_number",
     "hive_column_at",
     "hive_presence",
     "hive_degrees",

@@ -7,8 +7,8 @@ use lib.ListN.{length}
 use Rattle.rules.specs.Reads.{numberReadTold}
 use Rattle.rules.specs.declared.NumberRead.{NumberRead}
 use Rattle.answers.specs.Answers.{size, AnswerGiven, inNumbers}
-use Rattle.given.specs.Given.{numberBy}
 use Rattle.calls_column.specs.Values.{signedNumbers, integersOf}
+use Rattle.lent_look.specs.Looks.{numberBy}
 use Rattle.calls_column.specs.Calls.{NumberAnswered}
 use Rattle.answers.specs.declared.Numbers.{Numbers}
 use Rattle.answers.proofs.Laws.{given-said, neither-room, one-room, both-room, fitting, not-fitting}

@@ -4,14 +4,11 @@ use mathlib.Core.List.{List}
 use mathlib.Core.Path.{_≡_, sym, _∙_}
 use lib.IntN.{ℤ}
 use Rattle.answers.proofs.Only.{only-answered}
-use Rattle.calls_column.specs.Calls.{ExtraAnswered, ColumnAnswered, NumberAnswered, EntryAnswered, PresenceAnswered}
+use Rattle.calls_column.specs.Calls.{LookAnswered, NumberAnswered, EntryAnswered, PresenceAnswered}
 
 module _ (answer : List ℕ) (r r′ : ℕ) (after after′ : List ℕ) where
-  pub only-extra-answered : (line l : List ℕ) → ExtraAnswered line l answer r after → ExtraAnswered line l answer r′ after′ → (r ≡ r′) × (after ≡ after′)
-  only-extra-answered line l = only-answered answer r r′ after after′
-
-  pub only-column-answered : (line l name : List ℕ) → ColumnAnswered line l name answer r after → ColumnAnswered line l name answer r′ after′ → (r ≡ r′) × (after ≡ after′)
-  only-column-answered line l name = only-answered answer r r′ after after′
+  pub only-look-answered : (line ns name : List ℕ) → LookAnswered line ns name answer r after → LookAnswered line ns name answer r′ after′ → (r ≡ r′) × (after ≡ after′)
+  only-look-answered line ns name = only-answered answer r r′ after after′
 
   pub only-number-answered : (line l name : List ℕ) (number now now′ : List ℤ) → NumberAnswered line l name answer number r after now → NumberAnswered line l name answer number r′ after′ now′ → (r ≡ r′) × (after ≡ after′) × (now ≡ now′)
   only-number-answered line l name number now now′ n n′ =

@@ -1,35 +1,31 @@
-// The calls from C on a K or an N line and on the columns of a line, with a layout that is given as the text of its own line; and on that layout.
+// The calls from C that look into the entries of a reading, and those on a layout that is given as the text of its own line.
 ghost use mathlib.Core.List.{_∷_, []};
 ghost use mathlib.Core.Path.{_≡_};
 ghost use lib.ListN.{length};
 ghost use Rattle.rules.specs.Reads.{numberReadTold};
 ghost use Rattle.calls_column.specs.Values.{integersOf};
-ghost use Rattle.calls_column.specs.Calls.{ExtraAnswered, ColumnAnswered, NumberAnswered, EntryAnswered, PresenceAnswered};
+ghost use Rattle.calls_column.specs.Calls.{LookAnswered, NumberAnswered, EntryAnswered, PresenceAnswered};
 use answers::SIZE;
 use rules::NumberRead;
 
 mod values;
 
-// The time of a K or an N line.
-pub fn extra(line: &[u8], layout: &[u8], answer: &mut [u64]) -> u32
-    ensures { λ r. ⌜ ExtraAnswered (now (line .entry)) (now (layout .entry)) (now (answer .entry)) r (now (answer .exit)) ⌝ }
-{
-    answers::give(answer, answers::time(given::extra(line, layout)))
-}
-
-// Where the column of a code stands in a B, a K or an N line.
-pub fn column(
+// The look for a code into the entries that a reading gave: where the column's text stands.
+pub fn look(
     line: &[u8],
-    layout: &[u8],
+    entries: &[u64],
     code0: u8,
     code1: u8,
     code2: u8,
     answer: &mut [u64],
 ) -> u32
-    ensures { λ r. ⌜ ColumnAnswered (now (line .entry)) (now (layout .entry)) (code0 ∷ code1 ∷ code2 ∷ []) (now (answer .entry)) r (now (answer .exit)) ⌝ }
+    ensures { λ r. ⌜ LookAnswered (now (line .entry)) (now (entries .entry)) (code0 ∷ code1 ∷ code2 ∷ []) (now (answer .entry)) r (now (answer .exit)) ⌝ }
 {
     let code = [code0, code1, code2];
-    answers::give(answer, values::column(given::column(line, layout, code)))
+    answers::give(
+        answer,
+        values::column(lent_look::column(line, entries, code)),
+    )
 }
 
 // A column's number, or 0.
@@ -47,16 +43,16 @@ fn put_number(number: &mut [i64], read: NumberRead)
 }
 
 // That column as a whole number.
-pub fn number(
+pub fn look_number(
     line: &[u8],
-    layout: &[u8],
+    entries: &[u64],
     code0: u8,
     code1: u8,
     code2: u8,
     answer: &mut [u64],
     number: &mut [i64],
 ) -> u32
-    ensures { λ r. ⌜ NumberAnswered (now (line .entry)) (now (layout .entry)) (code0 ∷ code1 ∷ code2 ∷ []) (now (answer .entry)) (now (number .entry)) r (now (answer .exit)) (now (number .exit)) ⌝ }
+    ensures { λ r. ⌜ NumberAnswered (now (line .entry)) (now (entries .entry)) (code0 ∷ code1 ∷ code2 ∷ []) (now (answer .entry)) (now (number .entry)) r (now (answer .exit)) (now (number .exit)) ⌝ }
 {
     if answer.len() != SIZE {
         return 17;
@@ -65,7 +61,7 @@ pub fn number(
         return 17;
     }
     let code = [code0, code1, code2];
-    let read = given::number(line, layout, code);
+    let read = lent_look::number(line, entries, code);
     put_number(number, read);
     answers::give(answer, values::signed(read))
 }

@@ -1,14 +1,15 @@
-// The call from C on a B line: its fix, with the layout given as the text of its own line.
+// The calls from C on a B, a K or an N line: its value and the entries of its columns, with the layout given as the text of its own line.
 ghost use mathlib.Core.List.{_∷_, []};
 ghost use mathlib.Core.Path.{_≡_};
 ghost use lib.ListN.{length};
 ghost use Rattle.rules.specs.Reads.{fixTold};
 ghost use Rattle.answers.specs.Answers.{accepting, inNumbers};
-ghost use Rattle.calls_fix.specs.Calls.{fixNumbers, heightsOf, FixAnswered};
+ghost use Rattle.calls_fix.specs.Calls.{fixNumbers, heightsOf, FixAnswered, ExtraAnswered};
 use answers::Numbers;
 use answers::SIZE;
 use answers::accepted;
 use answers::refused;
+use lent_entries::ENTRIES;
 use rules::Fix;
 use rules::FixRead;
 use rules::Height;
@@ -59,9 +60,15 @@ fn numbers(read: FixRead) -> Numbers
     }
 }
 
-// The fix of a B line.
-pub fn fix(line: &[u8], layout: &[u8], answer: &mut [u64], heights: &mut [i32]) -> u32
-    ensures { λ r. ⌜ FixAnswered (now (line .entry)) (now (layout .entry)) (now (answer .entry)) (now (heights .entry)) r (now (answer .exit)) (now (heights .exit)) ⌝ }
+// A B line read: its fix, its altitudes, and the entries of its columns. 17 where something that is lent has not its length.
+pub fn fix(
+    line: &[u8],
+    layout: &[u8],
+    answer: &mut [u64],
+    heights: &mut [i32],
+    entries: &mut [u64],
+) -> u32
+    ensures { λ r. ⌜ FixAnswered (now (line .entry)) (now (layout .entry)) (now (answer .entry)) (now (heights .entry)) (now (entries .entry)) r (now (answer .exit)) (now (heights .exit)) (now (entries .exit)) ⌝ }
 {
     if answer.len() != SIZE {
         return 17;
@@ -69,7 +76,30 @@ pub fn fix(line: &[u8], layout: &[u8], answer: &mut [u64], heights: &mut [i32]) 
     if heights.len() != 2 {
         return 17;
     }
+    if entries.len() != ENTRIES {
+        return 17;
+    }
     let read = given::fix(line, layout);
-    put_heights(heights, read);
-    answers::give(answer, numbers(read))
+    let value = read.fix;
+    let columns = read.entries;
+    put_heights(heights, value);
+    lent_entries::put(entries, columns);
+    answers::give(answer, numbers(value))
+}
+
+// A K or an N line read: its time, and the entries of its columns. 17 where something that is lent has not its length.
+pub fn extra(line: &[u8], layout: &[u8], answer: &mut [u64], entries: &mut [u64]) -> u32
+    ensures { λ r. ⌜ ExtraAnswered (now (line .entry)) (now (layout .entry)) (now (answer .entry)) (now (entries .entry)) r (now (answer .exit)) (now (entries .exit)) ⌝ }
+{
+    if answer.len() != SIZE {
+        return 17;
+    }
+    if entries.len() != ENTRIES {
+        return 17;
+    }
+    let read = given::extra(line, layout);
+    let value = read.time;
+    let columns = read.entries;
+    lent_entries::put(entries, columns);
+    answers::give(answer, answers::time(value))
 }

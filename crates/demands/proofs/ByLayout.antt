@@ -1,4 +1,4 @@
--- What a layout that a line can tell says by itself: how long its lines are, where the column of each code stands, and which listed codes it carries. Assumes nothing.
+-- What a layout that a line can tell says by itself: how long its lines are, and which listed codes it carries. Assumes nothing.
 use Prim.Native.Nat.{ℕ, suc, _+_, _*_, _^_}
 use mathlib.Core.Bool.{Bool, true, false, cond}
 use mathlib.Core.List.{List, [], _∷_}
@@ -12,7 +12,7 @@ use Rattle.rules.specs.Choice.{given, firstOf, Each}
 use Rattle.rules.specs.Families.{firstStart}
 use Rattle.rules.specs.Refusals.{says, refuses, number}
 use Rattle.rules.specs.Listed.{listed, packedOf, codeText}
-use Rattle.rules.specs.Layouts.{entriesOf, lineLength, Span, spanOf, look, carries, wordFrom, presenceOf, lengthSaid, lookSaid, presenceSaid}
+use Rattle.rules.specs.Layouts.{entriesOf, lineLength, Span, spanOf, look, carries, wordFrom, presenceOf, lengthSaid, presenceSaid}
 use Rattle.rules.specs.declared.Listed.{Listed}
 use Rattle.rules.specs.declared.Entry.{Entry}
 use Rattle.rules.specs.declared.Layout.{Layout}
@@ -23,25 +23,20 @@ use Rattle.basics.proofs.Presence.{set-bits, count-bits}
 use Rattle.sound.proofs.Each.{each-map}
 use Rattle.sound.proofs.Entries.{packed-back}
 use Rattle.sound.proofs.Placed.{Coded, allowed-there, carries-none}
-use Rattle.sound.proofs.Columns.{carried-there, each-looked}
+use Rattle.sound.proofs.Columns.{carried-there}
 use Rattle.words.specs.Codes.{Row, rows, Same, SameRows}
 use Rattle.words.proofs.Codes.{listed-exactly}
 use Rattle.demands.specs.Readings.{Carries, Present, no-rows, carried, absent, ReadsPresence, ReadsLayout}
 use Rattle.demands.proofs.LayoutLines.{IsTold}
-use Rattle.demands.proofs.Columns.{none-looked}
 use Rattle.demands.proofs.Faulty.{length-laid}
 
--- ---- the length of its lines, and its columns
+-- ---- the length of its lines
 
 pub layout-reads : (f : Family) (layout : Layout) → IsTold f layout → ReadsLayout f layout
-unfolding lengthSaid lookSaid number
+unfolding lengthSaid
 layout-reads f layout t =
     let a = allowed-there (firstStart f) layout (t .right) (t .full) in
-    record {
-      long = rw (t .right) (ap says (ap (lineLength (firstStart f)) (a .1) ∙ length-laid f (entriesOf layout)));
-      carried = each-map (entriesOf layout) (λ e h. rw (t .right, packed-back (e .code)) (ap (λ o. given o (refuses 19 0 0) says) h)) (each-looked (firstStart f) layout t);
-      absent = λ name w h. rw (t .right, none-looked layout name w h);
-    }
+    record { long = rw (t .right) (ap says (ap (lineLength (firstStart f)) (a .1) ∙ length-laid f (entriesOf layout))) }
 
 -- ---- the listed codes that it carries
 

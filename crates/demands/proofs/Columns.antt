@@ -22,7 +22,7 @@ use Rattle.rules.specs.Limits.{isClean, badTail, goodTail}
 use Rattle.rules.specs.Families.{firstStart}
 use Rattle.rules.specs.Refusals.{says, refuses, number}
 use Rattle.rules.specs.Numbers.{numberAt, digitsOf, wholeOf}
-use Rattle.rules.specs.Reads.{entriesSaid, columnSaid, columnTextSaid, numberSaid}
+use Rattle.rules.specs.Looks.{fitsLine, lookSaid, lookText, lookNumber}
 use Rattle.rules.specs.declared.Signed.{Signed}
 use Rattle.rules.specs.declared.Family.{Family}
 use Rattle.rules.proofs.Inverse.{false-true, need-inv, none-some, given-inv}
@@ -37,6 +37,7 @@ use Rattle.sound.proofs.Each.{each-map, each-both, each-join, each-cut, nothing
 use Rattle.sound.proofs.Entries.{unpacked, packed-back}
 use Rattle.sound.proofs.Placed.{Coded, Sound, allowed-there}
 use Rattle.sound.proofs.Columns.{each-looked, end-of, line-end}
+use Rattle.sound.proofs.Looked.{look-there}
 use Rattle.demands.proofs.Laws.{are-valid, valid-are, nothing-given}
 use Rattle.demands.proofs.LayoutLines.{told-tiles}
 
@@ -236,31 +237,30 @@ none-looked layout name w h =
     none-found (Coded (packedOf name)) (λ k e. spanOf e) (entriesOf layout) 0
     (each-map (entriesOf layout) (λ e n. ne-eqb (e .code) (packedOf name) (λ i. n (ap codeText i ∙ name-back name w))) h)
 
-module _ (layout : Layout) (l : List ℕ) (said : entriesSaid l layout ≡ says (entriesOf layout)) where
-  column-said : (name : List ℕ) (s : Span) → look layout (packedOf name) ≡ some s → columnSaid l layout name ≡ says s
-  unfolding columnSaid look
-  column-said name s e = rw (said, e)
+module _ (layout : Layout) (l : List ℕ) (fits : fitsLine l layout ≡ true) where
+  column-said : (name : List ℕ) (s : Span) → look layout (packedOf name) ≡ some s → lookSaid l layout name ≡ says s
+  column-said name s e = look-there l layout name fits ∙ rw e
 
-  column-absent : (name : List ℕ) → look layout (packedOf name) ≡ none → columnSaid l layout name ≡ refuses 19 0 0
-  unfolding columnSaid look number
-  column-absent name e = rw (said, e)
+  column-absent : (name : List ℕ) → look layout (packedOf name) ≡ none → lookSaid l layout name ≡ refuses 19 0 0
+  unfolding number
+  column-absent name e = look-there l layout name fits ∙ rw e
 
   column-read : (e : Entry) → look layout (e .code) ≡ some (spanOf e) → length (columnText l (spanOf e)) ≡ widthOf e → ReadsColumn layout l e
-  unfolding numberSaid columnTextSaid number
+  unfolding lookNumber lookText number
   column-read e h n =
       let s = column-said (codeText (e .code)) (spanOf e) (ap (look layout) (packed-back (e .code)) ∙ h) in
       record { span = s; text = rw s; wide = n; number = rw s (number-of (columnText l (spanOf e)) (wholeOf (columnText l (spanOf e))) refl) }
 
 pub columns-read : (f : Family) (layout : Layout) (l tail : List ℕ) → 1 ≤ firstStart f → Sound (firstStart f) layout
-    → drop (firstStart f - 1) l ≡ tail → Columns (entriesOf layout) tail → entriesSaid l layout ≡ says (entriesOf layout) → ReadsColumns f layout l
-unfolding look number
-columns-read f layout l tail low s cut is said =
+    → drop (firstStart f - 1) l ≡ tail → Columns (entriesOf layout) tail → fitsLine l layout ≡ true → ReadsColumns f layout l
+unfolding number
+columns-read f layout l tail low s cut is fits =
     let t = told-tiles (firstStart f) layout s in
     let es = entriesOf layout in
     let r = texts-are l es (firstStart f) tail t low cut is in
     record {
-      carried = each-map es (λ e h. column-read layout l said e (h .0) (h .1))
+      carried = each-map es (λ e h. column-read layout l fits e (h .0) (h .1))
           (each-both es (λ e. look layout (e .code) ≡ some (spanOf e)) (λ e. length (columnText l (spanOf e)) ≡ widthOf e) (each-looked (firstStart f) layout s) (r .1));
-      absent = λ name w h. column-absent layout l said name (none-looked layout name w h);
+      absent = λ name w h. column-absent layout l fits name (none-looked layout name w h);
       tail = r .0 ∙ sym cut;
     }

@@ -3,7 +3,7 @@
 --
 -- How these definitions are the library's answers: `file::check` answers `verdict seal file (some (length table))` and leaves `tableAfter seal file table` (promise FileChecked),
 -- `file::check_untabled` answers `verdict seal file none` (FileJudged); `cut::bounds` answers `boundsOf` (LineGiven), `Cursor::step` answers `stepAt` (LineStepped), the readers
--- in `read` answer `fixSaid`, `columnSaid` and so on (FixGiven ..), `degrees::degrees` answers `degreesOf` (DegreesGiven); the writers in `write` keep `Written` (FixWritten ..),
+-- in `read` answer `reading` (FixGiven, ExtraGiven) and so on, the look in `look` answers `lookSaid` (LookGiven ..), `degrees::degrees` answers `degreesOf` (DegreesGiven); the writers in `write` keep `Written` (FixWritten ..),
 -- from which `BothWays` tells what they write (proofs/Promised). By the laws `only-..` of crate only, nothing else would keep these promises.
 use Prim.Native.Nat.{ℕ, _+_, _≤_}
 use Prim.Native.Char.{code}
@@ -22,7 +22,7 @@ use Rattle.rules.specs.Listed.{widthFits, keepsRule}
 use Rattle.rules.specs.Degrees.{degreesOf}
 use Rattle.rules.specs.Layouts.{isSaid, allowed}
 use Rattle.rules.specs.Split.{Bounds, Stepped, boundsOf, stepAt}
-use Rattle.rules.specs.Reads.{fixSaid, extraSaid, dateSaid, eventSaid, satellitesSaid, headSaid, pointSaid, layoutSaid}
+use Rattle.rules.specs.Reads.{ValueOf, saidOf, Reading, reading, fixSaid, extraSaid, dateSaid, eventSaid, satellitesSaid, headSaid, pointSaid, layoutSaid}
 use Rattle.rules.specs.Writes.{fixText, extraText, headText, pointText, layoutText, isFix, isExtra, isHead, isPoint}
 use Rattle.rules.specs.declared.Date.{Date}
 use Rattle.rules.specs.declared.Layout.{Layout}
@@ -69,9 +69,9 @@ use Rattle.demands.proofs.Signed as signed
 use Rattle.demands.proofs.FieldsThere as fields-there
 use Rattle.demands.proofs.Refusing.{meant}
 use Rattle.demands.proofs.Laws.{day-exactly}
-use Rattle.demands.proofs.Reading as reading
+use Rattle.demands.proofs.Reading as readings
 use Rattle.demands.proofs.LayoutLines.{layout-exactly, layout-line-exactly}
-use Rattle.demands.proofs.EachLine.{fix-reads, fix-read, extra-reads, extra-read, head-reads, head-read, point-reads, point-read}
+use Rattle.demands.proofs.EachLine.{reading-here, reading-there, head-reads, head-read, point-reads, point-read}
 use Rattle.demands.proofs.Readers.{date-exactly, event-exactly, satellite-exactly, map-exactly, some-line}
 use Rattle.demands.proofs.Writers.{both-ways, trip-ways}
 use Rattle.demands.proofs.Endings as endings
@@ -150,7 +150,7 @@ pub said-once : (seal : Seal) (file : List ℕ) (m n : Meets seal file) → flig
 said-once = acceptance.one-reading
 
 pub cut-once : (seal : Seal) (file : List ℕ) (m n : Meets seal file) → linesIn (m .parts) ≡ linesIn (n .parts)
-cut-once seal file m n = sym (reading.lines-are file m) ∙ reading.lines-are file n
+cut-once seal file m n = sym (readings.lines-are file m) ∙ readings.lines-are file n
 
 -- in the answer the I layout and the count of B lines stand under b, the J layout and the count of K lines under k, the M layout and the count of N lines under n
 pub answers-exactly : (layouts : Layouts) (counts : Counts)
@@ -182,21 +182,25 @@ no-b-after-g = worked.no-b-after-g
 -- the M line, and of them the lengths, columns and listed codes; each B, K and N line column by column, each E and F line; and the declaration with its texts
 
 pub readable : (seal : Seal) (file table : List ℕ) (f : Flight) → verdict seal file (some (length table)) ≡ says f → Readable seal file table f
-readable = reading.readable
+readable = readings.readable
 
 -- ---- a reader says a value of a line exactly when the line is, by the grammar, a line of that value
 
 -- B lines, K lines and N lines, by a layout that is allowed
 module _ (i : Slotted) (l : List ℕ) where
-  pub fixes-exactly : allowed 36 (i .layout) ≡ true → (f : Fix) → (fixSaid l (i .layout) ≡ says f) ↔ IsBLine (i .layout) f l
-  fixes-exactly g f = (fix-read (i .layout) (record { right = g; full = i .slots }) f l, fix-reads (i .layout) (record { right = g; full = i .slots }) f l)
+  pub fixes-exactly : allowed 36 (i .layout) ≡ true → (r : Reading Fix) → (reading family.B l (i .layout) ≡ says r) ↔ (IsBLine (i .layout) (r .value) l × (r .entries ≡ i .layout))
+  fixes-exactly g = readings.fixes-read (i .layout) l (record { right = g; full = i .slots })
 
-  pub extras-exactly : (x : Extra) → allowed 8 (i .layout) ≡ true → (t : ℕ) → (extraSaid x l (i .layout) ≡ says t) ↔ IsExtraLine x (i .layout) t l
-  extras-exactly x g t = (extra-read x (i .layout) (record { right = g; full = i .slots }) t l, extra-reads x (i .layout) (record { right = g; full = i .slots }) t l)
+  pub extras-exactly : (x : Extra) → allowed 8 (i .layout) ≡ true → (r : Reading ℕ) → (reading (family.Extra x) l (i .layout) ≡ says r) ↔ (IsExtraLine x (i .layout) (r .value) l × (r .entries ≡ i .layout))
+  extras-exactly x g = readings.extras-read x (i .layout) l (record { right = g; full = i .slots })
 
--- and the columns of such a line: the text and the number of each code that the layout carries, 19 for every other code
+  -- the value alone, which the writers are held against, is that of the whole reading
+  pub values-exactly : (f : Family) (v : ValueOf f) → (saidOf f l (i .layout) ≡ says v) ↔ (reading f l (i .layout) ≡ says (record { value = v; entries = i .layout }))
+  values-exactly f v = (reading-here f l (i .layout) v, λ e. reading-there f l (i .layout) _ e .0)
+
+-- and the columns of such a line, by the look into the entries: the text and the number of each code that the layout carries, 19 for every other code
 pub columns-exactly : (family : Family) (i : Slotted) → allowed (firstStart family) (i .layout) ≡ true → (t : ℕ) (l : List ℕ) → IsColumned family (i .layout) t l → ReadsColumns family (i .layout) l
-columns-exactly family i g t l w = reading.line-columns family (i .layout) t l (record { right = g; full = i .slots }) w
+columns-exactly family i g t l w = readings.line-columns family (i .layout) t l (record { right = g; full = i .slots }) w
 
 -- I lines, J lines and M lines
 pub layouts-exactly : (family : Family) (layout : Layout) (l : List ℕ) → (layoutSaid family l ≡ says layout) ↔ IsLayoutLine family layout l

@@ -22,7 +22,7 @@ use Rattle.rules.specs.Degrees.{isLatitude, isLongitude}
 use Rattle.rules.specs.Limits.{isTime, isDate, isClean, goodTail, goodFixFields, goodFix, goodExtra, goodHeadFields, goodHead, goodPoint}
 use Rattle.rules.specs.Families.{firstStart, lineLetter}
 use Rattle.rules.specs.Layouts.{entriesOf}
-use Rattle.rules.specs.Reads.{fieldsSaid, fixSaid, extraSaid, headSaid, pointSaid}
+use Rattle.rules.specs.Reads.{ValueOf, fieldsSaid, saidOf, Reading, reading, fixSaid, extraSaid, headSaid, pointSaid}
 use Rattle.rules.specs.Fixes.{fixOf, fieldsOf}
 use Rattle.rules.specs.Writes.{fieldsText, fixText, extraText}
 use Rattle.rules.specs.declared.Layout.{Layout}
@@ -293,6 +293,26 @@ unfolding goodExtra
 extra-read x layout i t l e =
     let g = limits (family.Extra x) layout i (isTime t) (drop 7 l) .0 (line-limits (extra-trip x layout) l t e) in
     record { tail = drop 7 l; text = extra-trip x layout .there l t e; time = time-exactly t .0 (g .0); columns = g .1 }
+
+-- the whole reading: the value, and the entries of the layout
+pub reading-here : (f : Family) (l : List ℕ) (layout : Layout) (v : ValueOf f) → saidOf f l layout ≡ says v → reading f l layout ≡ says (record { value = v; entries = layout })
+unfolding reading
+reading-here f l layout v e = rw e
+
+pub reading-there : (f : Family) (l : List ℕ) (layout : Layout) (r : Reading (ValueOf f)) → reading f l layout ≡ says r → (saidOf f l layout ≡ says (r .value)) × (r .entries ≡ layout)
+unfolding reading
+reading-there f l layout r e =
+    let t = then-inv (saidOf f l layout) r _ e in
+    let q : record { value = t .0; entries = layout } ≡ r = one (t .2) in
+    (t .1 ∙ ap (λ (x : Reading (ValueOf f)). says (x .value)) q, sym (ap (λ (x : Reading (ValueOf f)). x .entries) q))
+  where
+    one : {A : Type 0} {v w : A} → says v ≡ says w → v ≡ w
+    one e = cc
+
+-- the fix alone, of a B line that was read whole
+pub fix-alone : (l : List ℕ) (layout : Layout) (r : Reading Fix) → reading family.B l layout ≡ says r → fixSaid l layout ≡ says (r .value)
+unfolding fixSaid
+fix-alone l layout r e = reading-there family.B l layout r e .0
 
 -- what stands behind the fields of a line that is shaped is not too long, and clean
 behind-shape : (l : List ℕ) (fields most : ℕ) (rest : List ℕ) → drop fields l ≡ rest → Shaped fields most false l → (fields + length rest ≤ most) × (isClean rest ≡ true)

@@ -13,10 +13,13 @@ use Rattle.rules.specs.Layouts.{emptyLayout}
 use Rattle.rules.specs.Order.{noFlight}
 use Rattle.rules.specs.Split.{end, linesOf, lineText}
 use Rattle.rules.specs.Files.{verdict, goodLines, tableAfter}
-use Rattle.rules.specs.Reads.{layoutSaid, headRest, pointRest, columnTextSaid}
+use Rattle.rules.specs.Reads.{Reading, reading, answered, fixReadingTold, extraReadingTold, layoutSaid, headRest, pointRest}
+use Rattle.rules.specs.Reads.{Answer as Told}
+use Rattle.rules.specs.Looks.{lookText}
 use Rattle.rules.specs.Writes.{wroteTold}
 use Rattle.rules.specs.Promises.{FileChecked, Written}
 use Rattle.rules.specs.declared.Flight.{Flight}
+use Rattle.rules.specs.declared.Family.the-variants as family
 use Rattle.rules.specs.declared.Seal.{Seal}
 use Rattle.rules.specs.declared.Checked.{Checked}
 use Rattle.rules.specs.declared.Wrote.{Wrote}
@@ -109,13 +112,20 @@ beside : {A : Type 0} (a : A) (s : Said A) (n l b : ℕ) → outcome s ≡ refus
 beside a (says v) n l b e = absurd (refuses-says (sym e))
 beside a (refuses k i j) n l b e = refl
 
+-- and what entries stand beside it
+no-entries : {A : Type 0} (a : Told A) (s : Said (Reading A)) (n l b : ℕ) → a ≡ answered s → a .value ≡ refuses n l b → a .entries ≡ emptyLayout
+no-entries {A} a (says r) n l b e h = absurd (refuses-says (sym (sym (ap (λ (x : Told A). x .value) e) ∙ h)))
+no-entries {A} a (refuses k i j) n l b e h = ap (λ (x : Told A). x .entries) e
+
 pub no-value : NoValue
-unfolding lineText columnTextSaid headRest pointRest
+unfolding lineText lookText headRest pointRest fixReadingTold extraReadingTold
 no-value = record {
   line = λ file table n r p h. let e = h .3 in p ∙ rw e;
   column = λ l layout name r p h. let e = h .3 in p ∙ rw e;
   head-text = λ l r p h. let e = h .3 in p ∙ rw e;
   point-text = λ l r p h. let e = h .3 in p ∙ rw e;
   flight = λ seal file r p h. p .flight ∙ beside noFlight (verdict seal file none) (h .0) (h .1) (h .2) (sym (p .answer) ∙ h .3);
+  fix = λ l layout r p h. no-entries (fixReadingTold r) (reading family.B l layout) (h .0) (h .1) (h .2) p (h .3);
+  extra = λ x l layout r p h. no-entries (extraReadingTold r) (reading (family.Extra x) l layout) (h .0) (h .1) (h .2) p (h .3);
   layout = λ f l r p h. p .layout ∙ beside emptyLayout (layoutSaid f l) (h .0) (h .1) (h .2) (sym (p .answer) ∙ h .3);
 }

@@ -1,35 +1,35 @@
 -- Each reader refuses with the number and byte of the first of its checks that fails, 17, then 7 to 13, then 19, then 20, with line 0, and says a value exactly where all pass.
 -- Assumes nothing.
-use Prim.Native.Nat.{ℕ, suc, _+_, _-_}
+use Prim.Native.Nat.{ℕ, suc, _+_, _-_, _≤_}
 use Prim.Native.Char.{code}
-use mathlib.Core.Bool.{Bool, true, false, _&&_, _||_, cond}
+use mathlib.Core.Bool.{Bool, true, false, not, _&&_, _||_, cond}
 use mathlib.Core.List.{List, [], _∷_}
-use mathlib.Core.Logic.{inl}
 use mathlib.Core.Option.{Option, none, some}
 use mathlib.Core.Path.{_≡_, refl, sym, _∙_, ap, subst}
+use borrow.Author.Tests.{le-leb, leb-true}
 use lib.Dec.{eqb, leb}
 use lib.ListN.{length, getD, drop}
-use Rattle.rules.specs.Choice.{given, need, on, firstOf}
-use Rattle.rules.specs.Families.{firstStart, lineLetter, layoutLetter, familyOf}
+use Rattle.rules.specs.Choice.{given, need, on, firstOf, Each}
+use Rattle.rules.specs.Families.{firstStart, lineLetter, layoutLetter}
 use Rattle.rules.specs.Refusals.{number, Said, says, refuses, andThen}
 use Rattle.rules.specs.Numbers.{wholeOf}
 use Rattle.rules.specs.Listed.{packedOf, codeText}
-use Rattle.rules.specs.Layouts.{Span, spanOf, entriesOf, allowed, lookIn, look, columnText, lengthSaid, lookSaid, presenceSaid}
+use Rattle.rules.specs.Layouts.{Span, spanOf, entriesOf, allowed, lookIn, look, columnText, lengthSaid, presenceSaid}
 use Rattle.rules.specs.Degrees.{isPosition, isLatitude, isLongitude, degreesOf}
 use Rattle.rules.specs.Fields.{isEither}
 use Rattle.rules.specs.Split.{Bounds, Stepped, firstCRLF, isStart, boundsOf, stepAt}
-use Rattle.rules.specs.Lines.{bLine, extraLine, columnedLine}
+use Rattle.rules.specs.Lines.{bLine, extraLine}
 use Rattle.rules.specs.Fixes.{fixOf}
-use Rattle.rules.specs.Reads.{fieldsSaid, fixSaid, extraSaid, eventSaid, satellitesSaid, dateSaid, layoutSaid, headSaid, pointSaid, entriesSaid, columnSaid, numberSaid}
+use Rattle.rules.specs.Reads.{fieldsSaid, saidOf, fixSaid, extraSaid, reading, eventSaid, satellitesSaid, dateSaid, layoutSaid, headSaid, pointSaid}
+use Rattle.rules.specs.Looks.{carriedIn, twice, isInside, areInside, fitsLine, lookSaid, lookNumber}
 use Rattle.rules.specs.declared.Signed.{Signed}
 use Rattle.rules.specs.declared.Entry.{Entry}
 use Rattle.rules.specs.declared.Layout.{Layout}
 use Rattle.rules.specs.declared.Extra.{Extra}
-use Rattle.rules.specs.declared.Extra.the-variants as extra
 use Rattle.rules.specs.declared.Family.{Family}
 use Rattle.rules.specs.declared.Family.the-variants as family
 use Rattle.rules.specs.declared.Position.{Position}
-use Rattle.rules.proofs.Inverse.{refuses-says, none-some, false-true, given-inv, need-inv, then-inv}
+use Rattle.rules.proofs.Inverse.{refuses-says, none-some, false-true, given-inv, need-inv, and-inv, not-inv}
 use Rattle.sound.proofs.Each.{each-map}
 use Rattle.sound.proofs.Placed.{carries-none, none-carries, allowed-there}
 use Rattle.sound.proofs.Entries.{packed-back}
@@ -37,11 +37,11 @@ use Rattle.demands.specs.Grammar.{laid}
 use Rattle.demands.specs.Checks.{Check, check, isThere, hasCode, lineChecks}
 use Rattle.demands.specs.BothWays.{Slotted}
 use Rattle.demands.specs.Readings.{Spells}
-use Rattle.demands.specs.ReadersRefuse.{RefusesFirst, layoutCheck, nameCheck, spanIn, numberCheck, columnedReader, familyBy, columnReader, numberReader, layoutReader, entryReader, numberedReader, stepReader, degreesReader, ReadersRefuse, NamesMeant}
+use Rattle.demands.specs.ReadersRefuse.{RefusesFirst, layoutCheck, nameCheck, spanIn, numberCheck, columnedReader, areOnce, areWithin, Once, lookReader, numberReader, layoutReader, entryReader, numberedReader, stepReader, degreesReader, ReadersRefuse, NamesMeant}
 use Rattle.demands.specs.Endings.{isEnding, hasEnding}
 use Rattle.demands.proofs.Endings.{ending-behind, ending-first}
 use Rattle.demands.proofs.Columns.{whole-there, whole-here, name-back}
-use Rattle.demands.proofs.Faulty.{Agrees, one-more, agree-need, agree-given, agree-then, agree-last, fix-agrees, extra-agrees, line-agrees, layout-agrees, date-agrees, head-agrees, point-agrees, event-agrees, satellites-agree, found-has, carries-has, fails-first, first-fails, agrees-one, agrees-all}
+use Rattle.demands.proofs.Faulty.{Agrees, agree-need, agree-given, agree-then, agree-last, fix-agrees, extra-agrees, layout-agrees, date-agrees, head-agrees, point-agrees, event-agrees, satellites-agree, found-has, carries-has, fails-first, first-fails, agrees-one, agrees-all}
 
 -- an answer that agrees with a list of checks refuses by the first that fails
 refuses-first : {A : Type 0} (s : Said A) (cs : List Check) → Agrees s cs → RefusesFirst cs s
@@ -90,65 +90,70 @@ module _ (i : Slotted) (l : List ℕ) where
   unfolding extraSaid number
   extra-first x = agree-need 17 0 (eqb (getD l 0 0) (lineLetter (family.Extra x))) _ _ λ k. by-layout (family.Extra x) (λ y. extraLine y l) (λ es. extra-agrees x es l)
 
-  -- a line of any family, by its letter
-  abbrev told : Family → Said (List Entry)
-  told f = need (allowed (firstStart f) (i .layout)) (refuses 17 0 0) λ u. andThen (columnedLine f (i .layout) l) λ t. says (entriesOf (i .layout))
+  -- and so the whole reading
+  value-first : (f : Family) → Agrees (saidOf f l (i .layout)) (columnedReader f (i .layout) l)
+  unfolding fixSaid extraSaid
+  value-first family.B = fix-first
+  value-first (family.Extra x) = extra-first x
 
-  abbrev tests : Family → List Check
-  tests f = check 17 0 (allowed (firstStart f) (i .layout)) ∷ lineChecks f (entriesOf (i .layout)) l
+  reading-first : (f : Family) → Agrees (reading f l (i .layout)) (columnedReader f (i .layout) l)
+  unfolding reading
+  reading-first f = agree-last (saidOf f l (i .layout)) (λ v. record { value = v; entries = i .layout }) _ (value-first f)
 
-  told-first : (f : Family) → Agrees (told f) (tests f)
-  told-first f =
-      by-layout f (λ x. andThen (columnedLine f x l) λ t. says (entriesOf (i .layout))) λ es.
-      agree-last (columnedLine f (laid es) l) (λ t. entriesOf (i .layout)) (lineChecks f es l) (line-agrees f es l)
+-- ---- the look into entries
 
-  found-first : (f : Family) → eqb (getD l 0 0) (lineLetter f) ≡ true → Agrees (told f) (columnedReader f (i .layout) l)
-  found-first f h = one-more (told f) (check 17 0 (eqb (getD l 0 0) (lineLetter f))) (tests f) h (told-first f)
+-- the tests of its 17, in the grammar's words
+once-same : (es : List Entry) → not (twice es) ≡ areOnce es
+unfolding twice areOnce
+once-same [] = refl
+once-same (e ∷ es) = not-or (carriedIn es (e .code)) (twice es) ∙ ap (λ b. not b && not (twice es)) (there (lookIn es (e .code)) ∙ found-has (e .code) es 0) ∙ ap (λ b. not (hasCode es (e .code)) && b) (once-same es)
+  where
+    not-or : (a b : Bool) → not (a || b) ≡ (not a && not b)
+    not-or true b = refl
+    not-or false b = refl
 
-  by-letter : (b k n : Bool) → eqb (getD l 0 0) (code "B") ≡ b → eqb (getD l 0 0) (code "K") ≡ k → eqb (getD l 0 0) (code "N") ≡ n
-      → Agrees (given (cond b (some family.B) (cond k (some (family.Extra extra.K)) (cond n (some (family.Extra extra.N)) none))) (refuses 17 0 0) told)
-      (columnedReader (cond b family.B (cond k (family.Extra extra.K) (family.Extra extra.N))) (i .layout) l)
-  by-letter true k n p q r = found-first family.B p
-  by-letter false true n p q r = found-first (family.Extra extra.K) q
-  by-letter false false true p q r = found-first (family.Extra extra.N) r
-  by-letter false false false p q r = (refl, inl (r, refl, refl))
+    there : (o : Option Span) → given o false (λ s. true) ≡ isThere o
+    there none = refl
+    there (some s) = refl
 
-  entries-first : Agrees (entriesSaid l (i .layout)) (columnedReader (familyBy (getD l 0 0)) (i .layout) l)
-  unfolding entriesSaid familyOf number
-  entries-first = by-letter _ _ _ refl refl refl
+within-same : (n : ℕ) (es : List Entry) (k : ℕ) → given (firstOf (λ (e : Entry). not (isInside n e)) (λ (k : ℕ) (e : Entry). k) es k) true (λ k. false) ≡ areWithin n es
+unfolding isInside areWithin firstOf
+within-same n [] k = refl
+within-same n (e ∷ es) k = go (leb 1 (e .first)) (leb (e .first) (e .last)) (leb (e .last) n) (within-same n es (suc k))
+  where
+    go : (a b c : Bool) → given (firstOf (λ (e : Entry). not (isInside n e)) (λ (k : ℕ) (e : Entry). k) es (suc k)) true (λ k. false) ≡ areWithin n es
+        → given (cond (not (a && b && c)) (some k) (firstOf (λ (e : Entry). not (isInside n e)) (λ (k : ℕ) (e : Entry). k) es (suc k))) true (λ k. false) ≡ (a && b && c && areWithin n es)
+    go true true true r = r
+    go true true false r = refl
+    go true false c r = refl
+    go false b c r = refl
 
-  entries-are : (xs : List Entry) → entriesSaid l (i .layout) ≡ says xs → xs ≡ entriesOf (i .layout)
-  unfolding entriesSaid
-  entries-are xs e =
-      let f = given-inv (familyOf (getD l 0 0)) _ (says xs) _ refuses-says e in
-      let a = need-inv (allowed (firstStart (f .0)) (i .layout)) _ (says xs) _ refuses-says (f .2) in
-      let c = then-inv (columnedLine (f .0) (i .layout) l) xs _ (a .1) in
-      let h = c .2 in
-      cc
+need-and : {A : Type 0} (a b c : Bool) (x : A) (f : Unit {0} → A) → need (a && b && c) x f ≡ need a x (λ _. need b x (λ _. need c x f))
+need-and true true c x f = refl
+need-and true false c x f = refl
+need-and false b c x f = refl
 
-  -- ---- a column of it
+module _ (l : List ℕ) (es : Layout) (name : List ℕ) where
+  look-first : Agrees (lookSaid l es name) (lookReader l es name)
+  unfolding lookSaid fitsLine areInside look number
+  look-first =
+      rw (need-and, once-same, within-same (length l) (entriesOf es) 0)
+      (agree-need 17 0 (leb (es .count) 13) _ _ λ a. agree-need 17 0 (areOnce (entriesOf es)) _ _ λ b. agree-need 17 0 (areWithin (length l) (entriesOf es)) _ _ λ c. named name (entriesOf es))
 
-  module _ (name : List ℕ) where
-    column-first : Agrees (columnSaid l (i .layout) name) (columnReader (i .layout) l name)
-    unfolding columnSaid number
-    column-first =
-        agree-then (entriesSaid l (i .layout)) _ _ (nameCheck (i .layout) name ∷ []) entries-first λ xs e.
-        subst (λ x. Agrees (given (lookIn xs (packedOf name)) (refuses 19 0 0) λ s. says s) (check 19 0 (hasCode x (packedOf name)) ∷ [])) (entries-are xs e) (named name xs)
+  span-said : (s : Span) → lookSaid l es name ≡ says s → spanIn (entriesOf es) (packedOf name) ≡ s
+  unfolding lookSaid look
+  span-said s e =
+      let t = need-inv (fitsLine l es) _ (says s) _ refuses-says e in
+      let g = given-inv (lookIn (entriesOf es) (packedOf name)) _ (says s) _ refuses-says (t .1) in
+      let h = g .2 in
+      let k : g .0 ≡ s = cc in
+      span-found (packedOf name) (entriesOf es) 0 (g .0) (g .1) ∙ k
 
-    span-said : (s : Span) → columnSaid l (i .layout) name ≡ says s → spanIn (entriesOf (i .layout)) (packedOf name) ≡ s
-    unfolding columnSaid
-    span-said s e =
-        let t = then-inv (entriesSaid l (i .layout)) s _ e in
-        let g = given-inv (lookIn (t .0) (packedOf name)) _ (says s) _ refuses-says (t .2) in
-        let h = g .2 in
-        let k : g .0 ≡ s = cc in
-        ap (λ x. spanIn x (packedOf name)) (sym (entries-are (t .0) (t .1))) ∙ span-found (packedOf name) (t .0) 0 (g .0) (g .1) ∙ k
-
-    number-first : Agrees (numberSaid l (i .layout) name) (numberReader (i .layout) l name)
-    unfolding numberSaid number
-    number-first =
-        agree-then (columnSaid l (i .layout) name) _ _ (numberCheck (i .layout) l name ∷ []) column-first λ s e.
-        rw (span-said s e) (agree-given 20 0 (wholeOf (columnText l s)) _ [] λ z h. tt)
+  number-first : Agrees (lookNumber l es name) (numberReader l es name)
+  unfolding lookNumber number
+  number-first =
+      agree-then (lookSaid l es name) _ _ (numberCheck es l name ∷ []) look-first λ s e.
+      rw (span-said s e) (agree-given 20 0 (wholeOf (columnText l s)) _ [] λ z h. tt)
 
 -- ---- the other readers
 
@@ -193,12 +198,11 @@ unfolding degreesOf isPosition isEither number
 degrees-first lat lon = agree-need 17 0 (isLatitude lat) _ _ λ a. agree-need 17 0 (isLongitude lon) _ _ λ b. tt
 
 pub readers-refuse : ReadersRefuse
-unfolding dateSaid headSaid pointSaid eventSaid satellitesSaid lengthSaid lookSaid presenceSaid look number
+unfolding dateSaid headSaid pointSaid eventSaid satellitesSaid lengthSaid presenceSaid number
 readers-refuse = record {
-  fix = λ i l. refuses-first _ _ (fix-first i l);
-  extra = λ x j l. refuses-first _ _ (extra-first j l x);
-  column = λ i l name. refuses-first _ _ (column-first i l name);
-  number = λ i l name. refuses-first _ _ (number-first i l name);
+  columned = λ f i l. refuses-first _ _ (reading-first i l f);
+  look = λ l es name. refuses-first _ _ (look-first l es name);
+  number = λ l es name. refuses-first _ _ (number-first l es name);
   layout = λ f l. refuses-first _ _ (layout-first f l);
   date = λ l. refuses-first _ _ (agree-need 17 0 (eqb (getD l 0 0) 72) _ _ λ k. date-agrees l);
   head = λ l. refuses-first _ _ (agree-need 17 0 (eqb (getD l 0 0) 67) _ _ λ k. head-agrees l);
@@ -206,20 +210,54 @@ readers-refuse = record {
   event = λ l. refuses-first _ _ (agree-need 17 0 (eqb (getD l 0 0) 69) _ _ λ k. event-agrees l);
   satellites = λ l. refuses-first _ _ (agree-need 17 0 (eqb (getD l 0 0) 70) _ _ λ k. satellites-agree l);
   long = λ f i. refuses-first _ _ (allowed-first f i _ [] tt);
-  look = λ f i name. refuses-first _ _ (allowed-first f i _ (nameCheck i name ∷ []) (named name (entriesOf i)));
   presence = λ i. refuses-first _ _ (allowed-first family.B i _ [] tt);
   numbered = λ file table n. refuses-first _ _ (numbered-first file table n);
   step = λ file at. refuses-first _ _ (step-first file at);
   degrees = λ lat lon. refuses-first _ _ (degrees-first lat lon);
 }
 
--- ---- what 19 and 20 test
+-- ---- what the look's 17, 19 and 20 test
+
+-- no entry has this code
+none-has : (es : List Entry) (x : ℕ) → hasCode es x ≡ false → Each (λ e. e .code ≡ x → ⊥) es
+none-has es x h = carries-none es x (carries-has es x ∙ h)
+
+has-none : (es : List Entry) (x : ℕ) → Each (λ e. e .code ≡ x → ⊥) es → hasCode es x ≡ false
+has-none es x h = sym (carries-has es x) ∙ none-carries es x h
+
+once-there : (es : List Entry) → areOnce es ≡ true → Once es
+unfolding areOnce
+once-there [] h = tt
+once-there (e ∷ es) h =
+    let a = and-inv (not (hasCode es (e .code))) (areOnce es) h in
+    (none-has es (e .code) (not-inv _ (a .0)), once-there es (a .1))
+
+once-here : (es : List Entry) → Once es → areOnce es ≡ true
+unfolding areOnce
+once-here [] w = refl
+once-here (e ∷ es) w = rw (has-none es (e .code) (w .0)) (once-here es (w .1))
+
+within-there : (n : ℕ) (es : List Entry) → areWithin n es ≡ true → Each (λ e. (1 ≤ e .first) × (e .first ≤ e .last) × (e .last ≤ n)) es
+unfolding areWithin
+within-there n [] h = tt
+within-there n (e ∷ es) h =
+    let a = and-inv (leb 1 (e .first) && leb (e .first) (e .last) && leb (e .last) n) (areWithin n es) h in
+    let b = and-inv (leb 1 (e .first) && leb (e .first) (e .last)) (leb (e .last) n) (a .0) in
+    let c = and-inv (leb 1 (e .first)) (leb (e .first) (e .last)) (b .0) in
+    ((leb-true _ _ (c .0), leb-true _ _ (c .1), leb-true _ _ (b .1)), within-there n es (a .1))
+
+within-here : (n : ℕ) (es : List Entry) → Each (λ e. (1 ≤ e .first) × (e .first ≤ e .last) × (e .last ≤ n)) es → areWithin n es ≡ true
+unfolding areWithin
+within-here n [] w = refl
+within-here n (e ∷ es) w = rw (le-leb _ _ (w .0 .0), le-leb _ _ (w .0 .1), le-leb _ _ (w .0 .2)) (within-here n es (w .1))
 
 pub names-meant : NamesMeant
 names-meant = record {
+  once = λ es. (once-there es, once-here es);
+  within = λ n es. (within-there n es, within-here n es);
   absent = λ es name w. (
-    λ h. each-map es (λ e no n. no (sym (packed-back (e .code)) ∙ ap packedOf n)) (carries-none es (packedOf name) (carries-has es (packedOf name) ∙ h)),
-    λ h. sym (carries-has es (packedOf name)) ∙ none-carries es (packedOf name) (each-map es (λ e no i. no (ap codeText i ∙ name-back name w)) h),
+    λ h. each-map es (λ e no n. no (sym (packed-back (e .code)) ∙ ap packedOf n)) (none-has es (packedOf name) h),
+    λ h. has-none es (packedOf name) (each-map es (λ e no i. no (ap codeText i ∙ name-back name w)) h),
   );
   spelt = λ t. (spelt-there t (wholeOf t) refl, λ w. let e = whole-here t (w .1) in rw e);
 }

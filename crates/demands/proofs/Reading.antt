@@ -4,6 +4,7 @@ use Prim.Native.Nat.{ℕ, zero, suc, _+_, _-_, _≤_, _<_}
 use Prim.Native.Char.{code}
 use mathlib.Core.Bool.{Bool, true, false, _&&_}
 use mathlib.Core.List.{List, [], _∷_, _++_, append-assoc}
+use mathlib.Core.Logic.{_↔_}
 use mathlib.Core.Option.{some}
 use mathlib.Core.Path.{_≡_, refl, sym, _∙_, ap, ap₂, subst}
 use native.Mathlib.Nat.{zero-add}
@@ -16,7 +17,7 @@ use Rattle.rules.specs.Families.{firstStart, lineLetter, layoutLetter, layoutOf
 use Rattle.rules.specs.Refusals.{says}
 use Rattle.rules.specs.Layouts.{emptyLayout, entriesOf}
 use Rattle.rules.specs.Split.{Lines, end, linesOf, offsets}
-use Rattle.rules.specs.Reads.{dateSaid, layoutSaid, headRest, pointRest}
+use Rattle.rules.specs.Reads.{Reading, reading, fixSaid, extraSaid, dateSaid, layoutSaid, headRest, pointRest}
 use Rattle.rules.specs.Fixes.{fieldsOf}
 use Rattle.rules.specs.Files.{verdict, goodLines, tableAfter}
 use Rattle.rules.specs.Lines.{kindOf}
@@ -38,7 +39,7 @@ use Rattle.laws.proofs.Splitting.{textsOf, steps, lengths-total}
 use Rattle.laws.proofs.Splitting as splitting
 use Rattle.laws.proofs.Passing.{roleIn}
 use Rattle.laws.proofs.Counted.{accepted-whole, goodIn, textOf, offsetOf, Numbered, table-length, entry-put, entry-kept, line-by-number}
-use Rattle.trips.proofs.Columned.{entries-said}
+use Rattle.sound.proofs.Looked.{read-fits}
 use Rattle.trips.proofs.Fixes.{fix-trip}
 use Rattle.trips.proofs.Extras.{extra-trip}
 use Rattle.trips.proofs.Heads.{head-trip}
@@ -49,7 +50,7 @@ use Rattle.demands.specs.Coming.{isAmong}
 use Rattle.demands.specs.Readings.{Entered, ReadsFix, ReadsExtra, ReadsColumned, ReadsColumns, ReadsValue, ReadsLayout, ReadsPresence, ReadsLine, ReadsHead, ReadsPoint, NoC, ReadsDeclaration, nowhere, declared, total, Steps, Readable}
 use Rattle.sound.proofs.Each.{each-map, each-join, each-cut}
 use Rattle.sound.proofs.Families.{every, none-pass, line-role, tells-role}
-use Rattle.demands.proofs.EachLine.{e-said, f-said, start-low, fix-reads, extra-reads, columned-letter, columned-fields, head-reads, point-reads, head-said, point-said}
+use Rattle.demands.proofs.EachLine.{e-said, f-said, start-low, fix-reads, extra-reads, fix-read, extra-read, reading-here, reading-there, columned-letter, columned-fields, head-reads, point-reads, head-said, point-said}
 use Rattle.demands.proofs.Readers.{date-exactly, event-exactly, satellite-exactly, on-map}
 use Rattle.demands.proofs.ByLayout.{presence-reads}
 use Rattle.demands.proofs.ByLayout as by-layout
@@ -94,7 +95,7 @@ tail-columns : (f : Family) (layout : Layout) (t : ℕ) (l tail : List ℕ) → 
     → ReadsColumns f layout l
 tail-columns f layout t l tail i w d c =
     let r = columned-fields f layout t l i w in
-    columns-read f layout l tail (start-low f) i d c (entries-said f l layout (r .0) (r .1))
+    columns-read f layout l tail (start-low f) i d c (read-fits f l layout (r .0) (i .full) (r .1))
 
 -- the columns of a line that is, by the grammar, one of the family
 pub line-columns : (f : Family) (layout : Layout) (t : ℕ) (l : List ℕ) → IsTold f layout → IsColumned f layout t l → ReadsColumns f layout l
@@ -105,22 +106,38 @@ line-columns (family.Extra x) layout t l i w =
 
 -- a B line, and a K or an N line
 reads-fix : (layout : Layout) (f : Fix) (l : List ℕ) → IsTold family.B layout → IsBLine layout f l → ReadsFix layout l
-unfolding fieldsOf
+unfolding fieldsOf fixSaid
 reads-fix layout f l i w = record {
   fix = f;
   is = w;
-  reads = fix-reads layout i f l w;
+  reads = reading-here family.B l layout f (fix-reads layout i f l w);
   map = on-map (f .lat) (f .lon) (w .fields .lat) (w .fields .lon);
   columns = line-columns family.B layout (f .time) l i (f, refl, w);
 }
 
 reads-extra : (x : Extra) (layout : Layout) (t : ℕ) (l : List ℕ) → IsTold (family.Extra x) layout → IsExtraLine x layout t l → ReadsExtra x layout l
+unfolding extraSaid
 reads-extra x layout t l i w = record {
   time = t;
   is = w;
-  reads = extra-reads x layout i t l w;
+  reads = reading-here (family.Extra x) l layout t (extra-reads x layout i t l w);
   columns = line-columns (family.Extra x) layout t l i w;
 }
+
+-- the whole reading, both ways
+pub fixes-read : (layout : Layout) (l : List ℕ) → IsTold family.B layout → (r : Reading Fix) → (reading family.B l layout ≡ says r) ↔ (IsBLine layout (r .value) l × (r .entries ≡ layout))
+unfolding fixSaid
+fixes-read layout l i r = (
+  λ e. let w = reading-there family.B l layout r e in (fix-read layout i (r .value) l (w .0), w .1),
+  λ w. reading-here family.B l layout (r .value) (fix-reads layout i (r .value) l (w .0)) ∙ ap says (λ j. record { value = r .value; entries = sym (w .1) j }),
+)
+
+pub extras-read : (x : Extra) (layout : Layout) (l : List ℕ) → IsTold (family.Extra x) layout → (r : Reading ℕ) → (reading (family.Extra x) l layout ≡ says r) ↔ (IsExtraLine x layout (r .value) l × (r .entries ≡ layout))
+unfolding extraSaid
+extras-read x layout l i r = (
+  λ e. let w = reading-there (family.Extra x) l layout r e in (extra-read x layout i (r .value) l (w .0), w .1),
+  λ w. reading-here (family.Extra x) l layout (r .value) (extra-reads x layout i (r .value) l (w .0)) ∙ ap says (λ j. record { value = r .value; entries = sym (w .1) j }),
+)
 
 reads-columned : (f : Family) (layout : Layout) (t : ℕ) (l : List ℕ) → IsTold f layout → IsColumned f layout t l → ReadsColumned f layout l
 reads-columned family.B layout t l i w = reads-fix layout (w .0) l i (w .2)

@@ -9,12 +9,16 @@ use Rattle.rules.specs.Refusals.{Said, says, refuses, outcomeTold}
 use Rattle.rules.specs.Layouts.{emptyLayout}
 use Rattle.rules.specs.Order.{noFlight}
 use Rattle.rules.specs.Split.{boundsOf}
-use Rattle.rules.specs.Reads.{headSaid, pointSaid, columnSaid}
+use Rattle.rules.specs.Reads.{headSaid, pointSaid, fixTold, timeReadTold}
+use Rattle.rules.specs.Looks.{lookSaid}
 use Rattle.rules.specs.Writes.{wroteTold}
-use Rattle.rules.specs.Promises.{FileJudged, LineTextGiven, LayoutGiven, HeadRest, PointRest, ColumnTextGiven}
+use Rattle.rules.specs.Promises.{FileJudged, LineTextGiven, LayoutGiven, HeadRest, PointRest, FixGiven, ExtraGiven, LookTextGiven}
 use Rattle.rules.specs.declared.Layout.{Layout}
 use Rattle.rules.specs.declared.LayoutRead.{LayoutRead}
+use Rattle.rules.specs.declared.Extra.{Extra}
+use Rattle.rules.specs.declared.ExtraReading.{ExtraReading}
 use Rattle.rules.specs.declared.Family.{Family}
+use Rattle.rules.specs.declared.FixReading.{FixReading}
 use Rattle.rules.specs.declared.Seal.{Seal}
 use Rattle.rules.specs.declared.Checked.{Checked}
 use Rattle.rules.specs.declared.Wrote.{Wrote}
@@ -66,8 +70,11 @@ pub record NoValue : Type 0 where
   pub flight : (seal : Seal) (file : List ℕ) (r : Checked) → FileJudged seal file r → Refuses (outcomeTold (r .outcome)) → r .flight ≡ noFlight
   -- the text of a line by its number, of a column, behind a head's fields, and behind a point's
   pub line : (file table : List ℕ) (n : ℕ) (r : List ℕ) → LineTextGiven file table n r → Refuses (boundsOf file table n) → r ≡ []
-  pub column : (l : List ℕ) (layout : Layout) (name r : List ℕ) → ColumnTextGiven l layout name r → Refuses (columnSaid l layout name) → r ≡ []
+  pub column : (l : List ℕ) (es : Layout) (name r : List ℕ) → LookTextGiven l es name r → Refuses (lookSaid l es name) → r ≡ []
   pub head-text : (l r : List ℕ) → HeadRest l r → Refuses (headSaid l) → r ≡ []
   pub point-text : (l r : List ℕ) → PointRest l r → Refuses (pointSaid l) → r ≡ []
+  -- the entries of the columns of a B line, and of a K or an N line
+  pub fix : (l : List ℕ) (layout : Layout) (r : FixReading) → FixGiven l layout r → Refuses (fixTold (r .fix)) → r .entries ≡ emptyLayout
+  pub extra : (x : Extra) (l : List ℕ) (layout : Layout) (r : ExtraReading) → ExtraGiven x l layout r → Refuses (timeReadTold (r .time)) → r .entries ≡ emptyLayout
   -- the layout of an I, a J or an M line
   pub layout : (f : Family) (l : List ℕ) (r : LayoutRead) → LayoutGiven f l r → Refuses (outcomeTold (r .outcome)) → r .layout ≡ emptyLayout

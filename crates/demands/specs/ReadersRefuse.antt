@@ -1,9 +1,9 @@
 -- Document 01, the paragraph after the refusal table: what a reader refuses first. "A line of another kind than the reader's is 17. Line readers repeat the checks of 7 to 13
--- after 17, with 0 for the line number; then 19, then 20. A refused reading returns no value." Each reader has its checks as a list in that order; those of 7 to 13 stand in
+-- after 17, with 0 for the line number; then 19, then 20. A refused reading returns no value." Document 02, request 8: 19 and 20 are the look's, after its own 17. Each reader has its checks as a list in that order; those of 7 to 13 stand in
 -- Checks, kind by kind.
-use Prim.Native.Nat.{ℕ, _-_}
+use Prim.Native.Nat.{ℕ, _-_, _≤_}
 use Prim.Native.Char.{code}
-use mathlib.Core.Bool.{true, false, _&&_, _||_, cond}
+use mathlib.Core.Bool.{Bool, true, false, not, _&&_, _||_, cond}
 use mathlib.Core.List.{List, [], _∷_, _++_}
 use mathlib.Core.Logic.{_↔_}
 use mathlib.Core.Path.{_≡_}
@@ -15,14 +15,13 @@ use Rattle.rules.specs.Refusals.{Said, says, refuses}
 use Rattle.rules.specs.Numbers.{wholeOf}
 use Rattle.rules.specs.Degrees.{degreesOf}
 use Rattle.rules.specs.Listed.{packedOf, codeText}
-use Rattle.rules.specs.Layouts.{Span, spanOf, entriesOf, allowed, columnText, lengthSaid, lookSaid, presenceSaid}
+use Rattle.rules.specs.Layouts.{Span, spanOf, entriesOf, allowed, columnText, lengthSaid, presenceSaid}
 use Rattle.rules.specs.Split.{boundsOf, stepAt}
-use Rattle.rules.specs.Reads.{fixSaid, extraSaid, eventSaid, satellitesSaid, dateSaid, layoutSaid, headSaid, pointSaid, columnSaid, numberSaid}
+use Rattle.rules.specs.Reads.{reading, eventSaid, satellitesSaid, dateSaid, layoutSaid, headSaid, pointSaid}
+use Rattle.rules.specs.Looks.{lookSaid, lookNumber}
 use Rattle.rules.specs.declared.Signed.{Signed}
 use Rattle.rules.specs.declared.Entry.{Entry}
 use Rattle.rules.specs.declared.Layout.{Layout}
-use Rattle.rules.specs.declared.Extra.{Extra}
-use Rattle.rules.specs.declared.Extra.the-variants as extra
 use Rattle.rules.specs.declared.Family.{Family}
 use Rattle.rules.specs.declared.Family.the-variants as family
 use Rattle.rules.specs.declared.Position.{Position}
@@ -66,17 +65,29 @@ numberCheck layout l name = check 20 0 (isThere (wholeOf (columnText l (spanIn (
 abbrev pub columnedReader : Family → Layout → List ℕ → List Check
 columnedReader f layout l = kindCheck (lineLetter f) l ∷ layoutCheck f layout ∷ lineChecks f (entriesOf layout) l
 
--- by a line's first byte, B lines, K lines and else N lines
-abbrev pub familyBy : ℕ → Family
-familyBy b = cond (eqb b (code "B")) family.B (cond (eqb b (code "K")) (family.Extra extra.K) (family.Extra extra.N))
+-- "a code twice": no entry's code comes again behind it
+unfoldable pub areOnce : List Entry → Bool
+areOnce [] = true
+areOnce (e ∷ es) = not (hasCode es (e .code)) && areOnce es
 
--- a column of a B line with its I layout, of a K line with its J layout, or of an N line with its M layout: any other line is of another kind
-abbrev pub columnReader : Layout → List ℕ → List ℕ → List Check
-columnReader layout l name = columnedReader (familyBy (getD l 0 0)) layout l ++ (nameCheck layout name ∷ [])
+-- "an entry not inside the line lent with it or with its last byte before its first": each has its bytes, counted from 1, in a line of so many
+unfoldable pub areWithin : ℕ → List Entry → Bool
+areWithin n [] = true
+areWithin n (e ∷ es) = leb 1 (e .first) && leb (e .first) (e .last) && leb (e .last) n && areWithin n es
 
--- "then 19, then 20"
-abbrev pub numberReader : Layout → List ℕ → List ℕ → List Check
-numberReader layout l name = columnReader layout l name ++ (numberCheck layout l name ∷ [])
+-- the look into the answer of a reading, with any line and any entries: "17 for an answer with over 13 entries, a code twice or an entry not inside the line lent with it
+-- or with its last byte before its first, then 19"
+abbrev pub lookReader : List ℕ → Layout → List ℕ → List Check
+lookReader l es name =
+    check 17 0 (leb (es .count) 13)
+    ∷ check 17 0 (areOnce (entriesOf es))
+    ∷ check 17 0 (areWithin (length l) (entriesOf es))
+    ∷ nameCheck es name
+    ∷ []
+
+-- "then 19, 20"
+abbrev pub numberReader : List ℕ → Layout → List ℕ → List Check
+numberReader l es name = lookReader l es name ++ (numberCheck es l name ∷ [])
 
 -- the layout of an I line, for B lines, of a J line, for K lines, and of an M line, for N lines
 abbrev pub layoutReader : Family → List ℕ → List Check
@@ -106,11 +117,11 @@ degreesReader lat lon =
 -- ---- what is claimed, reader by reader
 
 pub record ReadersRefuse : Type 0 where
-  -- B lines, K lines and N lines, and their columns
-  pub fix : (i : Slotted) (l : List ℕ) → RefusesFirst (columnedReader family.B (i .layout) l) (fixSaid l (i .layout))
-  pub extra : (x : Extra) (j : Slotted) (l : List ℕ) → RefusesFirst (columnedReader (family.Extra x) (j .layout) l) (extraSaid x l (j .layout))
-  pub column : (i : Slotted) (l name : List ℕ) → RefusesFirst (columnReader (i .layout) l name) (columnSaid l (i .layout) name)
-  pub number : (i : Slotted) (l name : List ℕ) → RefusesFirst (numberReader (i .layout) l name) (numberSaid l (i .layout) name)
+  -- B lines, K lines and N lines
+  pub columned : (f : Family) (i : Slotted) (l : List ℕ) → RefusesFirst (columnedReader f (i .layout) l) (reading f l (i .layout))
+  -- a column of any line and any entries, as text and as a number
+  pub look : (l : List ℕ) (es : Layout) (name : List ℕ) → RefusesFirst (lookReader l es name) (lookSaid l es name)
+  pub number : (l : List ℕ) (es : Layout) (name : List ℕ) → RefusesFirst (numberReader l es name) (lookNumber l es name)
   -- I lines, J lines and M lines
   pub layout : (f : Family) (l : List ℕ) → RefusesFirst (layoutReader f l) (layoutSaid f l)
   -- line 2, C heads and C points, E lines and F lines
@@ -119,16 +130,23 @@ pub record ReadersRefuse : Type 0 where
   pub point : (l : List ℕ) → RefusesFirst (kindCheck (code "C") l ∷ pointChecks l) (pointSaid l)
   pub event : (l : List ℕ) → RefusesFirst (kindCheck (code "E") l ∷ eventChecks l) (eventSaid l)
   pub satellites : (l : List ℕ) → RefusesFirst (kindCheck (code "F") l ∷ satelliteChecks l) (satellitesSaid l)
-  -- what a layout alone tells: the length of its lines, the place of a column, the presence word
+  -- what a layout alone tells: the length of its lines, the presence word
   pub long : (f : Family) (i : Layout) → RefusesFirst (layoutCheck f i ∷ []) (lengthSaid f i)
-  pub look : (f : Family) (i : Layout) (name : List ℕ) → RefusesFirst (layoutCheck f i ∷ nameCheck i name ∷ []) (lookSaid f i name)
   pub presence : (i : Layout) → RefusesFirst (layoutCheck family.B i ∷ []) (presenceSaid i)
   -- a line by its number, with any table; a step from any place; any two positions on the map
   pub numbered : (file table : List ℕ) (n : ℕ) → RefusesFirst (numberedReader file table n) (boundsOf file table n)
   pub step : (file : List ℕ) (at : ℕ) → RefusesFirst (stepReader file at) (stepAt file at)
   pub degrees : (lat lon : Position) → RefusesFirst (degreesReader lat lon) (degreesOf lat lon)
 
--- what 19 and 20 test, apart from how: a code is absent where no entry is of that name, and a column is a number where its text spells one
+-- no two entries have one code
+abbrev pub Once : List Entry → Type 0
+Once [] = Unit {0}
+Once (e ∷ es) = Each (λ x. x .code ≡ e .code → ⊥) es × Once es
+
+-- what the look's 17, 19 and 20 test, apart from how: no code comes twice; each entry stands inside the line; a code is absent where no entry is of that name, and a column is
+-- a number where its text spells one
 pub record NamesMeant : Type 0 where
+  pub once : (es : List Entry) → (areOnce es ≡ true) ↔ Once es
+  pub within : (n : ℕ) (es : List Entry) → (areWithin n es ≡ true) ↔ Each (λ e. (1 ≤ e .first) × (e .first ≤ e .last) × (e .last ≤ n)) es
   pub absent : (es : List Entry) (name : List ℕ) → IsName name → (hasCode es (packedOf name) ≡ false) ↔ Each (λ e. codeText (e .code) ≡ name → ⊥) es
   pub spelt : (t : List ℕ) → (isThere (wholeOf t) ≡ true) ↔ ((z : Signed) × Spells t z)

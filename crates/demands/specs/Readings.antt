@@ -13,10 +13,11 @@ use Rattle.rules.specs.Refusals.{Said, says, refuses, no}
 use Rattle.rules.specs.Numbers.{digitsOf}
 use Rattle.rules.specs.Degrees.{degreesOf}
 use Rattle.rules.specs.Listed.{codeText}
-use Rattle.rules.specs.Layouts.{emptyLayout, spanOf, entriesOf, columnText, lengthSaid, lookSaid, presenceSaid}
+use Rattle.rules.specs.Layouts.{emptyLayout, spanOf, entriesOf, columnText, lengthSaid, presenceSaid}
 use Rattle.rules.specs.Split.{boundsOf, lineText, stepAt}
 use Rattle.rules.specs.Files.{tableAfter}
-use Rattle.rules.specs.Reads.{fixSaid, extraSaid, dateSaid, eventSaid, satellitesSaid, layoutSaid, headSaid, headRest, pointSaid, pointRest, columnSaid, columnTextSaid, numberSaid}
+use Rattle.rules.specs.Reads.{reading, dateSaid, eventSaid, satellitesSaid, layoutSaid, headSaid, headRest, pointSaid, pointRest}
+use Rattle.rules.specs.Looks.{lookSaid, lookText, lookNumber}
 use Rattle.rules.specs.declared.Reason.the-variants.{Absent, NotNumber}
 use Rattle.rules.specs.declared.Signed.{Signed}
 use Rattle.rules.specs.declared.Entry.{Entry}
@@ -48,12 +49,13 @@ abbrev pub NumberOf : List ℕ → Said Signed → Type 0
 NumberOf t (says z) = Spells t z
 NumberOf t (refuses n l b) = (refuses n l b ≡ no {A = Signed} NotNumber 0) × ((z : Signed) → Spells t z → ⊥)
 
--- "A column is read by its code as text, and as a whole number ..": an entry's code leads to the bytes from its first to its last, so many, and to their number
-pub record ReadsColumn (layout : Layout) (l : List ℕ) (e : Entry) : Type 0 where
-  pub span : columnSaid l layout (codeText (e .code)) ≡ says (spanOf e)
-  pub text : columnTextSaid l (columnSaid l layout (codeText (e .code))) ≡ columnText l (spanOf e)
+-- "A column is read by its code as text, and as a whole number ..", by "a look into that answer", whose entries are `es`: an entry's code leads to the bytes from its first
+-- to its last, so many, and to their number
+pub record ReadsColumn (es : Layout) (l : List ℕ) (e : Entry) : Type 0 where
+  pub span : lookSaid l es (codeText (e .code)) ≡ says (spanOf e)
+  pub text : lookText l (lookSaid l es (codeText (e .code))) ≡ columnText l (spanOf e)
   pub wide : length (columnText l (spanOf e)) ≡ widthOf e
-  pub number : NumberOf (columnText l (spanOf e)) (numberSaid l layout (codeText (e .code)))
+  pub number : NumberOf (columnText l (spanOf e)) (lookNumber l es (codeText (e .code)))
 
 -- the texts of the columns, one behind the other
 unfoldable pub columnTexts : List ℕ → List Entry → List ℕ
@@ -65,13 +67,13 @@ pub record IsName (name : List ℕ) : Type 0 where
   pub three : length name ≡ 3
   pub bytes : Each (λ b. b < 256) name
 
--- the columns of a B line with its I layout, of a K line with its J layout, or of an N line with its M layout
-pub record ReadsColumns (f : Family) (layout : Layout) (l : List ℕ) : Type 0 where
-  pub carried : Each (ReadsColumn layout l) (entriesOf layout)
+-- the columns of a B, a K or an N line, by the look into the entries of its reading
+pub record ReadsColumns (f : Family) (es : Layout) (l : List ℕ) : Type 0 where
+  pub carried : Each (ReadsColumn es l) (entriesOf es)
   -- "19 ABSENT: code (any 3 bytes) not in the layout": every other code
-  pub absent : (name : List ℕ) → IsName name → Each (λ e. codeText (e .code) ≡ name → ⊥) (entriesOf layout) → columnSaid l layout name ≡ no Absent 0
+  pub absent : (name : List ℕ) → IsName name → Each (λ e. codeText (e .code) ≡ name → ⊥) (entriesOf es) → lookSaid l es name ≡ no Absent 0
   -- together they are the line's tail
-  pub tail : columnTexts l (entriesOf layout) ≡ drop (firstStart f - 1) l
+  pub tail : columnTexts l (entriesOf es) ≡ drop (firstStart f - 1) l
 
 -- ---- what a layout says by itself
 
@@ -97,13 +99,10 @@ pub record ReadsPresence (layout : Layout) : Type 0 where
   pub is : Present (entriesOf layout) rows 0 word count
   pub reads : presenceSaid layout ≡ says (record { word = word; count = count })
 
--- the length of a family's lines, and where the column of each code stands
+-- the length of a family's lines
 pub record ReadsLayout (f : Family) (layout : Layout) : Type 0 where
   -- "A line of that kind ends at the last FF; with NN 00, or no such line, B has 35 and K has 7."; "N is built as K is"
   pub long : lengthSaid f layout ≡ says (sizeOf f (entriesOf layout))
-  pub carried : Each (λ e. lookSaid f layout (codeText (e .code)) ≡ says (spanOf e)) (entriesOf layout)
-  -- "19 ABSENT: code (any 3 bytes) not in the layout"
-  pub absent : (name : List ℕ) → IsName name → Each (λ e. codeText (e .code) ≡ name → ⊥) (entriesOf layout) → lookSaid f layout name ≡ no Absent 0
 
 -- ---- "any fix, column, K line or declaration read"; any N line
 
@@ -120,19 +119,19 @@ pub record ReadsMap (lat lon : Position) : Type 0 where
   pub is : OnMap lat lon degrees
   pub reads : degreesOf lat lon ≡ says degrees
 
--- a B line reads, by the I layout, as the fix whose line it is
+-- a B line reads, by the I layout, as the fix whose line it is, "and for each entry, in layout order, up to 13, its code, first and last byte": the entries of that layout
 pub record ReadsFix (layout : Layout) (l : List ℕ) : Type 0 where
   pub fix : Fix
   pub is : IsBLine layout fix l
-  pub reads : fixSaid l layout ≡ says fix
+  pub reads : reading family.B l layout ≡ says (record { value = fix; entries = layout })
   pub map : ReadsMap (fix .lat) (fix .lon)
   pub columns : ReadsColumns family.B layout l
 
--- a K line, by the J layout, or an N line, by the M layout, as the time whose line it is
+-- a K line, by the J layout, or an N line, by the M layout, as the time whose line it is, and the entries
 pub record ReadsExtra (x : Extra) (layout : Layout) (l : List ℕ) : Type 0 where
   pub time : ℕ
   pub is : IsExtraLine x layout time l
-  pub reads : extraSaid x l layout ≡ says time
+  pub reads : reading (family.Extra x) l layout ≡ says (record { value = time; entries = layout })
   pub columns : ReadsColumns (family.Extra x) layout l
 
 -- a line of a family, by its layout

@@ -7,8 +7,8 @@ use Rattle.rules.specs.Layouts.{Span}
 use Rattle.rules.specs.declared.Entry.{Entry}
 use Rattle.rules.specs.declared.Layout.{Layout}
 use Rattle.only.proofs.Only.{Only, same, alike}
-use Rattle.only.proofs.Told.{OneToOne, by-back, answerOf, refusal-back, column-one}
-use Rattle.entry.specs.Parts.{spotTold, SpotFound, CarriesTest, ColumnFound, entryTold, EntryPlaced, EntryGiven}
+use Rattle.only.proofs.Told.{OneToOne, by-back, answerOf, refusal-back}
+use Rattle.entry.specs.Parts.{spotTold, SpotFound, CarriesTest, entryTold, EntryPlaced, EntryGiven}
 use Rattle.entry.specs.declared.Spot.{Spot}
 use Rattle.entry.specs.declared.Spot.the-variants as spot
 use Rattle.entry.specs.declared.EntryRead.the-variants as entryRead
@@ -26,9 +26,6 @@ only-spot-found l x = alike spot-one
 
 pub only-carries-test : (l : Layout) (x : ℕ) → Only (CarriesTest l x)
 only-carries-test l x = same
-
-pub only-column-found : (l : Layout) (name : List ℕ) → Only (ColumnFound l name)
-only-column-found l name = alike column-one
 
 entry-one : OneToOne entryTold
 unfolding entryTold

@@ -4,14 +4,11 @@ use mathlib.Core.Bool.{Bool}
 use mathlib.Core.List.{List}
 use mathlib.Core.Option.{Option, none, some}
 use mathlib.Core.Path.{_≡_}
-use Rattle.rules.specs.Choice.{given}
-use Rattle.rules.specs.Listed.{packedOf, codeAt}
-use Rattle.rules.specs.Refusals.{Said, says, no, refusal}
-use Rattle.rules.specs.Layouts.{Span, look, carries, placed, entryAt, columnTold}
-use Rattle.rules.specs.declared.Reason.the-variants.{Absent}
+use Rattle.rules.specs.Listed.{codeAt}
+use Rattle.rules.specs.Refusals.{Said, says, refusal}
+use Rattle.rules.specs.Layouts.{Span, look, carries, placed, entryAt}
 use Rattle.rules.specs.declared.Entry.{Entry}
 use Rattle.rules.specs.declared.Layout.{Layout}
-use Rattle.rules.specs.declared.ColumnRead.{ColumnRead}
 use Rattle.entry.specs.declared.Spot.{Spot}
 use Rattle.entry.specs.declared.Spot.the-variants as spot
 use Rattle.entry.specs.declared.EntryRead.{EntryRead}
@@ -30,10 +27,6 @@ SpotFound l x r = spotTold r ≡ look l x
 -- whether an entry has a code
 abbrev pub CarriesTest : Layout → ℕ → Bool → Type 0
 CarriesTest l x r = r ≡ carries l x
-
--- the column of a code by a layout, allowed or not
-abbrev pub ColumnFound : Layout → List ℕ → ColumnRead → Type 0
-ColumnFound l name r = columnTold r ≡ given (look l (packedOf name)) (no Absent 0) λ s. says s
 
 -- an entry, or its refusal
 unfoldable pub entryTold : EntryRead → Said Entry

@@ -2,9 +2,8 @@
 ghost use Prim.Native.Nat.{_≤_};
 ghost use mathlib.Core.Path.{_≡_};
 ghost use Rattle.rules.specs.Refusals.{no};
-ghost use Rattle.entry.specs.Parts.{SpotFound, CarriesTest, ColumnFound, EntryPlaced, CodeGiven, EntryGiven, entryTold};
+ghost use Rattle.entry.specs.Parts.{SpotFound, CarriesTest, EntryPlaced, CodeGiven, EntryGiven, entryTold};
 pub use basics::empty_layout;
-use rules::ColumnRead;
 use rules::Entry;
 use rules::Layout;
 use rules::Number;
@@ -122,18 +121,4 @@ pub fn entry_at(line: &[u8], i: u8, start: usize, before: Layout) -> EntryRead
     let first = ss as u8;
     let last = ff as u8;
     placed(start, before, Entry { first, last, code }, at as u32 + 1)
-}
-
-// Where the column of a code stands by a layout, allowed or not: its first and last byte, counted from 1. 19 where it has no such code.
-pub fn find(l: Layout, code: [u8; 3]) -> ColumnRead
-    ensures { λ r. ⌜ ColumnFound l code r ⌝ }
-{
-    let Spot::At(first, last) = look(l, listed::pack(code[0], code[1], code[2])) else {
-        return ColumnRead::Refused(Refusal {
-            reason: Reason::Absent,
-            line: 0,
-            byte: 0,
-        });
-    };
-    ColumnRead::Between(first, last)
 }

@@ -14,10 +14,14 @@ use native.Mathlib.Omega.{arith}
 use lib.ListN.{length, getD, take, drop}
 use Rattle.rules.specs.Refusals.{number, says}
 use Rattle.rules.specs.Choice.{Each}
-use Rattle.rules.specs.Reads.{fixSaid, extraSaid, eventSaid, satellitesSaid, headSaid, pointSaid, columnSaid, columnTextSaid, numberSaid}
+use Rattle.rules.specs.Families.{lineLetter, layoutOf}
+use Rattle.rules.specs.Reads.{reading, eventSaid, satellitesSaid, headSaid, pointSaid}
+use Rattle.rules.specs.Looks.{lookText}
 use Rattle.rules.specs.Split.{linesOf}
 use Rattle.rules.specs.Files.{verdict}
 use Rattle.rules.specs.declared.Extra.the-variants as extra
+use Rattle.rules.specs.declared.Family.{Family}
+use Rattle.rules.specs.declared.Family.the-variants as family
 use Rattle.rules.specs.declared.Flight.{Flight}
 use Rattle.rules.specs.declared.Layouts.{Layouts}
 use Rattle.rules.specs.declared.Reason.the-variants.{NoRoom, NotSame}
@@ -34,7 +38,7 @@ use Rattle.merge.specs.declared.Brought.{Brought}
 use Rattle.merge.specs.declared.Brought.the-variants as brought
 use Rattle.demands.specs.Coming.{those}
 use Rattle.demands.specs.Grammar.{IsText, IsLLine, joinLines, Meets}
-use Rattle.evening.specs.Evening.{Makes, ReadAlike, SameColumn, sealedPart, numberIn}
+use Rattle.evening.specs.Evening.{Makes, ReadAlike, spanIn, numberOf, SameColumn, sealedPart, numberIn}
 use Rattle.evening.proofs.Making as making
 use Rattle.evening.proofs.Turned as turned
 use Rattle.evening.proofs.Alike as alike
@@ -117,37 +121,26 @@ pub nth-alike : {A : Type 0} (f : Flight) (ls : List (List ℕ)) (g : Flight) (k
     → (letter ≡ code "L" → ⊥) → (n : ℕ) → reader (g .layouts) (getD (those letter ks) n []) ≡ reader (f .layouts) (getD (those letter ls) n [])
 nth-alike = alike.nth-alike
 
--- by name, with the readings of the rules: the nth fix, the nth K line and the nth N line, each with its layout
+-- no line with columns is an L line
+no-l : (x : Family) → lineLetter x ≡ code "L" → ⊥
+no-l family.B e = omega (arith, e)
+no-l (family.Extra extra.K) e = omega (arith, e)
+no-l (family.Extra extra.N) e = omega (arith, e)
+
+-- by name, with the readings of the rules
 module _ (f : Flight) (ls : List (List ℕ)) (g : Flight) (ks : List (List ℕ)) (w : ReadAlike f ls g ks) (n : ℕ) where
-  pub fixes-alike : fixSaid (getD (those (code "B") ks) n []) (g .layouts .b) ≡ fixSaid (getD (those (code "B") ls) n []) (f .layouts .b)
-  fixes-alike = nth-alike f ls g ks w (λ by l. fixSaid l (by .b)) (code "B") (λ e. omega (arith, e)) n
+  -- the nth fix, the nth K line and the nth N line, each with its layout: the value, and the entries of its columns
+  pub readings-alike : (x : Family)
+      → reading x (getD (those (lineLetter x) ks) n []) (layoutOf x (g .layouts)) ≡ reading x (getD (those (lineLetter x) ls) n []) (layoutOf x (f .layouts))
+  readings-alike x = nth-alike f ls g ks w (λ by l. reading x l (layoutOf x by)) (lineLetter x) (no-l x) n
 
-  pub k-lines-alike : extraSaid extra.K (getD (those (code "K") ks) n []) (g .layouts .k) ≡ extraSaid extra.K (getD (those (code "K") ls) n []) (f .layouts .k)
-  k-lines-alike = nth-alike f ls g ks w (λ by l. extraSaid extra.K l (by .k)) (code "K") (λ e. omega (arith, e)) n
-
-  pub n-lines-alike : extraSaid extra.N (getD (those (code "N") ks) n []) (g .layouts .n) ≡ extraSaid extra.N (getD (those (code "N") ls) n []) (f .layouts .n)
-  n-lines-alike = nth-alike f ls g ks w (λ by l. extraSaid extra.N l (by .n)) (code "N") (λ e. omega (arith, e)) n
-
-  -- their columns: where each stands, its text, and its number
-  pub fix-columns-alike : (name : List ℕ) → SameColumn name (getD (those (code "B") ks) n []) (g .layouts .b) (getD (those (code "B") ls) n []) (f .layouts .b)
-  fix-columns-alike name = (
-    nth-alike f ls g ks w (λ by l. columnSaid l (by .b) name) (code "B") (λ e. omega (arith, e)) n,
-    nth-alike f ls g ks w (λ by l. columnTextSaid l (columnSaid l (by .b) name)) (code "B") (λ e. omega (arith, e)) n,
-    nth-alike f ls g ks w (λ by l. numberSaid l (by .b) name) (code "B") (λ e. omega (arith, e)) n,
-  )
-
-  pub k-columns-alike : (name : List ℕ) → SameColumn name (getD (those (code "K") ks) n []) (g .layouts .k) (getD (those (code "K") ls) n []) (f .layouts .k)
-  k-columns-alike name = (
-    nth-alike f ls g ks w (λ by l. columnSaid l (by .k) name) (code "K") (λ e. omega (arith, e)) n,
-    nth-alike f ls g ks w (λ by l. columnTextSaid l (columnSaid l (by .k) name)) (code "K") (λ e. omega (arith, e)) n,
-    nth-alike f ls g ks w (λ by l. numberSaid l (by .k) name) (code "K") (λ e. omega (arith, e)) n,
-  )
-
-  pub n-columns-alike : (name : List ℕ) → SameColumn name (getD (those (code "N") ks) n []) (g .layouts .n) (getD (those (code "N") ls) n []) (f .layouts .n)
-  n-columns-alike name = (
-    nth-alike f ls g ks w (λ by l. columnSaid l (by .n) name) (code "N") (λ e. omega (arith, e)) n,
-    nth-alike f ls g ks w (λ by l. columnTextSaid l (columnSaid l (by .n) name)) (code "N") (λ e. omega (arith, e)) n,
-    nth-alike f ls g ks w (λ by l. numberSaid l (by .n) name) (code "N") (λ e. omega (arith, e)) n,
+  -- their columns, by the look into those entries: where each stands, its text, and its number
+  pub columns-alike : (x : Family) (name : List ℕ)
+      → SameColumn x name (getD (those (lineLetter x) ks) n []) (layoutOf x (g .layouts)) (getD (those (lineLetter x) ls) n []) (layoutOf x (f .layouts))
+  columns-alike x name = (
+    nth-alike f ls g ks w (λ by l. spanIn x l (layoutOf x by) name) (lineLetter x) (no-l x) n,
+    nth-alike f ls g ks w (λ by l. lookText l (spanIn x l (layoutOf x by) name)) (lineLetter x) (no-l x) n,
+    nth-alike f ls g ks w (λ by l. numberOf x l (layoutOf x by) name) (lineLetter x) (no-l x) n,
   )
 
   -- the nth event, the nth line of satellites, and the nth line of the declaration, read as its head and as a point

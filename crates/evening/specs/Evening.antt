@@ -8,10 +8,14 @@ use lib.Dec.{eqb}
 use lib.ListN.{length, getD, drop}
 use Rattle.rules.specs.Choice.{Each}
 use Rattle.rules.specs.Families.{countOf}
-use Rattle.rules.specs.Reads.{columnSaid, columnTextSaid, numberSaid}
+use Rattle.rules.specs.Layouts.{Span}
+use Rattle.rules.specs.Refusals.{Said, andThen}
+use Rattle.rules.specs.Reads.{reading}
+use Rattle.rules.specs.Looks.{lookSaid, lookText, lookNumber}
 use Rattle.rules.specs.declared.Family.{Family}
 use Rattle.rules.specs.declared.Flight.{Flight}
 use Rattle.rules.specs.declared.Layout.{Layout}
+use Rattle.rules.specs.declared.Signed.{Signed}
 use Rattle.notes.specs.Merging.{Merged, merged, ofFirst, ofSecond, ofNeither}
 use Rattle.merge.specs.Merge.{FilesMerged}
 use Rattle.merge.specs.declared.Brought.the-variants as brought
@@ -62,9 +66,16 @@ pub record ReadAlike (f : Flight) (ls : List (List ℕ)) (g : Flight) (ks : List
   -- and those of each kind: the nth B line, K line, N line, E line, F line, the lines of the declaration
   pub kinds : (letter : ℕ) → (letter ≡ code "L" → ⊥) → those letter ks ≡ those letter ls
 
--- the column of that code is the same in two lines, each with its layout: where it stands, its text, and its number
-abbrev pub SameColumn : List ℕ → List ℕ → Layout → List ℕ → Layout → Type 0
-SameColumn name k p l q =
-    (columnSaid k p name ≡ columnSaid l q name)
-    × (columnTextSaid k (columnSaid k p name) ≡ columnTextSaid l (columnSaid l q name))
-    × (numberSaid k p name ≡ numberSaid l q name)
+-- the look for a code into the answer of a line's reading: where the column stands, and its number
+abbrev pub spanIn : Family → List ℕ → Layout → List ℕ → Said Span
+spanIn f l layout name = andThen (reading f l layout) λ r. lookSaid l (r .entries) name
+
+abbrev pub numberOf : Family → List ℕ → Layout → List ℕ → Said Signed
+numberOf f l layout name = andThen (reading f l layout) λ r. lookNumber l (r .entries) name
+
+-- the column of that code is the same in two lines of a family, each with its layout: where it stands, its text, and its number
+abbrev pub SameColumn : Family → List ℕ → List ℕ → Layout → List ℕ → Layout → Type 0
+SameColumn f name k p l q =
+    (spanIn f k p name ≡ spanIn f l q name)
+    × (lookText k (spanIn f k p name) ≡ lookText l (spanIn f l q name))
+    × (numberOf f k p name ≡ numberOf f l q name)

@@ -6,10 +6,9 @@ use mathlib.Core.List.{List}
 use mathlib.Core.Option.{Option, none, some}
 use mathlib.Core.Path.{_≡_, refl, sym, _∙_}
 use lib.Dec.{eqb}
-use lib.ListN.{length, getD}
+use lib.ListN.{length}
 use borrow.Author.Tests.{eq-eqb, ne-eqb}
 use Rattle.rules.specs.Families.{firstStart, familyOf}
-use Rattle.rules.specs.Choice.{given}
 use Rattle.rules.specs.Layouts.{LayoutTold, emptyLayout, allowed}
 use Rattle.rules.specs.Promises.{LayoutGiven}
 use Rattle.rules.specs.Reads.{layoutSaid}
@@ -25,9 +24,8 @@ use Rattle.rules.specs.declared.Refusal.{Refusal}
 use Rattle.families.specs.Letters.{familyTold}
 use Rattle.families.specs.declared.FamilyRead.{FamilyRead}
 use Rattle.families.specs.declared.FamilyRead.the-variants as familyRead
-use Rattle.known.specs.Known.{allowedFor}
 use Rattle.sound.proofs.Placed.{Sound, sound-line, sound-empty}
-use Rattle.given.specs.Given.{orBadValue, layoutBy, layoutFor, extraOf}
+use Rattle.given.specs.Given.{orBadValue, layoutBy, extraOf}
 
 says-one : {A : Type 0} {v w : A} → says v ≡ says w → v ≡ w
 says-one e = cc
@@ -90,14 +88,6 @@ told-allowed k l g t e = go (layoutBy k l) refl t
     go (says v) q t = rw (t .layout) (allowed-by k l v (layoutSaid k l) refl (eqb (length l) 0) q)
     go (refuses n m b) q t = let h = rw e at (t .answer) in let z : _≡_ {A = ℕ} 0 1 = cc in absurd (omega arith)
 
-told-allowed-for : (line l : List ℕ) (g : LayoutRead) → LayoutTold (layoutFor line l) g → g .outcome ≡ outcomes.Accepted → allowedFor line (g .layout) ≡ true
-unfolding layoutFor allowedFor outcomeTold
-told-allowed-for line l g t e = go (familyOf (getD line 0 0)) t
-  where
-    go : (o : Option Family) → LayoutTold (given o (no BadValue 0) λ f. layoutBy f l) g → given o false (λ f. allowed (firstStart f) (g .layout)) ≡ true
-    go (some f) t = told-allowed f l g t e
-    go none t = let h = rw e at (t .answer) in let z : _≡_ {A = ℕ} 0 1 = cc in absurd (omega arith)
-
 -- ---- what is said with the layout that was read
 
 module _ {B : Type 0} where
@@ -117,7 +107,3 @@ module _ {B : Type 0} where
   pub known-then : (k : Family) (l : List ℕ) (g : LayoutRead) (x y : Said B) (f : Layout → Said B) → LayoutTold (layoutBy k l) g → g .outcome ≡ outcomes.Accepted → x ≡ y
       → (allowed (firstStart k) (g .layout) ≡ true → y ≡ f (g .layout)) → x ≡ andThen (layoutBy k l) f
   known-then k l g x y f t e q same = layout-then (layoutBy k l) g x f t e (q ∙ same (told-allowed k l g t e))
-
-  pub known-for : (line l : List ℕ) (g : LayoutRead) (x y : Said B) (f : Layout → Said B) → LayoutTold (layoutFor line l) g → g .outcome ≡ outcomes.Accepted → x ≡ y
-      → (allowedFor line (g .layout) ≡ true → y ≡ f (g .layout)) → x ≡ andThen (layoutFor line l) f
-  known-for line l g x y f t e q same = layout-then (layoutFor line l) g x f t e (q ∙ same (told-allowed-for line l g t e))

@@ -4,24 +4,18 @@ use mathlib.Core.List.{List}
 use mathlib.Core.Path.{refl, ap}
 use Rattle.rules.specs.declared.Family.{Family}
 use Rattle.only.proofs.Only.{Only, alike, layout-only}
-use Rattle.only.proofs.Told.{OneToOne, by-back, answerOf, refusal-back, fix-one, timed-one, column-one, value-one, presence-one}
-use Rattle.given.specs.Given.{columnAtTold, LayoutBy, FixBy, ExtraBy, ColumnBy, NumberBy, EntryBy, PresenceBy}
+use Rattle.only.proofs.Told.{OneToOne, by-back, answerOf, refusal-back, fix-reading-one, extra-reading-one, presence-one}
+use Rattle.given.specs.Given.{columnAtTold, LayoutBy, FixBy, ExtraBy, EntryBy, PresenceBy}
 use Rattle.given.specs.declared.ColumnAt.the-variants as columnAt
 
 pub only-layout-by : (f : Family) (l : List ℕ) → Only (LayoutBy f l)
 only-layout-by f l = layout-only
 
 pub only-fix-by : (line l : List ℕ) → Only (FixBy line l)
-only-fix-by line l = alike fix-one
+only-fix-by line l = alike fix-reading-one
 
 pub only-extra-by : (line l : List ℕ) → Only (ExtraBy line l)
-only-extra-by line l = alike timed-one
-
-pub only-column-by : (line l name : List ℕ) → Only (ColumnBy line l name)
-only-column-by line l name = alike column-one
-
-pub only-number-by : (line l name : List ℕ) → Only (NumberBy line l name)
-only-number-by line l name = alike value-one
+only-extra-by line l = alike extra-reading-one
 
 column-at-one : OneToOne columnAtTold
 unfolding columnAtTold

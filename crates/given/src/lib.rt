@@ -3,18 +3,18 @@
 ghost use Prim.Native.Nat.{_≤_};
 ghost use mathlib.Core.Path.{_≡_};
 ghost use Rattle.rules.specs.Layouts.{LayoutTold};
-ghost use Rattle.rules.specs.Reads.{timeReadTold};
-ghost use Rattle.rules.specs.Refusals.{no};
-ghost use Rattle.given.specs.Given.{columnAtTold, entryAt, extraWith, layoutFor, toldLayout, LayoutBy, FixBy, ExtraBy, ColumnBy, NumberBy, EntryBy, PresenceBy};
+ghost use Rattle.rules.specs.Reads.{answered, extraReadingTold};
+ghost use Rattle.rules.specs.Refusals.{no, refusal};
+ghost use Rattle.given.specs.Given.{columnAtTold, entryAt, extraWith, toldLayout, LayoutBy, FixBy, ExtraBy, EntryBy, PresenceBy};
 use families::FamilyRead;
-use rules::ColumnRead;
 use rules::Entry;
 use rules::Extra;
+use rules::ExtraReading;
 use rules::Family;
 use rules::FixRead;
+use rules::FixReading;
 use rules::Layout;
 use rules::LayoutRead;
-use rules::NumberRead;
 use rules::Outcome;
 use rules::PresenceRead;
 use rules::Reason;
@@ -43,91 +43,63 @@ pub fn layout(family: Family, line: &[u8]) -> LayoutRead
     }
 }
 
-// The fix of a B line.
-pub fn fix(line: &[u8], columns: &[u8]) -> FixRead
+// A B line read: its fix, and the entries of its columns in layout order. BAD_VALUE for a layout that is not allowed and for another kind of line; then what the
+// line's check refuses.
+pub fn fix(line: &[u8], columns: &[u8]) -> FixReading
     ensures { λ r. ⌜ FixBy (now (line .entry)) (now (columns .entry)) r ⌝ }
 {
     let given = layout(Family::B, columns);
     let outcome = given.outcome;
     let l = given.layout;
     if let Outcome::Refused(why) = outcome {
-        return FixRead::Refused(why);
+        return FixReading {
+            fix: FixRead::Refused(why),
+            entries: layout::empty_layout(),
+        };
     }
     known::fix(line, l)
 }
 
-// The time of a K or an N line, as is said.
-fn extra_with(which: Extra, line: &[u8], columns: &[u8]) -> TimeRead
-    ensures { λ r. ⌜ timeReadTold r ≡ extraWith which (now (line .entry)) (now (columns .entry)) ⌝ }
+// No reading: the refusal, and no entries beside it.
+fn no_extra(why: Refusal) -> ExtraReading
+    ensures { λ r. ⌜ extraReadingTold r ≡ answered (refusal why) ⌝ }
+{
+    ExtraReading {
+        time: TimeRead::Refused(why),
+        entries: layout::empty_layout(),
+    }
+}
+
+// A K or an N line read, as is said.
+fn extra_with(which: Extra, line: &[u8], columns: &[u8]) -> ExtraReading
+    ensures { λ r. ⌜ extraReadingTold r ≡ answered (extraWith which (now (line .entry)) (now (columns .entry))) ⌝ }
 {
     let given = layout(Family::Extra(which), columns);
     let outcome = given.outcome;
     let l = given.layout;
     if let Outcome::Refused(why) = outcome {
-        return TimeRead::Refused(why);
+        return no_extra(why);
     }
     known::extra(which, line, l)
 }
 
-// The time of a K line from the text of a J line, or of an N line from that of an M line. BAD_VALUE for any other line.
-pub fn extra(line: &[u8], columns: &[u8]) -> TimeRead
+// A K line read by the text of a J line, or an N line by that of an M line: its time, and the entries of its columns in layout order. BAD_VALUE for any other line,
+// and for a layout that is not allowed; then what the line's check refuses.
+pub fn extra(line: &[u8], columns: &[u8]) -> ExtraReading
     ensures { λ r. ⌜ ExtraBy (now (line .entry)) (now (columns .entry)) r ⌝ }
 {
+    let bad = Refusal {
+        reason: Reason::BadValue,
+        line: 0,
+        byte: 0,
+    };
     let FamilyRead::Of(f) = families::family(line) else {
-        return TimeRead::Refused(Refusal {
-            reason: Reason::BadValue,
-            line: 0,
-            byte: 0,
-        });
+        return no_extra(bad);
     };
     let Family::Extra(which) = f else {
-        return TimeRead::Refused(Refusal {
-            reason: Reason::BadValue,
-            line: 0,
-            byte: 0,
-        });
+        return no_extra(bad);
     };
     extra_with(which, line, columns)
-}
-
-// The layout for a line of any family, from the line that tells it. BAD_VALUE for another line too.
-fn layout_for(line: &[u8], columns: &[u8]) -> LayoutRead
-    ensures { λ r. ⌜ LayoutTold (layoutFor (now (line .entry)) (now (columns .entry))) r ⌝ }
-{
-    let FamilyRead::Of(f) = families::family(line) else {
-        return layout::refused(Refusal {
-            reason: Reason::BadValue,
-            line: 0,
-            byte: 0,
-        });
-    };
-    layout(f, columns)
-}
-
-// Where the column of a code stands in a line of any family.
-pub fn column(line: &[u8], columns: &[u8], code: [u8; 3]) -> ColumnRead
-    ensures { λ r. ⌜ ColumnBy (now (line .entry)) (now (columns .entry)) code r ⌝ }
-{
-    let given = layout_for(line, columns);
-    let outcome = given.outcome;
-    let l = given.layout;
-    if let Outcome::Refused(why) = outcome {
-        return ColumnRead::Refused(why);
-    }
-    known::column(line, l, code)
-}
-
-// That column as a whole number.
-pub fn number(line: &[u8], columns: &[u8], code: [u8; 3]) -> NumberRead
-    ensures { λ r. ⌜ NumberBy (now (line .entry)) (now (columns .entry)) code r ⌝ }
-{
-    let given = layout_for(line, columns);
-    let outcome = given.outcome;
-    let l = given.layout;
-    if let Outcome::Refused(why) = outcome {
-        return NumberRead::Refused(why);
-    }
-    known::number(line, l, code)
 }
 
 // A column of a layout.

@@ -1,58 +1,64 @@
-// Lines read with their layouts, and the layouts themselves.
+// Lines read with their layouts, the look into their columns, and the layouts themselves.
 ghost use mathlib.Core.List.{_∷_, []};
-ghost use Rattle.calls_fix.specs.Calls.{FixAnswered};
-ghost use Rattle.calls_column.specs.Calls.{ExtraAnswered, ColumnAnswered, NumberAnswered, EntryAnswered, PresenceAnswered};
+ghost use Rattle.calls_fix.specs.Calls.{FixAnswered, ExtraAnswered};
+ghost use Rattle.calls_column.specs.Calls.{LookAnswered, NumberAnswered, EntryAnswered, PresenceAnswered};
 
-// The fix of a B line.
+// A B line read: its fix, and the entries of its columns.
 #[no_mangle]
 pub extern "C" fn hive_fix(
     line: &[u8],
     layout: &[u8],
     answer: &mut [u64],
     heights: &mut [i32],
+    entries: &mut [u64],
 ) -> u32
-    ensures { λ r. ⌜ FixAnswered (now (line .entry)) (now (layout .entry)) (now (answer .entry)) (now (heights .entry)) r (now (answer .exit)) (now (heights .exit)) ⌝ }
+    ensures { λ r. ⌜ FixAnswered (now (line .entry)) (now (layout .entry)) (now (answer .entry)) (now (heights .entry)) (now (entries .entry)) r (now (answer .exit)) (now (heights .exit)) (now (entries .exit)) ⌝ }
 {
-    calls_fix::fix(line, layout, answer, heights)
+    calls_fix::fix(line, layout, answer, heights, entries)
 }
 
-// The time of a K or an N line.
+// A K or an N line read: its time, and the entries of its columns.
 #[no_mangle]
-pub extern "C" fn hive_extra(line: &[u8], layout: &[u8], answer: &mut [u64]) -> u32
-    ensures { λ r. ⌜ ExtraAnswered (now (line .entry)) (now (layout .entry)) (now (answer .entry)) r (now (answer .exit)) ⌝ }
-{
-    calls_column::extra(line, layout, answer)
-}
-
-// Where the column of a code stands in a B, a K or an N line.
-#[no_mangle]
-pub extern "C" fn hive_column(
+pub extern "C" fn hive_extra(
     line: &[u8],
     layout: &[u8],
+    answer: &mut [u64],
+    entries: &mut [u64],
+) -> u32
+    ensures { λ r. ⌜ ExtraAnswered (now (line .entry)) (now (layout .entry)) (now (answer .entry)) (now (entries .entry)) r (now (answer .exit)) (now (entries .exit)) ⌝ }
+{
+    calls_fix::extra(line, layout, answer, entries)
+}
+
+// The look for a code into the entries of a line that was read.
+#[no_mangle]
+pub extern "C" fn hive_look(
+    line: &[u8],
+    entries: &[u64],
     code0: u8,
     code1: u8,
     code2: u8,
     answer: &mut [u64],
 ) -> u32
-    ensures { λ r. ⌜ ColumnAnswered (now (line .entry)) (now (layout .entry)) (code0 ∷ code1 ∷ code2 ∷ []) (now (answer .entry)) r (now (answer .exit)) ⌝ }
+    ensures { λ r. ⌜ LookAnswered (now (line .entry)) (now (entries .entry)) (code0 ∷ code1 ∷ code2 ∷ []) (now (answer .entry)) r (now (answer .exit)) ⌝ }
 {
-    calls_column::column(line, layout, code0, code1, code2, answer)
+    calls_column::look(line, entries, code0, code1, code2, answer)
 }
 
 // That column as a whole number.
 #[no_mangle]
-pub extern "C" fn hive_column_number(
+pub extern "C" fn hive_look_number(
     line: &[u8],
-    layout: &[u8],
+    entries: &[u64],
     code0: u8,
     code1: u8,
     code2: u8,
     answer: &mut [u64],
     number: &mut [i64],
 ) -> u32
-    ensures { λ r. ⌜ NumberAnswered (now (line .entry)) (now (layout .entry)) (code0 ∷ code1 ∷ code2 ∷ []) (now (answer .entry)) (now (number .entry)) r (now (answer .exit)) (now (number .exit)) ⌝ }
+    ensures { λ r. ⌜ NumberAnswered (now (line .entry)) (now (entries .entry)) (code0 ∷ code1 ∷ code2 ∷ []) (now (answer .entry)) (now (number .entry)) r (now (answer .exit)) (now (number .exit)) ⌝ }
 {
-    calls_column::number(line, layout, code0, code1, code2, answer, number)
+    calls_column::look_number(line, entries, code0, code1, code2, answer, number)
 }
 
 // Column n of an I, a J or an M line, counted from 1.

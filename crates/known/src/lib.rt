@@ -2,22 +2,20 @@
 ghost use mathlib.Core.Path.{_≡_};
 ghost use Rattle.rules.specs.Fixes.{fixOf};
 ghost use Rattle.rules.specs.Reads.{fixFieldsTold, timeReadTold};
-ghost use Rattle.known.specs.Known.{fieldsKnown, lineKnown, FixKnown, ExtraKnown, ColumnKnown, NumberKnown};
-use families::FamilyRead;
-use layout::Spot;
-use rules::ColumnRead;
+ghost use Rattle.known.specs.Known.{fieldsKnown, extraKnown, FixKnown, ExtraKnown};
+use layout::empty_layout;
 use rules::Extra;
+use rules::ExtraReading;
 use rules::Family;
 use rules::Fix;
 use rules::FixFields;
 use rules::FixFieldsRead;
 use rules::FixRead;
+use rules::FixReading;
 use rules::Layout;
-use rules::NumberRead;
 use rules::Reason;
 use rules::Refusal;
 use rules::TimeRead;
-use rules::Whole;
 
 // What the reading of a B line gives of its fields.
 fn fix_of(f: FixFields) -> Fix
@@ -51,19 +49,25 @@ fn fields(line: &[u8], layout: Layout) -> FixFieldsRead
     line::fix_line(line, layout)
 }
 
-// The fix of a B line. BAD_VALUE for another kind; then what `line::fix_line` refuses.
-pub fn fix(line: &[u8], layout: Layout) -> FixRead
+// The fix of a B line and the entries of its columns, in one check of the line. BAD_VALUE for another kind; then what `line::fix_line` refuses.
+pub fn fix(line: &[u8], layout: Layout) -> FixReading
     ensures { λ r. ⌜ FixKnown (now (line .entry)) layout r ⌝ }
 {
     match fields(line, layout) {
-        FixFieldsRead::Is(f) => FixRead::Is(fix_of(f)),
-        FixFieldsRead::Refused(r) => FixRead::Refused(r),
+        FixFieldsRead::Is(f) => FixReading {
+            fix: FixRead::Is(fix_of(f)),
+            entries: layout,
+        },
+        FixFieldsRead::Refused(r) => FixReading {
+            fix: FixRead::Refused(r),
+            entries: empty_layout(),
+        },
     }
 }
 
 // The time of a K or an N line, as is said. BAD_VALUE for another kind; then what `line::extra_line` refuses.
-pub fn extra(which: Extra, line: &[u8], layout: Layout) -> TimeRead
-    ensures { λ r. ⌜ ExtraKnown which (now (line .entry)) layout r ⌝ }
+fn timed(which: Extra, line: &[u8], layout: Layout) -> TimeRead
+    ensures { λ r. ⌜ timeReadTold r ≡ extraKnown which (now (line .entry)) layout ⌝ }
 {
     if chars::byte(line, 0) != families::line_letter(Family::Extra(which)) {
         return TimeRead::Refused(Refusal {
@@ -75,53 +79,18 @@ pub fn extra(which: Extra, line: &[u8], layout: Layout) -> TimeRead
     line::extra_line(line, layout)
 }
 
-// The time of a line of any family. BAD_VALUE for another kind; then what its check refuses.
-fn timed(line: &[u8], layout: Layout) -> TimeRead
-    ensures { λ r. ⌜ timeReadTold r ≡ lineKnown (now (line .entry)) layout ⌝ }
+// The time of a K or an N line, as is said, and the entries of its columns, in one check of the line. What `timed` refuses.
+pub fn extra(which: Extra, line: &[u8], layout: Layout) -> ExtraReading
+    ensures { λ r. ⌜ ExtraKnown which (now (line .entry)) layout r ⌝ }
 {
-    let FamilyRead::Of(f) = families::family(line) else {
-        return TimeRead::Refused(Refusal {
-            reason: Reason::BadValue,
-            line: 0,
-            byte: 0,
-        });
-    };
-    line::columned_line(f, line, layout)
-}
-
-// Where the column of a code, any three bytes, stands in a line of any family. BAD_VALUE for another kind, what the line's check refuses, then ABSENT.
-pub fn column(line: &[u8], layout: Layout, code: [u8; 3]) -> ColumnRead
-    ensures { λ r. ⌜ ColumnKnown (now (line .entry)) layout code r ⌝ }
-{
-    if let TimeRead::Refused(r) = timed(line, layout) {
-        return ColumnRead::Refused(r);
-    }
-    let x = layout::pack(code[0], code[1], code[2]);
-    let Spot::At(first, last) = layout::look(layout, x) else {
-        return ColumnRead::Refused(Refusal {
-            reason: Reason::Absent,
-            line: 0,
-            byte: 0,
-        });
-    };
-    ColumnRead::Between(first, last)
-}
-
-// That column as a whole number. What `column` refuses, then NOT_NUMBER.
-pub fn number(line: &[u8], layout: Layout, code: [u8; 3]) -> NumberRead
-    ensures { λ r. ⌜ NumberKnown (now (line .entry)) layout code r ⌝ }
-{
-    match column(line, layout, code) {
-        ColumnRead::Refused(r) => NumberRead::Refused(r),
-        ColumnRead::Between(first, last) => {
-            let Whole::Of(z) = number::whole(column::text_of(line, first, last)) else {
-                return NumberRead::Refused(Refusal {
-                    reason: Reason::NotNumber,
-                    line: 0,
-                    byte: 0,
-                });
-            };
-            NumberRead::Is(z)
-        }
+    match timed(which, line, layout) {
+        TimeRead::Secs(t) => ExtraReading {
+            time: TimeRead::Secs(t),
+            entries: layout,
+        },
+        TimeRead::Refused(r) => ExtraReading {
+            time: TimeRead::Refused(r),
+            entries: empty_layout(),
+        },
     }
 }

@@ -13,5 +13,4 @@ pub use reading::refused;
 pub use values::allowed;
 pub use values::length;
 pub use values::line_length;
-pub use values::look_up;
 pub use values::presence;

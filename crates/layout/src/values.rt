@@ -5,17 +5,15 @@ ghost use lib.ListN.{drop, getD};
 ghost use Rattle.rules.specs.Choice.{leads};
 ghost use Rattle.rules.specs.Listed.{isCodeWord, listed, unlisted};
 ghost use Rattle.rules.specs.Layouts.{entriesOf, emptyLayout, isSpelt, isUnused, allPlaced, bit, wordFrom};
-ghost use Rattle.rules.specs.Promises.{AllowedTest, LengthGiven, LookGiven, PresenceGiven};
+ghost use Rattle.rules.specs.Promises.{AllowedTest, LengthGiven, PresenceGiven};
 ghost use Rattle.layout.specs.Parts.{EntryTest, LineLength};
 use crate::reading::with_entry;
 use entry::EntryRead;
 use entry::carries;
 use entry::empty_layout;
-use entry::find;
 use entry::placed;
 use families::first_start;
 use listed::listed_at;
-use rules::ColumnRead;
 use rules::Entry;
 use rules::Family;
 use rules::Layout;
@@ -157,20 +155,6 @@ pub fn length(family: Family, l: Layout) -> LengthRead
         });
     }
     LengthRead::Bytes(line_length(family, l) as usize)
-}
-
-// Where the column of a code stands by a layout: its first and last byte, counted from 1. 17 where the layout is not allowed; 19 where it has no such code.
-pub fn look_up(family: Family, l: Layout, code: [u8; 3]) -> ColumnRead
-    ensures { λ r. ⌜ LookGiven family l code r ⌝ }
-{
-    if !allowed(family, l) {
-        return ColumnRead::Refused(Refusal {
-            reason: Reason::BadValue,
-            line: 0,
-            byte: 0,
-        });
-    }
-    find(l, code)
 }
 
 // 1 where the layout carries the listed code of the number n, else 0.

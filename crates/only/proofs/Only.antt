@@ -8,7 +8,7 @@ use Rattle.rules.specs.Refusals.{Said}
 use Rattle.rules.specs.Layouts.{LayoutTold, allowed}
 use Rattle.rules.specs.Files.{CheckedTold}
 use Rattle.rules.specs.Writes.{fixText, isFix, extraText, isExtra, layoutText, headText, isHead, pointText, isPoint}
-use Rattle.rules.specs.Promises.{DigitsGiven, WholeGiven, DigitsPut, DigitTest, CodeTest, ValidTest, InvalidFound, CodesTest, ByteAt, EitherTest, TimeAt, DateAt, LatitudeAt, LongitudeAt, AltitudeAt, TimePut, DatePut, LatitudePut, LongitudePut, AltitudePut, DegreesGiven, ListedAt, AllowedTest, LengthGiven, LookGiven, PresenceGiven, ColumnTest, KindGiven, ColumnsChecked, ShapeChecked, RecorderChecked, DateLineChecked, HeaderChecked, LayoutChecked, HeadChecked, PointChecked, DifferentialChecked, EventChecked, SatellitesChecked, FixChecked, ExtraChecked, ColumnedChecked, FixGiven, ExtraGiven, EventGiven, SatellitesGiven, DateGiven, LayoutGiven, HeadGiven, HeadRest, PointGiven, PointRest, ColumnGiven, ColumnTextGiven, NumberGiven, FileChecked, FileJudged, LineGiven, LineTextGiven, Written, FixWritten, ExtraWritten, LayoutWritten, HeadWritten, PointWritten}
+use Rattle.rules.specs.Promises.{DigitsGiven, WholeGiven, DigitsPut, DigitTest, CodeTest, ValidTest, InvalidFound, CodesTest, ByteAt, EitherTest, TimeAt, DateAt, LatitudeAt, LongitudeAt, AltitudeAt, TimePut, DatePut, LatitudePut, LongitudePut, AltitudePut, DegreesGiven, ListedAt, AllowedTest, LengthGiven, PresenceGiven, ColumnTest, KindGiven, ColumnsChecked, ShapeChecked, RecorderChecked, DateLineChecked, HeaderChecked, LayoutChecked, HeadChecked, PointChecked, DifferentialChecked, EventChecked, SatellitesChecked, FixChecked, ExtraChecked, ColumnedChecked, FixGiven, ExtraGiven, EventGiven, SatellitesGiven, DateGiven, LayoutGiven, HeadGiven, HeadRest, PointGiven, PointRest, LookGiven, LookTextGiven, LookNumberGiven, FileChecked, FileJudged, LineGiven, LineTextGiven, Written, FixWritten, ExtraWritten, LayoutWritten, HeadWritten, PointWritten}
 use Rattle.rules.specs.declared.Date.{Date}
 use Rattle.rules.specs.declared.Position.{Position}
 use Rattle.rules.specs.declared.Height.{Height}
@@ -20,7 +20,7 @@ use Rattle.rules.specs.declared.Head.{Head}
 use Rattle.rules.specs.declared.Point.{Point}
 use Rattle.rules.specs.declared.Flight.{Flight}
 use Rattle.rules.specs.declared.Seal.{Seal}
-use Rattle.only.proofs.Told.{OneToOne, altitude-one, column-one, date-one, day-one, degrees-one, digits-one, fix-fields-one, fix-one, found-one, head-one, length-one, line-one, outcome-one, position-one, point-one, presence-one, time-one, timed-one, value-one, whole-one, wrote-one}
+use Rattle.only.proofs.Told.{OneToOne, altitude-one, column-one, date-one, day-one, degrees-one, digits-one, fix-fields-one, fix-reading-one, extra-reading-one, found-one, head-one, length-one, line-one, outcome-one, position-one, point-one, presence-one, time-one, timed-one, value-one, whole-one, wrote-one}
 
 -- ---- what is claimed
 
@@ -135,9 +135,6 @@ only-allowed-test f l = same
 pub only-length-given : (f : Family) (l : Layout) → Only (LengthGiven f l)
 only-length-given f l = alike length-one
 
-pub only-look-given : (f : Family) (l : Layout) (name : List ℕ) → Only (LookGiven f l name)
-only-look-given f l name = alike column-one
-
 pub only-presence-given : (l : Layout) → Only (PresenceGiven l)
 only-presence-given l = alike presence-one
 
@@ -194,10 +191,10 @@ only-columned-checked f l layout = alike timed-one
 -- ---- lines: the readers
 
 pub only-fix-given : (l : List ℕ) (layout : Layout) → Only (FixGiven l layout)
-only-fix-given l layout = alike fix-one
+only-fix-given l layout = alike fix-reading-one
 
 pub only-extra-given : (x : Extra) (l : List ℕ) (layout : Layout) → Only (ExtraGiven x l layout)
-only-extra-given x l layout = alike timed-one
+only-extra-given x l layout = alike extra-reading-one
 
 pub only-event-given : (l : List ℕ) → Only (EventGiven l)
 only-event-given l = alike timed-one
@@ -223,14 +220,16 @@ only-point-given l = alike point-one
 pub only-point-rest : (l : List ℕ) → Only (PointRest l)
 only-point-rest l = same
 
-pub only-column-given : (l : List ℕ) (layout : Layout) (name : List ℕ) → Only (ColumnGiven l layout name)
-only-column-given l layout name = alike column-one
+-- ---- a column
 
-pub only-column-text-given : (l : List ℕ) (layout : Layout) (name : List ℕ) → Only (ColumnTextGiven l layout name)
-only-column-text-given l layout name = same
+pub only-look-given : (l : List ℕ) (es : Layout) (name : List ℕ) → Only (LookGiven l es name)
+only-look-given l es name = alike column-one
 
-pub only-number-given : (l : List ℕ) (layout : Layout) (name : List ℕ) → Only (NumberGiven l layout name)
-only-number-given l layout name = alike value-one
+pub only-look-text-given : (l : List ℕ) (es : Layout) (name : List ℕ) → Only (LookTextGiven l es name)
+only-look-text-given l es name = same
+
+pub only-look-number-given : (l : List ℕ) (es : Layout) (name : List ℕ) → Only (LookNumberGiven l es name)
+only-look-number-given l es name = alike value-one
 
 -- ---- files
 

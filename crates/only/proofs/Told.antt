@@ -10,7 +10,7 @@ use Rattle.rules.specs.Fields.{timeTold, dayTold, positionTold, altitudeTold}
 use Rattle.rules.specs.Degrees.{degreesTold}
 use Rattle.rules.specs.Layouts.{lengthTold, presenceTold, columnTold}
 use Rattle.rules.specs.Split.{lineTold}
-use Rattle.rules.specs.Reads.{fixFieldsTold, fixTold, timeReadTold, dateReadTold, headTold, pointTold, numberReadTold}
+use Rattle.rules.specs.Reads.{Answer, fixFieldsTold, fixTold, timeReadTold, fixReadingTold, extraReadingTold, dateReadTold, headTold, pointTold, numberReadTold}
 use Rattle.rules.specs.Writes.{wroteTold}
 use Rattle.rules.specs.Promises.{foundTold}
 use Rattle.rules.specs.declared.Reason.{Reason}
@@ -32,6 +32,9 @@ use Rattle.rules.specs.declared.NumberRead.the-variants as numberRead
 use Rattle.rules.specs.declared.FixFieldsRead.the-variants as fixFieldsRead
 use Rattle.rules.specs.declared.FixRead.the-variants as fixRead
 use Rattle.rules.specs.declared.TimeRead.the-variants as timeRead
+use Rattle.rules.specs.declared.FixReading.{FixReading}
+use Rattle.rules.specs.declared.ExtraReading.{ExtraReading}
+use Rattle.rules.specs.declared.Fix.{Fix}
 use Rattle.rules.specs.declared.DateRead.the-variants as dateRead
 use Rattle.rules.specs.declared.HeadRead.the-variants as headRead
 use Rattle.rules.specs.declared.PointRead.the-variants as pointRead
@@ -143,6 +146,20 @@ fix-one = by-back (answerOf fixRead.Is fixRead.Refused) (elim [ fixRead.Is v ↦
 pub timed-one : OneToOne timeReadTold
 unfolding timeReadTold
 timed-one = by-back (answerOf timeRead.Secs timeRead.Refused) (elim [ timeRead.Secs v ↦ refl | timeRead.Refused r ↦ ap timeRead.Refused (refusal-back r) ])
+
+pub fix-reading-one : OneToOne fixReadingTold
+unfolding fixReadingTold
+fix-reading-one r r′ e =
+    let value = fix-one (r .fix) (r′ .fix) (ap (λ (a : Answer Fix). a .value) e) in
+    let entries : r .entries ≡ r′ .entries = ap (λ (a : Answer Fix). a .entries) e in
+    λ i. record { fix = value i; entries = entries i }
+
+pub extra-reading-one : OneToOne extraReadingTold
+unfolding extraReadingTold
+extra-reading-one r r′ e =
+    let value = timed-one (r .time) (r′ .time) (ap (λ (a : Answer ℕ). a .value) e) in
+    let entries : r .entries ≡ r′ .entries = ap (λ (a : Answer ℕ). a .entries) e in
+    λ i. record { time = value i; entries = entries i }
 
 pub date-one : OneToOne dateReadTold
 unfolding dateReadTold

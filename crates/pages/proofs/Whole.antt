@@ -34,6 +34,7 @@ use Rattle.laws.proofs.Splitting.{Whole, textsOf, line-at, none-left}
 use Rattle.laws.proofs.Counted.{lines-counted, entry-put, line-by-number}
 use Rattle.laws.proofs.Counted as counted
 use Rattle.demands.specs.Readings.{ReadsFix, ReadsLine}
+use Rattle.demands.proofs.EachLine.{fix-alone}
 use Rattle.demands.proofs.Demands.{readable}
 use Rattle.block.specs.Blocks.{endOf, textAt, printed, Leaf, leaf, before, printedAt, leafFrom, leafAt, joined}
 use Rattle.pages.specs.Pages.{opened, firstLine, Begins}
@@ -85,7 +86,7 @@ module _ (file table : List ℕ) (lines : ℕ) (layout : Layout) where
       by true e =
           let r = reads (eqb-true (getD t 0 0) (code "B") e) in
           let v = fieldsOf (r .fix) in
-          let said = fix-fields t layout (r .fix) (r .reads) in
+          let said = fix-fields t layout (r .fix) (fix-alone t layout _ (r .reads)) in
           let c = fix-front .passes layout t v .0 (by-said family.B t layout v said .2) in
           ap (lineShown (passed + 1) layout t) (fields-said t v (c .fields) ∙ sym said)
 

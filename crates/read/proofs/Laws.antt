@@ -1,16 +1,13 @@
--- What the text behind a line's fields is, and the text of a column. Assumes nothing.
+-- What the text behind a line's fields is. Assumes nothing.
 use Prim.Native.Nat.{ℕ, _-_, _≤_}
 use mathlib.Core.List.{List, []}
 use mathlib.Core.Path.{_≡_, sym}
 use native.Mathlib.Omega.{arith}
 use lib.ListN.{length, take, drop, length-drop, drop-of-length-le}
 use lib.Seq.{take-all}
-use Rattle.rules.specs.Layouts.{Span, columnText, columnTold}
 use Rattle.rules.specs.Refusals.{Said}
-use Rattle.rules.specs.Reads.{headTold, headRest, pointTold, pointRest, columnTextSaid}
+use Rattle.rules.specs.Reads.{headTold, headRest, pointTold, pointRest}
 use Rattle.rules.specs.declared.Refusal.{Refusal}
-use Rattle.rules.specs.declared.ColumnRead.{ColumnRead}
-use Rattle.rules.specs.declared.ColumnRead.the-variants as columnRead
 use Rattle.rules.specs.declared.Head.{Head}
 use Rattle.rules.specs.declared.HeadRead.{HeadRead}
 use Rattle.rules.specs.declared.HeadRead.the-variants as headRead
@@ -44,15 +41,3 @@ module _ (l : List ℕ) (s : Said Point) (r : PointRead) (e : pointTold r ≡ s)
   pub point-none : (w : Refusal) → r ≡ pointRead.Refused w → [] ≡ pointRest l s
   unfolding pointTold pointRest
   point-none w g = rw (← e, g)
-
--- the text of a column that was found; there is none behind a refusal
-module _ (l : List ℕ) (s : Said Span) (r : ColumnRead) (e : columnTold r ≡ s) where
-  pub column-there : (a b : ℕ) (x : List ℕ) → r ≡ columnRead.Between a b → x ≡ columnText l (record { first = a; last = b }) → x ≡ columnTextSaid l s
-  unfolding columnTold columnTextSaid
-  column-there a b x g k = rw (← e, g) k
-
-  pub column-none : (w : Refusal) → r ≡ columnRead.Refused w → [] ≡ columnTextSaid l s
-  unfolding columnTold columnTextSaid
-  column-none w g = rw (← e, g)
-
-pub ruleset cut = (column-there, column-none)

@@ -1,17 +1,15 @@
-// The readers of a line, total on every line and every layout: 17 first, then the checks of its kind, then 19 and 20; with 0 for the line number.
+// The readers of a line, total on every line and every layout: 17 first, then the checks of its kind, with 0 for the line number.
 ghost use mathlib.Core.Path.{_≡_};
-ghost use Rattle.rules.specs.Promises.{EventGiven, SatellitesGiven, DateGiven, HeadGiven, HeadRest, PointGiven, PointRest, FixGiven, ExtraGiven, ColumnGiven, ColumnTextGiven, NumberGiven, LayoutGiven};
-ghost use Rattle.known.specs.Known.{allowedFor};
-use families::FamilyRead;
-use rules::ColumnRead;
+ghost use Rattle.rules.specs.Promises.{EventGiven, SatellitesGiven, DateGiven, HeadGiven, HeadRest, PointGiven, PointRest, FixGiven, ExtraGiven, LayoutGiven};
 use rules::DateRead;
 use rules::Extra;
+use rules::ExtraReading;
 use rules::Family;
 use rules::FixRead;
+use rules::FixReading;
 use rules::HeadRead;
 use rules::Layout;
 use rules::LayoutRead;
-use rules::NumberRead;
 use rules::PointRead;
 use rules::Reason;
 use rules::Refusal;
@@ -113,81 +111,40 @@ pub fn point_rest(line: &[u8]) -> &[u8]
     &line[18..]
 }
 
-// The fix of a B line by its I layout. BAD_VALUE for another kind or a layout that is not allowed; then what `line::fix_line` refuses.
-pub fn fix(line: &[u8], layout: Layout) -> FixRead
+// A B line read by its I layout, in one check of the line: its fix, and the entries of its columns in layout order. BAD_VALUE for another kind or a layout that is
+// not allowed; then what `line::fix_line` refuses. A column's text and number are looked up in the entries (`look`).
+pub fn fix(line: &[u8], layout: Layout) -> FixReading
     ensures { λ r. ⌜ FixGiven (now (line .entry)) layout r ⌝ }
 {
     if !layout::allowed(Family::B, layout) {
-        return FixRead::Refused(Refusal {
-            reason: Reason::BadValue,
-            line: 0,
-            byte: 0,
-        });
+        return FixReading {
+            fix: FixRead::Refused(Refusal {
+                reason: Reason::BadValue,
+                line: 0,
+                byte: 0,
+            }),
+            entries: layout::empty_layout(),
+        };
     }
     known::fix(line, layout)
 }
 
-// The time of a K line by its J layout, or of an N line by its M layout, as is said. BAD_VALUE for another kind or a layout that is not allowed; then what
-// `line::extra_line` refuses.
-pub fn extra(which: Extra, line: &[u8], layout: Layout) -> TimeRead
+// A K line read by its J layout, or an N line by its M layout, as is said, in one check of the line: its time, and the entries of its columns in layout order.
+// BAD_VALUE for another kind or a layout that is not allowed; then what `line::extra_line` refuses.
+pub fn extra(which: Extra, line: &[u8], layout: Layout) -> ExtraReading
     ensures { λ r. ⌜ ExtraGiven which (now (line .entry)) layout r ⌝ }
 {
     if !layout::allowed(Family::Extra(which), layout) {
-        return TimeRead::Refused(Refusal {
-            reason: Reason::BadValue,
-            line: 0,
-            byte: 0,
-        });
+        return ExtraReading {
+            time: TimeRead::Refused(Refusal {
+                reason: Reason::BadValue,
+                line: 0,
+                byte: 0,
+            }),
+            entries: layout::empty_layout(),
+        };
     }
     known::extra(which, line, layout)
-}
-
-// Whether a layout is allowed for the family that a line is of.
-fn allowed_for(line: &[u8], layout: Layout) -> bool
-    ensures { λ r. ⌜ r ≡ allowedFor (now (line .entry)) layout ⌝ }
-{
-    let FamilyRead::Of(f) = families::family(line) else {
-        return false;
-    };
-    layout::allowed(f, layout)
-}
-
-// Where the column of a code, any three bytes, stands in a line of any family. BAD_VALUE for another kind or layout, what the line's check refuses, then ABSENT.
-pub fn column_of(line: &[u8], layout: Layout, code: [u8; 3]) -> ColumnRead
-    ensures { λ r. ⌜ ColumnGiven (now (line .entry)) layout code r ⌝ }
-{
-    if !allowed_for(line, layout) {
-        return ColumnRead::Refused(Refusal {
-            reason: Reason::BadValue,
-            line: 0,
-            byte: 0,
-        });
-    }
-    known::column(line, layout, code)
-}
-
-// The text of that column, as a part of the line; empty where `column_of` refuses.
-pub fn column_text<'a>(line: &'a [u8], layout: Layout, code: [u8; 3]) -> &'a [u8]
-    ensures { λ r. ⌜ ColumnTextGiven (now (line .entry)) layout code (now r) ⌝ }
-{
-    match column_of(line, layout, code) {
-        ColumnRead::Between(first, last) => column::text_of(line, first, last),
-        ColumnRead::Refused(_) => &line[0..0],
-    }
-}
-
-// That column as a whole number. What `column_of` refuses, then NOT_NUMBER.
-pub fn column_number(line: &[u8], layout: Layout, code: [u8; 3]) -> NumberRead
-    ensures { λ r. ⌜ NumberGiven (now (line .entry)) layout code r ⌝ }
-{
-    if !allowed_for(line, layout) {
-        return NumberRead::Refused(Refusal {
-            reason: Reason::BadValue,
-            line: 0,
-            byte: 0,
-        });
-    }
-    known::number(line, layout, code)
 }
 
 // The layout of an I line, for B lines, of a J line, for K lines, or of an M line, for N lines. BAD_VALUE for another kind; then what `layout::layout_line` refuses.

@@ -12,7 +12,8 @@ use Rattle.rules.specs.Choice.{bytes}
 use Rattle.rules.specs.Refusals.{Said, says, refuses, andThen}
 use Rattle.rules.specs.Layouts.{unused, emptyLayout}
 use Rattle.rules.specs.Files.{verdict, tableAfter}
-use Rattle.rules.specs.Reads.{layoutSaid, numberSaid}
+use Rattle.rules.specs.Reads.{reading, layoutSaid}
+use Rattle.rules.specs.Looks.{lookNumber}
 use Rattle.rules.specs.Listing.{listing}
 use Rattle.rules.specs.declared.Family.the-variants as family
 use Rattle.rules.specs.declared.Layout.{Layout}
@@ -60,7 +61,8 @@ unfoldable pub columnIn : String → String → List ℕ → Said ℤ
 unfolding bytes
 columnIn i name l =
     andThen (layoutSaid family.B (bytes i)) λ layout.
-    andThen (numberSaid l layout (bytes name)) λ z.
+    andThen (reading family.B l layout) λ r.
+    andThen (lookNumber l (r .entries) (bytes name)) λ z.
     says (z .value)
 
 abbrev lines : List String → Said ℤ → Example

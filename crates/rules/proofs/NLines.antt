@@ -11,7 +11,8 @@ use Rattle.rules.specs.Choice.{bytes}
 use Rattle.rules.specs.Refusals.{Said, says, refuses, andThen}
 use Rattle.rules.specs.Layouts.{unused, emptyLayout}
 use Rattle.rules.specs.Files.{verdict}
-use Rattle.rules.specs.Reads.{layoutSaid, extraSaid, numberSaid}
+use Rattle.rules.specs.Reads.{reading, layoutSaid}
+use Rattle.rules.specs.Looks.{lookNumber}
 use Rattle.rules.specs.Listing.{listing}
 use Rattle.rules.specs.declared.Extra.the-variants as extra
 use Rattle.rules.specs.declared.Family.the-variants as family
@@ -59,14 +60,15 @@ unfoldable pub timeIn : String → List ℕ → Said ℤ
 unfolding bytes
 timeIn m l =
     andThen (layoutSaid (family.Extra extra.N) (bytes m)) λ layout.
-    andThen (extraSaid extra.N l layout) λ t.
-    says (pos t)
+    andThen (reading (family.Extra extra.N) l layout) λ r.
+    says (pos (r .value))
 
 unfoldable pub oxygenIn : String → List ℕ → Said ℤ
 unfolding bytes
 oxygenIn m l =
     andThen (layoutSaid (family.Extra extra.N) (bytes m)) λ layout.
-    andThen (numberSaid l layout (bytes "OXY")) λ z.
+    andThen (reading (family.Extra extra.N) l layout) λ r.
+    andThen (lookNumber l (r .entries) (bytes "OXY")) λ z.
     says (z .value)
 
 abbrev read : (String → List ℕ → Said ℤ) → String → String → Said ℤ → Example

@@ -11,8 +11,8 @@ use Rattle.rules.specs.Choice.{given, need, firstOf, leads, part, byte}
 use Rattle.rules.specs.Refusals.{Said, says, refuses, no, refusal, outcomeTold, outcome, valueOr, andThen, breaks}
 use Rattle.rules.specs.Families.{firstStart}
 use Rattle.rules.specs.Numbers.{numberAt}
-use Rattle.rules.specs.Listed.{codeAt, isCodeWord, listed, widthFits, keepsRule, packedOf, listedNumber}
-use Rattle.rules.specs.declared.Reason.the-variants.{Tile, Twice, Width, Column, BadValue, Absent}
+use Rattle.rules.specs.Listed.{codeAt, isCodeWord, listed, widthFits, keepsRule, listedNumber}
+use Rattle.rules.specs.declared.Reason.the-variants.{Tile, Twice, Width, Column, BadValue}
 use Rattle.rules.specs.declared.Listed.{Listed}
 use Rattle.rules.specs.declared.Entry.{Entry}
 use Rattle.rules.specs.declared.Layout.{Layout}
@@ -155,12 +155,6 @@ listedIn (e ∷ es) = listedIn es + given (listedNumber (e .code)) 0 λ n. 1
 -- "17 BAD_VALUE: value, layout, line number or place given is not allowed"
 unfoldable pub lengthSaid : Family → Layout → Said ℕ
 lengthSaid f l = need (allowed (firstStart f) l) (no BadValue 0) λ _. says (lineLength (firstStart f) l)
-
--- "19 ABSENT: code (any 3 bytes) not in the layout"
-unfoldable pub lookSaid : Family → Layout → List ℕ → Said Span
-lookSaid f l name =
-    need (allowed (firstStart f) l) (no BadValue 0) λ _.
-    given (look l (packedOf name)) (no Absent 0) λ s. says s
 
 -- the presence word of "which listed codes an I line carries", so of a layout for B lines
 unfoldable pub presenceSaid : Layout → Said Presence

@@ -16,6 +16,7 @@ pub mod Order
 pub mod Files
 pub mod Walk
 pub mod Reads
+pub mod Looks
 pub mod Writes
 pub mod Limits
 pub mod Listing

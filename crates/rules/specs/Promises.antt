@@ -14,11 +14,12 @@ use Rattle.rules.specs.Numbers.{numberTold, numberAt, wholeTold, wholeOf
 use Rattle.rules.specs.Fields.{isEither, timeTold, timeAt, timeText, dayTold, dateAt, dateText, positionTold, latitudeAt, longitudeAt, latitudeText, longitudeText, altitudeTold, altitudeAt, altitudeText}
 use Rattle.rules.specs.Degrees.{degreesTold, degreesOf}
 use Rattle.rules.specs.Listed.{listed, unlisted, keepsRule}
-use Rattle.rules.specs.Layouts.{LayoutTold, allowed, lengthTold, lengthSaid, presenceTold, presenceSaid, columnTold, lookSaid, columns}
+use Rattle.rules.specs.Layouts.{LayoutTold, allowed, lengthTold, lengthSaid, presenceTold, presenceSaid, columnTold, columns}
 use Rattle.rules.specs.Lines.{kindOf, aLine, dateLine, hLine, layoutLine, headLine, pointLine, dLine, eLine, fLine, bLine, extraLine, columnedLine, shaped}
 use Rattle.rules.specs.Split.{lineTold, boundsOf, lineText}
 use Rattle.rules.specs.Files.{CheckedTold, verdict, tableAfter}
-use Rattle.rules.specs.Reads.{fixFieldsTold, fixTold, fixSaid, timeReadTold, extraSaid, eventSaid, satellitesSaid, dateReadTold, dateSaid, layoutSaid, headTold, headSaid, headRest, pointTold, pointSaid, pointRest, columnSaid, columnTextSaid, numberReadTold, numberSaid}
+use Rattle.rules.specs.Reads.{reading, answered, fixFieldsTold, fixReadingTold, extraReadingTold, timeReadTold, eventSaid, satellitesSaid, dateReadTold, dateSaid, layoutSaid, headTold, headSaid, headRest, pointTold, pointSaid, pointRest, numberReadTold}
+use Rattle.rules.specs.Looks.{lookSaid, lookText, lookNumber}
 use Rattle.rules.specs.Writes.{wroteTold, written, outAfter, putAt, fixText, isFix, extraText, isExtra, layoutText, headText, isHead, pointText, isPoint}
 use Rattle.rules.specs.declared.Outcome.{Outcome}
 use Rattle.rules.specs.declared.Found.{Found}
@@ -37,6 +38,7 @@ use Rattle.rules.specs.declared.Listed.{Listed}
 use Rattle.rules.specs.declared.Layout.{Layout}
 use Rattle.rules.specs.declared.Extra.{Extra}
 use Rattle.rules.specs.declared.Family.{Family}
+use Rattle.rules.specs.declared.Family.the-variants as family
 use Rattle.rules.specs.declared.LayoutRead.{LayoutRead}
 use Rattle.rules.specs.declared.LengthRead.{LengthRead}
 use Rattle.rules.specs.declared.PresenceRead.{PresenceRead}
@@ -44,7 +46,8 @@ use Rattle.rules.specs.declared.ColumnRead.{ColumnRead}
 use Rattle.rules.specs.declared.NumberRead.{NumberRead}
 use Rattle.rules.specs.declared.Fix.{Fix}
 use Rattle.rules.specs.declared.FixFieldsRead.{FixFieldsRead}
-use Rattle.rules.specs.declared.FixRead.{FixRead}
+use Rattle.rules.specs.declared.FixReading.{FixReading}
+use Rattle.rules.specs.declared.ExtraReading.{ExtraReading}
 use Rattle.rules.specs.declared.TimeRead.{TimeRead}
 use Rattle.rules.specs.declared.DateRead.{DateRead}
 use Rattle.rules.specs.declared.Head.{Head}
@@ -142,9 +145,6 @@ AllowedTest f l r = r ≡ allowed (firstStart f) l
 abbrev pub LengthGiven : Family → Layout → LengthRead → Type 0
 LengthGiven f l r = lengthTold r ≡ lengthSaid f l
 
-abbrev pub LookGiven : Family → Layout → List ℕ → ColumnRead → Type 0
-LookGiven f l name r = columnTold r ≡ lookSaid f l name
-
 abbrev pub PresenceGiven : Layout → PresenceRead → Type 0
 PresenceGiven l r = presenceTold r ≡ presenceSaid l
 
@@ -200,11 +200,11 @@ ColumnedChecked f l layout r = timeReadTold r ≡ columnedLine f layout l
 
 -- ---- lines: the readers
 
-abbrev pub FixGiven : List ℕ → Layout → FixRead → Type 0
-FixGiven l layout r = fixTold r ≡ fixSaid l layout
+abbrev pub FixGiven : List ℕ → Layout → FixReading → Type 0
+FixGiven l layout r = fixReadingTold r ≡ answered (reading family.B l layout)
 
-abbrev pub ExtraGiven : Extra → List ℕ → Layout → TimeRead → Type 0
-ExtraGiven e l layout r = timeReadTold r ≡ extraSaid e l layout
+abbrev pub ExtraGiven : Extra → List ℕ → Layout → ExtraReading → Type 0
+ExtraGiven e l layout r = extraReadingTold r ≡ answered (reading (family.Extra e) l layout)
 
 abbrev pub EventGiven : List ℕ → TimeRead → Type 0
 EventGiven l r = timeReadTold r ≡ eventSaid l
@@ -230,14 +230,16 @@ PointGiven l r = pointTold r ≡ pointSaid l
 abbrev pub PointRest : List ℕ → List ℕ → Type 0
 PointRest l r = r ≡ pointRest l (pointSaid l)
 
-abbrev pub ColumnGiven : List ℕ → Layout → List ℕ → ColumnRead → Type 0
-ColumnGiven l layout name r = columnTold r ≡ columnSaid l layout name
+-- ---- a column: the look into the answer of a reading
 
-abbrev pub ColumnTextGiven : List ℕ → Layout → List ℕ → List ℕ → Type 0
-ColumnTextGiven l layout name r = r ≡ columnTextSaid l (columnSaid l layout name)
+abbrev pub LookGiven : List ℕ → Layout → List ℕ → ColumnRead → Type 0
+LookGiven l es name r = columnTold r ≡ lookSaid l es name
 
-abbrev pub NumberGiven : List ℕ → Layout → List ℕ → NumberRead → Type 0
-NumberGiven l layout name r = numberReadTold r ≡ numberSaid l layout name
+abbrev pub LookTextGiven : List ℕ → Layout → List ℕ → List ℕ → Type 0
+LookTextGiven l es name r = r ≡ lookText l (lookSaid l es name)
+
+abbrev pub LookNumberGiven : List ℕ → Layout → List ℕ → NumberRead → Type 0
+LookNumberGiven l es name r = numberReadTold r ≡ lookNumber l es name
 
 -- ---- files
 

@@ -5,18 +5,15 @@ use Prim.Native.Char.{code}
 use mathlib.Core.List.{List, []}
 use lib.Dec.{eqb}
 use lib.ListN.{getD, drop}
-use Rattle.rules.specs.Choice.{given, need, byte}
+use Rattle.rules.specs.Choice.{need, byte}
 use Rattle.rules.specs.Refusals.{Said, says, refuses, no, refusal, andThen}
-use Rattle.rules.specs.Numbers.{wholeOf}
-use Rattle.rules.specs.Listed.{packedOf}
-use Rattle.rules.specs.Families.{firstStart, lineLetter, layoutLetter, familyOf}
-use Rattle.rules.specs.Layouts.{Span, entriesOf, allowed, lookIn, columnText}
-use Rattle.rules.specs.Lines.{dateLine, layoutLine, headLine, pointLine, eLine, fLine, FieldsIn, familyLine, columnedLine}
+use Rattle.rules.specs.Families.{firstStart, lineLetter, layoutLetter}
+use Rattle.rules.specs.Layouts.{emptyLayout, allowed}
+use Rattle.rules.specs.Lines.{dateLine, layoutLine, headLine, pointLine, eLine, fLine, FieldsIn, familyLine}
 use Rattle.rules.specs.Fixes.{fixOf}
-use Rattle.rules.specs.declared.Reason.the-variants.{BadValue, Absent, NotNumber}
+use Rattle.rules.specs.declared.Reason.the-variants.{BadValue}
 use Rattle.rules.specs.declared.Signed.{Signed}
 use Rattle.rules.specs.declared.Date.{Date}
-use Rattle.rules.specs.declared.Entry.{Entry}
 use Rattle.rules.specs.declared.Layout.{Layout}
 use Rattle.rules.specs.declared.Extra.{Extra}
 use Rattle.rules.specs.declared.Family.{Family}
@@ -29,6 +26,8 @@ use Rattle.rules.specs.declared.FixFieldsRead.{FixFieldsRead}
 use Rattle.rules.specs.declared.FixFieldsRead.the-variants as fixFieldsRead
 use Rattle.rules.specs.declared.FixRead.{FixRead}
 use Rattle.rules.specs.declared.FixRead.the-variants as fixRead
+use Rattle.rules.specs.declared.FixReading.{FixReading}
+use Rattle.rules.specs.declared.ExtraReading.{ExtraReading}
 use Rattle.rules.specs.declared.TimeRead.{TimeRead}
 use Rattle.rules.specs.declared.TimeRead.the-variants as timeRead
 use Rattle.rules.specs.declared.DateRead.{DateRead}
@@ -76,13 +75,29 @@ fixSaid l layout = saidOf family.B l layout
 unfoldable pub extraSaid : Extra → List ℕ → Layout → Said ℕ
 extraSaid e l layout = saidOf (family.Extra e) l layout
 
--- the whole reading of a line of a family: that value, and the entries of its columns, in layout order
-pub record Reading (f : Family) : Type 0 where
-  pub value : ValueOf f
-  pub entries : List Entry
+-- Document 02, request 8: "Make these one operation: the fix (for K and N lines the time), and for each entry, in layout order, up to 13, its code, first and last byte."
+pub record Reading (A : Type 0) : Type 0 where
+  pub value : A
+  pub entries : Layout
 
-unfoldable pub reading : (f : Family) → List ℕ → Layout → Said (Reading f)
-reading f l layout = andThen (saidOf f l layout) λ v. says (record { value = v; entries = entriesOf layout })
+-- what a reading answers: what is said of the value, and the entries beside it
+pub record Answer (A : Type 0) : Type 0 where
+  pub value : Said A
+  pub entries : Layout
+
+module _ {A : Type 0} where
+  -- a value with the entries of the layout
+  abbrev pub withEntries : Layout → Said A → Said (Reading A)
+  withEntries layout s = andThen s λ v. says (record { value = v; entries = layout })
+
+  -- "A refused reading returns no value": no entries beside a refusal
+  abbrev pub answered : Said (Reading A) → Answer A
+  answered (says r) = record { value = says (r .value); entries = r .entries }
+  answered (refuses n k b) = record { value = refuses n k b; entries = emptyLayout }
+
+-- the one reading of a line of a family
+unfoldable pub reading : (f : Family) → List ℕ → Layout → Said (Reading (ValueOf f))
+reading f l layout = withEntries layout (saidOf f l layout)
 
 -- the time of an E line, and of an F line
 unfoldable pub eventSaid : List ℕ → Said ℕ
@@ -115,33 +130,6 @@ unfoldable pub pointRest : List ℕ → Said Point → List ℕ
 pointRest l (says p) = drop (byte 19) l
 pointRest l (refuses n k b) = []
 
--- a line of a family with its layout, whichever family it is of: 17, the checks of the line, and then the entries of its columns
-unfoldable pub entriesSaid : List ℕ → Layout → Said (List Entry)
-entriesSaid l layout =
-    given (familyOf (getD l 0 0)) (no BadValue 0) λ f.
-    byLayout f layout λ _.
-    andThen (columnedLine f layout l) λ _.
-    says (entriesOf layout)
-
--- "A column is read by its code as text": the places of its first and last byte; "19 ABSENT: code (any 3 bytes) not in the layout"
-unfoldable pub columnSaid : List ℕ → Layout → List ℕ → Said Span
-columnSaid l layout name =
-    andThen (entriesSaid l layout) λ es.
-    given (lookIn es (packedOf name)) (no Absent 0) λ s.
-    says s
-
--- its text; none where refused
-unfoldable pub columnTextSaid : List ℕ → Said Span → List ℕ
-columnTextSaid l (says s) = columnText l s
-columnTextSaid l (refuses n k b) = []
-
--- "and as a whole number where it is 1 to 18 digits, with or without a minus before them"; "20 NOT_NUMBER: column is no such number"
-unfoldable pub numberSaid : List ℕ → Layout → List ℕ → Said Signed
-numberSaid l layout name =
-    andThen (columnSaid l layout name) λ s.
-    given (wholeOf (columnText l s)) (no NotNumber 0) λ z.
-    says z
-
 -- the answers, in the paper's terms
 unfoldable pub fixFieldsTold : FixFieldsRead → Said FixFields
 fixFieldsTold (fixFieldsRead.Is f) = says f
@@ -154,6 +142,12 @@ fixTold (fixRead.Refused r) = refusal r
 unfoldable pub timeReadTold : TimeRead → Said ℕ
 timeReadTold (timeRead.Secs t) = says t
 timeReadTold (timeRead.Refused r) = refusal r
+
+unfoldable pub fixReadingTold : FixReading → Answer Fix
+fixReadingTold r = record { value = fixTold (r .fix); entries = r .entries }
+
+unfoldable pub extraReadingTold : ExtraReading → Answer ℕ
+extraReadingTold r = record { value = timeReadTold (r .time); entries = r .entries }
 
 unfoldable pub dateReadTold : DateRead → Said Date
 dateReadTold (dateRead.On d) = says d

@@ -230,6 +230,18 @@ pub enum TimeRead {
     Refused(Refusal),
 }
 
+// A B line read: its fix, and the entries of its columns in layout order; no entries beside a refusal.
+pub struct FixReading {
+    pub fix: FixRead,
+    pub entries: Layout,
+}
+
+// A K or an N line read: its time, and the entries of its columns in layout order; no entries beside a refusal.
+pub struct ExtraReading {
+    pub time: TimeRead,
+    pub entries: Layout,
+}
+
 pub enum DateRead {
     On(Date),
     Refused(Refusal),

@@ -20,6 +20,7 @@ use Rattle.rules.specs.declared.Layouts.{Layouts}
 use Rattle.rules.proofs.Inverse.{refuses-says, need-inv, then-inv}
 use Rattle.laws.proofs.Splitting.{textsOf}
 use Rattle.demands.specs.Readings.{ReadsLine}
+use Rattle.demands.proofs.EachLine.{fix-alone}
 use Rattle.next_fix.specs.Steps.{stepOf}
 use Rattle.next_fix.specs.Track.{trackSeal, trackOf, flightTracked}
 use Rattle.next_fix.specs.declared.Record.{Record}
@@ -35,7 +36,7 @@ use Rattle.track.proofs.Accepted.{file-short, texts-read, letters-count
 pub all-read : (layouts : Layouts) (k : Lines) → Each (ReadsLine layouts) (textsOf k) → AllRead (layouts .b) k
 all-read layouts end r = tt
 all-read layouts (broken n) r = tt
-all-read layouts (line t ls) r = ((λ e. let x = r .0 .columned family.B e in (x .fix, x .reads)), all-read layouts ls (r .1))
+all-read layouts (line t ls) r = ((λ e. let x = r .0 .columned family.B e in (x .fix, fix-alone t (layouts .b) _ (x .reads))), all-read layouts ls (r .1))
 
 module _ (file : List ℕ) (f : Flight) (accepted : verdict trackSeal file none ≡ says f) where
   abbrev layout : Layout

@@ -3,7 +3,6 @@
 use Prim.Native.Nat.{ℕ, suc, _-_}
 use mathlib.Core.Bool.{Bool, true, false}
 use mathlib.Core.List.{List, [], _++_}
-use mathlib.Core.Option.{some}
 use mathlib.Core.Path.{_≡_, refl, _∙_, ap}
 use mathlib.Core.Logic.{_↔_}
 use native.Mathlib.Omega.{arith}
@@ -12,13 +11,12 @@ use lib.Dec.{eqb}
 use lib.ListN.{length, getD, drop}
 use lib.Seq.{drop-at}
 use Rattle.rules.specs.Choice.{need}
-use Rattle.rules.specs.Families.{firstStart, lineLetter, familyOf}
+use Rattle.rules.specs.Families.{firstStart, lineLetter}
 use Rattle.rules.specs.Refusals.{says}
-use Rattle.rules.specs.Layouts.{entriesOf, allowed, columns}
+use Rattle.rules.specs.Layouts.{allowed, columns}
 use Rattle.rules.specs.Lines.{shapedBy, bLine, FieldsIn, timeIn, familyLine, columnedLine}
-use Rattle.rules.specs.Reads.{fieldsSaid, valueFrom, saidOf, reading, entriesSaid}
+use Rattle.rules.specs.Reads.{fieldsSaid, valueFrom, saidOf, reading}
 use Rattle.rules.specs.declared.Layout.{Layout}
-use Rattle.rules.specs.declared.Extra.the-variants as extra
 use Rattle.rules.specs.declared.Family.{Family}
 use Rattle.rules.specs.declared.Family.the-variants as family
 use Rattle.rules.specs.Limits.{goodTail}
@@ -39,12 +37,6 @@ unfolding columnedLine
 timed-line family.B layout l t e = let r = then-inv (bLine layout l) t _ e in (r .0, r .1, cc)
 timed-line (family.Extra x) layout l t e = (t, e, refl)
 
-pub family-of : (f : Family) → familyOf (lineLetter f) ≡ some f
-unfolding familyOf
-family-of family.B = refl
-family-of (family.Extra extra.K) = refl
-family-of (family.Extra extra.N) = refl
-
 -- the value that its reader gives
 pub value-said : (f : Family) (l : List ℕ) (layout : Layout) (v : FieldsIn f) → fieldsSaid f l layout ≡ says v → saidOf f l layout ≡ says (valueFrom f v)
 value-said family.B l layout v e = rw e
@@ -61,16 +53,10 @@ module _ (f : Family) (l : List ℕ) (layout : Layout) (v : FieldsIn f) where
       let g = need-inv (allowed (firstStart f) layout) _ (says v) _ refuses-says (k .1) in
       (eqb-true _ _ (k .0), g .0, g .1)
 
-  -- the whole reading, and the entries of its columns alone
-  pub reading-said : fieldsSaid f l layout ≡ says v → reading f l layout ≡ says (record { value = valueFrom f v; entries = entriesOf layout })
+  -- the whole reading
+  pub reading-said : fieldsSaid f l layout ≡ says v → reading f l layout ≡ says (record { value = valueFrom f v; entries = layout })
   unfolding reading
   reading-said e = rw (value-said f l layout v e)
-
-  pub entries-said : fieldsSaid f l layout ≡ says v → entriesSaid l layout ≡ says (entriesOf layout)
-  unfolding entriesSaid
-  entries-said e =
-      let w = by-said e in
-      rw (w .0, family-of f, w .1, line-timed f layout l v (w .2))
 
 -- ---- the fields before the columns, and the columns
 

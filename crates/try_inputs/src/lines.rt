@@ -72,13 +72,22 @@ fn print_point(line: &[u8]) {
 }
 
 fn print_fix(line: &[u8], layout: Layout) {
-    match read::fix(line, layout) {
+    let read = read::fix(line, layout);
+    let value = read.fix;
+    let columns = read.entries;
+    match value {
         FixRead::Is(f) => {
             lister::print_fix(0, limits::fields_of(f));
-            lister::print_columns(line, layout);
+            lister::print_columns(line, columns);
         }
         FixRead::Refused(why) => print_refusal(why),
     }
+}
+
+fn print_extra(which: Extra, line: &[u8], layout: Layout) {
+    let read = read::extra(which, line, layout);
+    let value = read.time;
+    print_time(value);
 }
 
 // What the readers of a line's kind say of it, where it tells no layout; an H line is read as a date line and as another, a C line as a head and as a point, and a line of
@@ -98,9 +107,9 @@ fn print_line(kind: Kind, line: &[u8], fixes: Layout, extras: Layout, unsigned: 
             print_date(line);
             print_outcome(line::header(line));
         }
-        Kind::K => print_time(read::extra(Extra::K, line, extras)),
+        Kind::K => print_extra(Extra::K, line, extras),
         Kind::L => print_outcome(shape::shaped(line, 1, 99, false)),
-        Kind::N => print_time(read::extra(Extra::N, line, unsigned)),
+        Kind::N => print_extra(Extra::N, line, unsigned),
         Kind::Other => print_outcome(shape::shaped(line, 1, 255, false)),
         _ => print_time(read::event(line)),
     }

@@ -120,7 +120,7 @@ module _ (f : Family) (old new : Layouts) (t t′ : List ℕ) (so : Sound (first
       let said = said-by g t (layoutOf g old) (v .0) k (so .right) (v .1) in
       let again = by-said g t′ (layoutOf g new) (v .0) (says-same g (layoutOf g old) (layoutOf g new) t t′ (v .0) so′ w said) in
       let e′ : columnedLine g (layoutOf g new) t′ ≡ says x = line-timed g (layoutOf g new) t′ (v .0) (again .2) ∙ ap says (v .2) in
-      (columned g x e′ o, refl, again .0, as-before g (layoutOf g old) (layoutOf g new) t t′ (v .0) so′ w said)
+      (columned g x e′ o, refl, again .0, as-before g (layoutOf g old) (layoutOf g new) t t′ (v .0) so′ w said (so .full))
 
   pairs-with : AsBefore f (layoutOf f old) (layoutOf f new) t t′ → (g : Family) → Beside f g → (xs ys : List (List ℕ)) → Paired old new g xs ys
       → Paired old new g (cond (sameFamily g f) (t ∷ xs) xs) (cond (sameFamily g f) (t′ ∷ ys) ys)

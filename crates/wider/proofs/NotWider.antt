@@ -17,6 +17,7 @@ use Rattle.rules.specs.declared.Family.the-variants as family
 use Rattle.rules.specs.declared.Fix.{Fix}
 use Rattle.rules.specs.declared.Flight.{Flight}
 use Rattle.rules.specs.declared.Layout.{Layout}
+use Rattle.rules.specs.Reads.{Reading}
 use Rattle.rules.specs.declared.Seal.the-variants as seal
 use Rattle.rules.proofs.Computed.{everything, fileOf}
 use Rattle.rules.proofs.Damaged.{fiveLines, fiveLayout, verdict-of-five}
@@ -74,15 +75,15 @@ abbrev pub valueChanged : List ℕ
 unfolding fileOf
 valueChanged = fileWith "I033638FXA3941ENL4243SIU" "B1200015130000N00015000WA001000012001234508"
 
-abbrev seconds : Said Fix → ℕ
-seconds (says f) = f .time
+abbrev seconds : Said (Reading Fix) → ℕ
+seconds (says r) = r .value .time
 seconds (refuses n l b) = 0
 
 pub value-changed : WiderFile fiveLines valueChanged → ⊥
 unfolding everything fileOf told
 value-changed w =
     let e = first-fix valueChanged (lit≤ tt) w (five (told family.B "I033638FXA3941ENL4243SIU")) refl in
-    let z : _≡_ {A = ℕ} 43201 43200 = ap seconds (e .after ∙ sym (e .before)) in
+    let z : _≡_ {A = ℕ} 43201 43200 = ap seconds (e .after) ∙ sym (ap seconds (e .before)) in
     omega arith
 
 -- FXA is left out

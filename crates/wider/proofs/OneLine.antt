@@ -14,7 +14,8 @@ use Rattle.rules.specs.Chars.{characters, firstInvalid}
 use Rattle.rules.specs.Listed.{packedOf, keepsRule}
 use Rattle.rules.specs.Layouts.{Span, entriesOf, spanOf, look, carries, allowed, lineLength, columnText, columns}
 use Rattle.rules.specs.Lines.{shapedBy, FieldsIn}
-use Rattle.rules.specs.Reads.{fieldsSaid, valueFrom, columnSaid, numberSaid}
+use Rattle.rules.specs.Reads.{fieldsSaid, valueFrom}
+use Rattle.rules.specs.Looks.{lookSaid, lookNumber}
 use Rattle.rules.specs.declared.Entry.{Entry}
 use Rattle.rules.specs.declared.Layout.{Layout}
 use Rattle.rules.specs.declared.Family.{Family}
@@ -24,7 +25,7 @@ use Rattle.rules.proofs.Inverse.{none-some, false-true, given-inv, need-inv, an
 use Rattle.trips.proofs.Texts.{areValid, both-valid, valid-join, clean-valid, nothing-there, shaped-there, shaped-here}
 use Rattle.trips.proofs.Tails.{tail-there}
 use Rattle.trips.proofs.LineTrip.{line-limits}
-use Rattle.trips.proofs.Columned.{Fronted, fields-trip, by-said, value-said, entries-said}
+use Rattle.trips.proofs.Columned.{Fronted, fields-trip, by-said, reading-said}
 use Rattle.trips.proofs.Extras.{extra-front}
 use Rattle.trips.proofs.Fixes.{fix-front}
 use Rattle.wider.specs.Wider.{textIn, KeepsRules, WiderLine}
@@ -32,6 +33,7 @@ use Rattle.wider.specs.Before.{textSaid, AsBefore}
 use Rattle.wider.proofs.Families.{first-byte}
 use Rattle.sound.proofs.Each.{each-map, each-both}
 use Rattle.sound.proofs.Placed.{Sound}
+use Rattle.sound.proofs.Looked.{read-fits, look-there}
 use Rattle.sound.proofs.Columns.{carried-there, each-at, each-looked, ruled-there, ruled-here, columns-valid}
 
 -- ---- parts of a valid text
@@ -141,20 +143,21 @@ module _ (f : Family) (old new : Layout) (l l′ : List ℕ) (v : FieldsIn f) (s
   pub says-same : fieldsSaid f l′ new ≡ says v
   says-same = same-front f l l′ old new v e (w .fields) (new-checked (firstStart f) old new l l′ w (omega (arith, first-byte f)) sound (passed f l old v e))
 
-  column-there : (name : List ℕ) → carries old (packedOf name) ≡ true
-      → (s s′ : Span) × (columnSaid l old name ≡ says s) × (columnSaid l′ new name ≡ says s′) × (columnText l′ s′ ≡ columnText l s)
-  unfolding look columnSaid
-  column-there name h =
+  column-there : length (old .entries) ≡ 13 → (name : List ℕ) → carries old (packedOf name) ≡ true
+      → (s s′ : Span) × (lookSaid l old name ≡ says s) × (lookSaid l′ new name ≡ says s′) × (columnText l′ s′ ≡ columnText l s)
+  column-there full name h =
       let s = carried-there old (packedOf name) h in
       let k = kept-text (firstStart f) old new l l′ w (packedOf name) (s .0) (s .1) in
-      (s .0, k .0, rw (entries-said f l old v e, s .1), rw (entries-said f l′ new v says-same, k .1), k .2)
+      let there = look-there l old name (read-fits f l old v full e) in
+      let there′ = look-there l′ new name (read-fits f l′ new v (sound .full) says-same) in
+      (s .0, k .0, there ∙ rw (s .1), there′ ∙ rw (k .1), k .2)
 
-  pub as-before : AsBefore f old new l l′
-  unfolding textSaid numberSaid
-  as-before = record {
+  pub as-before : length (old .entries) ≡ 13 → AsBefore f old new l l′
+  unfolding textSaid lookNumber
+  as-before full = record {
     value = valueFrom f v;
-    before = value-said f l old v e;
-    after = value-said f l′ new v says-same;
-    text = λ name h. let k = column-there name h in (columnText l (k .0), rw (k .2), rw (k .3, k .4));
-    number = λ name h. let k = column-there name h in rw (k .2, k .3, k .4);
+    before = reading-said f l old v e;
+    after = reading-said f l′ new v says-same;
+    text = λ name h. let k = column-there full name h in (columnText l (k .0), rw (k .2), rw (k .3, k .4));
+    number = λ name h. let k = column-there full name h in rw (k .2, k .3, k .4);
   }

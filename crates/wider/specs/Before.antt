@@ -11,7 +11,8 @@ use Rattle.rules.specs.Layouts.{carries, columnText, presenceSaid}
 use Rattle.rules.specs.Lines.{kindOf}
 use Rattle.rules.specs.Roles.{roleOf, isOf, isDeclaring, isEvent}
 use Rattle.rules.specs.Split.{Lines, end, broken, line, linesOf}
-use Rattle.rules.specs.Reads.{ValueOf, saidOf, columnSaid, numberSaid}
+use Rattle.rules.specs.Reads.{ValueOf, reading}
+use Rattle.rules.specs.Looks.{lookSaid, lookNumber}
 use Rattle.rules.specs.declared.Layout.{Layout}
 use Rattle.rules.specs.declared.Listed.{Listed}
 use Rattle.rules.specs.declared.Presence.{Presence}
@@ -39,17 +40,18 @@ lineOf f file n = getD (linesOfFamily f (linesOf file)) n []
 
 -- ---- one line
 
--- "A column is read by its code as text"
+-- the text that the look for a code gives, into the entries of a line's reading
 unfoldable pub textSaid : List ℕ → Layout → List ℕ → Said (List ℕ)
-textSaid l layout name = andThen (columnSaid l layout name) λ s. says (columnText l s)
+textSaid l es name = andThen (lookSaid l es name) λ s. says (columnText l s)
 
--- Line l by the old layout, and l′ by the new one: both say one value, and for every code of the old layout both say one text, and one number or no number.
+-- Line l read by the old layout, and l′ by the new one: both say one value, each with the entries of its layout; and "an old column reads as before when the look for its
+-- code gives the same text, and the same number or 20, wherever its bytes now stand".
 pub record AsBefore (f : Family) (old new : Layout) (l l′ : List ℕ) : Type 0 where
   pub value : ValueOf f
-  pub before : saidOf f l old ≡ says value
-  pub after : saidOf f l′ new ≡ says value
+  pub before : reading f l old ≡ says (record { value = value; entries = old })
+  pub after : reading f l′ new ≡ says (record { value = value; entries = new })
   pub text : (name : List ℕ) → carries old (packedOf name) ≡ true → (t : List ℕ) × (textSaid l old name ≡ says t) × (textSaid l′ new name ≡ says t)
-  pub number : (name : List ℕ) → carries old (packedOf name) ≡ true → numberSaid l′ new name ≡ numberSaid l old name
+  pub number : (name : List ℕ) → carries old (packedOf name) ≡ true → lookNumber l′ new name ≡ lookNumber l old name
 
 -- ---- the presence word
 

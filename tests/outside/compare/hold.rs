@@ -3,8 +3,10 @@
 use std::collections::BTreeMap;
 use std::fmt::Debug;
 
+use crate::columns;
 use crate::library::{self, ANSWER, FixValues, HeadValues, Told};
 use outside::files::random::Random;
+use outside::files::reached_looks;
 use outside::reading::layouts::FAMILIES;
 use outside::reading::refusals::{BAD_VALUE, NO_ROOM};
 use outside::reading::{self, Answer, Date, Family, Fix, Head, Layout, Point, Position, Refusal};
@@ -16,6 +18,7 @@ pub type Held<T> = Result<T, String>;
 pub struct Tally {
     pub answers: BTreeMap<&'static str, u64>,
     pub refusals: BTreeMap<(&'static str, u32), u64>,
+    pub looks: reached_looks::Reached,
 }
 
 impl Tally {
@@ -30,7 +33,7 @@ impl Tally {
 }
 
 /// An answer of the reading as the library tells it.
-fn told<T, const N: usize>(answer: &Answer<T>, values: impl Fn(&T) -> [u64; N]) -> Told {
+pub fn told<T, const N: usize>(answer: &Answer<T>, values: impl Fn(&T) -> [u64; N]) -> Told {
     let mut told = Told { number: 0, answer: [0; ANSWER] };
     match answer {
         Ok(value) => told.answer[2..2 + N].copy_from_slice(&values(value)),
@@ -47,7 +50,7 @@ fn date_values(d: &Date) -> [u64; 3] {
     [d.day.into(), d.month.into(), d.year.into()]
 }
 
-fn fix_values(f: &Fix) -> [u64; 6] {
+pub fn fix_values(f: &Fix) -> [u64; 6] {
     let (a, o) = (f.latitude, f.longitude);
     [f.time.into(), a.count, a.letter.into(), o.count, o.letter.into(), f.validity.into()]
 }
@@ -281,13 +284,10 @@ pub fn line(tally: &mut Tally, random: &mut Random, line: &[u8], number: usize, 
 fn fix(tally: &mut Tally, random: &mut Random, line: &[u8], given: &[u8]) -> Held<()> {
     let layout = reading::layout_given(given, Family::Fixes);
     let answer = by_layout(&layout, |y| reading::read_fix(line, y));
-    let (raw, heights) = library::fix(line, given);
-    let expected = answer.map_or([0, 0], |f| [f.pressure, f.gnss]);
-    tally.same("hive_fix", &(line, given), raw.number, (raw, heights), (told(&answer, fix_values), expected))?;
-    columns(tally, random, line, given, layout.as_ref())?;
-    if let (Ok(fix), Some(layout)) = (answer, &layout) {
-        degrees(tally, random, &fix)?;
-        write_fix(tally, random, fix, &line[35..], given, layout)?;
+    columns::fix(tally, random, line, given, &answer)?;
+    if let (Ok(read), Some(layout)) = (answer, &layout) {
+        degrees(tally, random, &read.said)?;
+        write_fix(tally, random, read.said, &line[35..], given, layout)?;
     }
     Ok(())
 }
@@ -301,30 +301,9 @@ fn family_of(line: &[u8]) -> Family {
 fn extra(tally: &mut Tally, random: &mut Random, line: &[u8], given: &[u8]) -> Held<()> {
     let layout = reading::layout_given(given, family_of(line));
     let answer = by_layout(&layout, |y| reading::read_extra(line, y));
-    let raw = library::extra(line, given);
-    tally.same("hive_extra", &(line, given), raw.number, raw, told(&answer, |&t| [t.into()]))?;
-    columns(tally, random, line, given, layout.as_ref())?;
-    if let Ok(time) = answer {
-        write_extra(tally, random, line[0], time, &line[7..], given)?;
-    }
-    Ok(())
-}
-
-/// Each column of a layout by its code, as text and as a number; and one code that is any three bytes.
-fn columns(tally: &mut Tally, random: &mut Random, line: &[u8], given: &[u8], layout: Option<&Layout>) -> Held<()> {
-    let some = *random.pick(&[*b"ENL", *b"FXA", *b"ZZZ", *b"\0\xFF ", *b"enl", *b"TDS"]);
-    let codes = layout.iter().flat_map(|y| y.entries.iter().map(|e| e.code)).chain([some]);
-    for code in codes {
-        // The layout is judged for the line's kind; one for another kind is none.
-        let layout = reading::layout_given(given, family_of(line));
-        let answer = by_layout(&layout, |y| reading::read_column(line, y, &code));
-        let raw = library::column(line, given, code);
-        let place = told(&answer, |e| [e.first as u64 - 1, (e.last - e.first + 1) as u64]);
-        tally.same("hive_column", &(line, given, code), raw.number, raw, place)?;
-        let answer = by_layout(&layout, |y| reading::read_number(line, y, &code));
-        let raw = library::column_number(line, given, code);
-        let expected = (told(&answer, |_| []), answer.unwrap_or(0));
-        tally.same("hive_column_number", &(line, given, code), raw.0.number, raw, expected)?;
+    columns::extra(tally, random, line, given, &answer)?;
+    if let Ok(read) = answer {
+        write_extra(tally, random, line[0], read.said, &line[7..], given)?;
     }
     Ok(())
 }

@@ -3,6 +3,7 @@
 //! Stops at the first difference, with that file's bytes, or both copies', in FILE. Fails too where some refusal of a file was never met, or some field that a refusal names, or some operation
 //! never asked.
 
+mod columns;
 mod hold;
 #[path = "../library.rs"]
 mod library;
@@ -158,6 +159,7 @@ fn summary(met: &Met, options: &Options) {
     println!("outside: byte values reached as characters: {}", met.reached.by_character());
     println!("outside: where files end: {}", met.ends.told());
     println!("outside: tracks: {}", met.tracks.told());
+    println!("outside: looks: {}", met.tally.looks.told());
     println!("outside: {} pairs of copies brought together, {} refused: {}", met.pairs.merged, met.pairs.refused, met.pairs.told());
     for (operation, count) in &met.tally.answers {
         let numbers: Vec<String> =
@@ -167,6 +169,7 @@ fn summary(met: &Met, options: &Options) {
     let unasked: Vec<&str> = library::OPERATIONS.into_iter().filter(|o| !met.tally.answers.contains_key(o)).collect();
     let (mut never, strange) = (met.reached.never(&[]), met.reached.strange());
     never.extend(met.pairs.never(true).into_iter().chain(met.tracks.never()).chain(met.ends.never()).map(str::to_string));
+    never.extend(met.tally.looks.never());
     if !never.is_empty() || !strange.is_empty() || !unasked.is_empty() || accepted == 0 {
         println!("outside: FAILED: accepted {accepted} files, never met {never:?}, met {strange:?}, never asked {unasked:?}");
         std::process::exit(1);

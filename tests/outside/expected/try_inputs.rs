@@ -49,7 +49,7 @@ fn checked<T>(read: Read<T>) -> String {
 fn line(line: &[u8], told: &mut Layouts) -> String {
     match line[0] {
         b'A' => checked(recorder(line)),
-        b'B' => read_fix(line, &told.fixes).map_or_else(|r| refusal(&r), |f| fix(0, &f, line, &told.fixes)),
+        b'B' => read_fix(line, &told.fixes).map_or_else(|r| refusal(&r), |read| fix(0, line, &read)),
         b'C' => said(read_head(line)) + &said(read_point(line)),
         b'D' => checked(differential(line)),
         b'E' => said(read_event(line)),

@@ -87,7 +87,9 @@ fn track_of(file: &[u8], count: u64) -> Vec<library::Record> {
 
 /// A fix of the track, which is what the single reading of its line gives.
 fn fix_of(record: &library::Record, line: &[u8], layout: &[u8], follows: bool) -> Fix {
-    let (told, heights) = library::fix(line, layout);
+    let read = library::fix(line, layout, library::Lent::of(library::ANSWER, 2, library::ENTRIES, 0));
+    let told = library::Told { number: read.number, answer: read.answer.try_into().unwrap() };
+    let heights = [read.heights[0], read.heights[1]];
     let (v, r) = (told.answer, record.fix);
     let places = [r.latitude.count, r.latitude.letter.into(), r.longitude.count, r.longitude.letter.into()];
     assert_eq!(

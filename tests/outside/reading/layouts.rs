@@ -101,15 +101,15 @@ pub fn listed(code: &[u8; 3]) -> Option<&'static Listed> {
     LISTED.iter().find(|l| l.code == code)
 }
 
-/// One column: its first and last byte in the line, counted from 1, and its code.
+/// One column: its first and last byte in the line, counted from 1, and its code, which is three characters, or whatever else stands for them.
 #[derive(Clone, Copy, PartialEq, Eq, Debug)]
-pub struct Entry {
+pub struct Entry<C = [u8; 3]> {
     pub first: usize,
     pub last: usize,
-    pub code: [u8; 3],
+    pub code: C,
 }
 
-impl Entry {
+impl<C> Entry<C> {
     pub fn width(&self) -> usize {
         self.last - self.first + 1
     }
@@ -117,7 +117,9 @@ impl Entry {
     pub fn text<'a>(&self, line: &'a [u8]) -> &'a [u8] {
         &line[self.first - 1..self.last]
     }
+}
 
+impl Entry {
     /// "An unlisted code may have any width".
     fn has_its_width(&self) -> bool {
         listed(&self.code).is_none_or(|l| l.least <= self.width() && self.width() <= l.most)

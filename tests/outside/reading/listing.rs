@@ -1,9 +1,11 @@
 //! The listing: what the program of that name prints of a file.
 
 use super::file::{Accepted, check_usual};
-use super::layouts::{FAMILIES, Layout};
-use super::lines::{Fix, fix_line};
+use super::layouts::FAMILIES;
+use super::lines::Fix;
+use super::look::look;
 use super::places::line;
+use super::readers::{WithColumns, read_fix};
 use super::refusals::{INPUT_OVER, Refusal};
 
 /// "Program's input over 65,536 bytes" is 21.
@@ -38,18 +40,20 @@ pub fn flight(file: &[u8], table: &[u32], said: &Accepted) -> String {
         let (start, end) = line(file, table, number).unwrap();
         let text = &file[start..end];
         if text[0] == b'B' {
-            out += &fix(number, &fix_line(text, layout).unwrap(), text, layout);
+            out += &fix(number, text, &read_fix(text, layout).unwrap());
         }
     }
     out
 }
 
 /// "FIX: line, seconds, latitude and letter, longitude and letter, validity, pressure and GNSS altitude. COL: code and text, in layout order, under each fix."
-pub fn fix(number: u64, f: &Fix, text: &[u8], layout: &Layout) -> String {
+pub fn fix(number: u64, text: &[u8], read: &WithColumns<Fix>) -> String {
+    let (f, columns) = (&read.said, &read.columns);
     let letters = [f.latitude.letter, f.longitude.letter, f.validity].map(char::from);
     let places = format!("{} {} {} {}", f.latitude.count, letters[0], f.longitude.count, letters[1]);
     let mut out = format!("FIX {number} {} {places} {} {} {}\n", f.time, letters[2], f.pressure, f.gnss);
-    for e in &layout.entries {
+    for column in columns {
+        let e = look(text, columns, &column.code).unwrap();
         out += &format!("COL {} {}\n", String::from_utf8_lossy(&e.code), String::from_utf8_lossy(e.text(text)));
     }
     out

@@ -12,6 +12,7 @@ pub mod given;
 pub mod layouts;
 pub mod lines;
 pub mod listing;
+pub mod look;
 pub mod merge;
 pub mod places;
 pub mod readers;
@@ -28,11 +29,10 @@ pub use file::{Accepted, LIMIT, check_strict, check_strict_alone, check_usual, c
 pub use given::{column_given, layout_given, write_extra_given, write_layout_given};
 pub use layouts::{Entry, Family, LISTED, Layout, Layouts, Listed};
 pub use lines::{Fix, Head, Point, Role};
+pub use look::{MOST_ENTRIES, look, look_number};
 pub use merge::{Unmerged, Which, merge, merge_into};
 pub use places::{line, step};
-pub use readers::{
-    read_column, read_date, read_event, read_extra, read_fix, read_head, read_layout, read_number, read_point, read_satellites,
-};
+pub use readers::{WithColumns, read_date, read_event, read_extra, read_fix, read_head, read_layout, read_point, read_satellites};
 pub use refusals::{Answer, Fault, Read, Refusal};
 pub use track::{Record, track, track_into};
 pub use tracked::tracked;

@@ -1,9 +1,9 @@
-//! The readers of one line: 17 for a line of another kind or a layout that is not allowed, then the line's own checks with 0 for its number, then 19, then 20.
+//! The readers of one line: 17 for a line of another kind or a layout that is not allowed, then the line's own checks with 0 for its number.
 
 use super::fields::Date;
-use super::layouts::{Entry, Family, Layout, layout_line, whole_number};
+use super::layouts::{Entry, Family, Layout, layout_line};
 use super::lines::{Fix, Head, Point, date_line, event_line, extra_line, fix_line, head_line, point_line, satellites_line};
-use super::refusals::{ABSENT, Answer, BAD_VALUE, NOT_NUMBER, Read, Refusal};
+use super::refusals::{Answer, BAD_VALUE, Read, Refusal};
 
 fn reader<T>(line: &[u8], kind: u8, allowed: bool, rule: impl Fn(&[u8]) -> Read<T>) -> Answer<T> {
     if !allowed || line.first() != Some(&kind) {
@@ -12,15 +12,30 @@ fn reader<T>(line: &[u8], kind: u8, allowed: bool, rule: impl Fn(&[u8]) -> Read<
     rule(line).map_err(|fault| fault.at(0))
 }
 
-pub fn read_fix(line: &[u8], layout: &Layout) -> Answer<Fix> {
-    reader(line, b'B', layout.is_allowed(Family::Fixes), |l| fix_line(l, layout))
+/// "The fix (for K and N lines the time), and for each entry, in layout order, up to 13, its code, first and last byte."
+#[derive(Clone, PartialEq, Eq, Debug)]
+pub struct WithColumns<T> {
+    pub said: T,
+    pub columns: Vec<Entry>,
 }
 
-/// A K line by a J layout, or an N line by an M layout: its time.
-pub fn read_extra(line: &[u8], layout: &Layout) -> Answer<u32> {
+/// What a line says, with the columns of the layout that it was read by.
+fn with_columns<T>(said: T, layout: &Layout) -> WithColumns<T> {
+    WithColumns { said, columns: layout.entries.clone() }
+}
+
+/// A B line by an I layout: its fix and its columns.
+pub fn read_fix(line: &[u8], layout: &Layout) -> Answer<WithColumns<Fix>> {
+    let fix = reader(line, b'B', layout.is_allowed(Family::Fixes), |l| fix_line(l, layout))?;
+    Ok(with_columns(fix, layout))
+}
+
+/// A K line by a J layout, or an N line by an M layout: its time and its columns.
+pub fn read_extra(line: &[u8], layout: &Layout) -> Answer<WithColumns<u32>> {
     let family = Family::of_line(line).unwrap_or(Family::Extras);
     let allowed = family != Family::Fixes && layout.is_allowed(family);
-    reader(line, family.kind(), allowed, |l| extra_line(l, family, layout))
+    let time = reader(line, family.kind(), allowed, |l| extra_line(l, family, layout))?;
+    Ok(with_columns(time, layout))
 }
 
 pub fn read_date(line: &[u8]) -> Answer<Date> {
@@ -45,20 +60,4 @@ pub fn read_point(line: &[u8]) -> Answer<Point> {
 
 pub fn read_layout(line: &[u8], family: Family) -> Answer<Layout> {
     reader(line, family.layout_kind(), true, |l| layout_line(l, family))
-}
-
-/// The column of a code in a B line by an I layout, in a K line by a J layout, or in an N line by an M layout.
-pub fn read_column(line: &[u8], layout: &Layout, code: &[u8]) -> Answer<Entry> {
-    if line.first() == Some(&b'B') {
-        read_fix(line, layout)?;
-    } else {
-        read_extra(line, layout)?;
-    }
-    layout.look_up(code).ok_or(Refusal::of(ABSENT))
-}
-
-/// A column as a whole number.
-pub fn read_number(line: &[u8], layout: &Layout, code: &[u8]) -> Answer<i64> {
-    let entry = read_column(line, layout, code)?;
-    whole_number(entry.text(line)).ok_or(Refusal::of(NOT_NUMBER))
 }

@@ -32,7 +32,7 @@ fn records(file: &[u8], said: &Accepted) -> Vec<Record> {
         }
         before = now;
         if text[0] == b'B' {
-            records.push(Record { line: number, day, fix: read_fix(text, &said.layouts.fixes).unwrap() });
+            records.push(Record { line: number, day, fix: read_fix(text, &said.layouts.fixes).unwrap().said });
         }
     }
     records

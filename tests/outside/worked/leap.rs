@@ -2,9 +2,7 @@
 
 use super::*;
 use outside::reading::listing::listing;
-use outside::reading::{
-    Date, Fix, Head, Position, read_event, read_extra, read_fix, read_head, read_satellites, write_extra, write_fix, write_head,
-};
+use outside::reading::{Date, Fix, Head, Position, read_event, read_head, read_satellites, write_extra, write_fix, write_head};
 
 /// Times with 60 seconds that are no leap second, and times past it.
 const NONE: [&str; 9] = ["235961", "235969", "240000", "236000", "235860", "225960", "120060", "000060", "245960"];
@@ -16,18 +14,18 @@ fn fix_at(time: &str) -> String {
 #[test]
 fn in_every_time_field() {
     let none = Layout::default();
-    assert_eq!(read_fix(fix_at("235960").as_bytes(), &none).map(|f| f.time), Ok(86_400));
-    assert_eq!(read_extra(b"K235960", &none), Ok(86_400));
-    assert_eq!(read_extra(b"N235960", &none), Ok(86_400));
+    assert_eq!(fix_of(fix_at("235960").as_bytes(), &none).map(|f| f.time), Ok(86_400));
+    assert_eq!(time_of(b"K235960", &none), Ok(86_400));
+    assert_eq!(time_of(b"N235960", &none), Ok(86_400));
     assert_eq!(read_event(b"E235960PEV"), Ok(86_400));
     assert_eq!(read_satellites(b"F235960"), Ok(86_400));
     assert_eq!(read_head(b"C150724235960000000000100").map(|h| h.time), Ok(86_400));
     // the second before is as it was
-    assert_eq!(read_extra(b"K235959", &none), Ok(86_399));
+    assert_eq!(time_of(b"K235959", &none), Ok(86_399));
     for wrong in NONE {
-        assert_eq!(read_fix(fix_at(wrong).as_bytes(), &none), no(22, 2), "B {wrong}");
-        assert_eq!(read_extra(format!("K{wrong}").as_bytes(), &none), no(22, 2), "K {wrong}");
-        assert_eq!(read_extra(format!("N{wrong}").as_bytes(), &none), no(22, 2), "N {wrong}");
+        assert_eq!(fix_of(fix_at(wrong).as_bytes(), &none), no(22, 2), "B {wrong}");
+        assert_eq!(time_of(format!("K{wrong}").as_bytes(), &none), no(22, 2), "K {wrong}");
+        assert_eq!(time_of(format!("N{wrong}").as_bytes(), &none), no(22, 2), "N {wrong}");
         assert_eq!(read_event(format!("E{wrong}PEV").as_bytes()), no(22, 2), "E {wrong}");
         assert_eq!(read_satellites(format!("F{wrong}").as_bytes()), no(22, 2), "F {wrong}");
         assert_eq!(read_head(format!("C150724{wrong}000000000100").as_bytes()), no(22, 8), "C {wrong}");

@@ -6,6 +6,7 @@ mod files;
 mod layouts;
 mod leap;
 mod lines;
+mod looks;
 mod made;
 mod marked;
 mod merged;
@@ -18,7 +19,7 @@ mod track;
 mod unsigned;
 mod writers;
 
-use outside::reading::{Answer, Entry, Layout, Refusal, check_strict, check_usual};
+use outside::reading::{Answer, Entry, Fix, Layout, Refusal, check_strict, check_usual, look, look_number, read_extra, read_fix};
 
 const A: &str = "AXYZ001";
 const DATE: &str = "HFDTE150724";
@@ -105,10 +106,41 @@ fn no<T>(number: u32, byte: u64) -> Answer<T> {
     Err(Refusal { number, line: 0, byte })
 }
 
+/// Entries from first byte, last byte and code.
+fn entries(all: &[(usize, usize, &str)]) -> Vec<Entry> {
+    all.iter().map(|&(first, last, code)| Entry { first, last, code: code.as_bytes().try_into().unwrap() }).collect()
+}
+
 /// A layout from its entries.
-fn layout(entries: &[(usize, usize, &str)]) -> Layout {
-    let entry = |&(first, last, code): &(usize, usize, &str)| Entry { first, last, code: code.as_bytes().try_into().unwrap() };
-    Layout { entries: entries.iter().map(entry).collect() }
+fn layout(all: &[(usize, usize, &str)]) -> Layout {
+    Layout { entries: entries(all) }
+}
+
+/// The fix of a B line, without its columns.
+fn fix_of(line: &[u8], y: &Layout) -> Answer<Fix> {
+    read_fix(line, y).map(|read| read.said)
+}
+
+/// The time of a K or an N line, without its columns.
+fn time_of(line: &[u8], y: &Layout) -> Answer<u32> {
+    read_extra(line, y).map(|read| read.said)
+}
+
+/// The columns of a B, K or N line.
+fn columns_of(line: &str, y: &Layout) -> Answer<Vec<Entry>> {
+    let line = line.as_bytes();
+    if line.starts_with(b"B") { read_fix(line, y).map(|read| read.columns) } else { read_extra(line, y).map(|read| read.columns) }
+}
+
+/// The text of a column, by a reading of its line and a look into that answer.
+fn text(line: &str, y: &Layout, code: &[u8; 3]) -> Answer<String> {
+    let found = look(line.as_bytes(), &columns_of(line, y)?, code)?;
+    Ok(String::from_utf8(found.text(line.as_bytes()).to_vec()).unwrap())
+}
+
+/// That column as a number.
+fn number(line: &str, y: &Layout, code: &[u8; 3]) -> Answer<i64> {
+    look_number(line.as_bytes(), &columns_of(line, y)?, code)
 }
 
 /// FXA at 36 to 38, SIU at 39 and 40: what I2 tells.

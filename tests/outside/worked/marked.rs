@@ -2,10 +2,10 @@
 
 use super::*;
 use outside::reading::listing::listing;
-use outside::reading::{Date, Family, LIMIT, Point, Position, read_date, read_extra, read_fix, read_layout, read_point};
+use outside::reading::{Date, Family, LIMIT, Point, Position, read_date, read_layout, read_point};
 
-fn fix(p: Parts) -> Answer<outside::reading::Fix> {
-    read_fix(b(p).as_bytes(), &Layout::default())
+fn fix(p: Parts) -> Answer<Fix> {
+    fix_of(b(p).as_bytes(), &Layout::default())
 }
 
 #[test]
@@ -41,9 +41,9 @@ fn marked_4() {
 
 #[test]
 fn marked_5() {
-    assert_eq!(read_extra(b"K235959", &Layout::default()), Ok(86_399));
-    assert_eq!(read_extra(b"K235960", &Layout::default()), Ok(86_400));
-    assert_eq!(read_extra(b"K235961", &Layout::default()), no(22, 2));
+    assert_eq!(time_of(b"K235959", &Layout::default()), Ok(86_399));
+    assert_eq!(time_of(b"K235960", &Layout::default()), Ok(86_400));
+    assert_eq!(time_of(b"K235961", &Layout::default()), no(22, 2));
     assert_eq!(fix(Parts { time: "235959", ..PARTS }).map(|f| f.time), Ok(86_399));
     assert_eq!(fix(Parts { time: "235960", ..PARTS }).map(|f| f.time), Ok(86_400));
     assert_eq!(fix(Parts { time: "235961", ..PARTS }), no(22, 2));

@@ -1,9 +1,7 @@
 //! The readers of one line.
 
 use super::*;
-use outside::reading::{
-    Date, Fix, Head, Point, Position, read_column, read_event, read_extra, read_fix, read_head, read_number, read_point, read_satellites,
-};
+use outside::reading::{Date, Head, Point, Position, WithColumns, read_event, read_head, read_point, read_satellites};
 
 fn at(count: u64, letter: u8) -> Position {
     Position { count, letter }
@@ -11,11 +9,14 @@ fn at(count: u64, letter: u8) -> Position {
 
 #[test]
 fn fixes() {
-    let read = |line: &str, y: &Layout| read_fix(line.as_bytes(), y);
+    let read = |line: &str, y: &Layout| fix_of(line.as_bytes(), y);
     let none = Layout::default();
     let expected =
         Fix { time: 43_200, latitude: at(3_090_000, b'N'), longitude: at(15_000, b'W'), validity: b'A', pressure: 100, gnss: 120 };
     assert_eq!(read(B40, &two_columns()), Ok(expected));
+    let columns = entries(&[(36, 38, "FXA"), (39, 40, "SIU")]);
+    assert_eq!(read_fix(B40.as_bytes(), &two_columns()), Ok(WithColumns { said: expected, columns }));
+    assert_eq!(read_fix(B35.as_bytes(), &none), Ok(WithColumns { said: expected, columns: vec![] }));
     let south = Fix { latitude: at(0, b'S'), longitude: at(0, b'W'), validity: b'V', ..expected };
     assert_eq!(read(&b(Parts { lat: "0000000S", lon: "00000000W", validity: "V", ..PARTS }), &none), Ok(south));
     assert_eq!(read(B40, &none), no(7, 0));
@@ -37,7 +38,10 @@ fn fixes() {
         assert_eq!(read(&format!("{B35}{text}"), &layout(&entries)), no(17, 0), "{entries:?}");
     }
     assert_eq!(read(&format!("{B35}{}", "0".repeat(14)), &narrow_columns(14)), no(17, 0));
-    assert!(read(&format!("{B35}{}", "0".repeat(13)), &narrow_columns(13)).is_ok());
+    // 13 columns, in layout order
+    let thirteen = columns_of(&format!("{B35}{}", "0".repeat(13)), &narrow_columns(13)).unwrap();
+    assert_eq!(thirteen.iter().map(|e| (e.first, e.last)).collect::<Vec<_>>(), (36..49).map(|n| (n, n)).collect::<Vec<_>>());
+    assert_eq!((&thirteen[0].code, &thirteen[12].code), (b"Z00", b"Z12"));
 }
 
 #[test]
@@ -45,10 +49,8 @@ fn columns() {
     let four = layout(&[(36, 38, "FXA"), (39, 42, "ZZZ"), (43, 45, "FLP"), (46, 65, "WWW")]);
     let line = |z: &str, f: &str| format!("{B35}012{z}{f}{}", "1".repeat(20));
     let good = line("-000", "-07");
-    let text = |line: &str, y: &Layout, code: &[u8]| read_column(line.as_bytes(), y, code).map(|e| e.text(line.as_bytes()).to_vec());
-    let number = |line: &str, y: &Layout, code: &[u8]| read_number(line.as_bytes(), y, code);
-    assert_eq!(text(&good, &four, b"FXA"), Ok(b"012".to_vec()));
-    assert_eq!(text(&good, &four, b"ZZZ"), Ok(b"-000".to_vec()));
+    assert_eq!(text(&good, &four, b"FXA"), Ok("012".to_string()));
+    assert_eq!(text(&good, &four, b"ZZZ"), Ok("-000".to_string()));
     assert_eq!(text(&good, &four, b"ENL"), no(19, 0));
     assert_eq!(text(&good, &four, b"\xff\r\n"), no(19, 0));
     assert_eq!(number(&good, &four, b"FXA"), Ok(12));
@@ -64,7 +66,7 @@ fn columns() {
     assert_eq!(text(&format!("B{}", &good[2..]), &four, b"ENL"), no(7, 0));
     // how many digits, in B and K lines
     let nines = "9".repeat(18);
-    for (text, value) in [
+    for (digits, value) in [
         (nines.clone(), Some(999_999_999_999_999_999)),
         (format!("9{nines}"), None),
         (format!("-{nines}"), Some(-999_999_999_999_999_999)),
@@ -75,11 +77,12 @@ fn columns() {
         ("0".repeat(19), None),
     ] {
         let expected = value.map_or(no(20, 0), Ok);
-        assert_eq!(number(&format!("{B35}{text}"), &layout(&[(36, 35 + text.len(), "ZZZ")]), b"ZZZ"), expected, "{text} in B");
-        assert_eq!(number(&format!("K120000{text}"), &layout(&[(8, 7 + text.len(), "ZZZ")]), b"ZZZ"), expected, "{text} in K");
+        assert_eq!(number(&format!("{B35}{digits}"), &layout(&[(36, 35 + digits.len(), "ZZZ")]), b"ZZZ"), expected, "{digits} in B");
+        assert_eq!(number(&format!("K120000{digits}"), &layout(&[(8, 7 + digits.len(), "ZZZ")]), b"ZZZ"), expected, "{digits} in K");
     }
     // K lines take the J layout
-    assert_eq!(text("K12000012a", &layout(&[(8, 9, "LAD"), (10, 10, "ZZZ")]), b"ZZZ"), Ok(b"a".to_vec()));
+    assert_eq!(columns_of("K12000012a", &layout(&[(8, 9, "LAD"), (10, 10, "ZZZ")])), Ok(entries(&[(8, 9, "LAD"), (10, 10, "ZZZ")])));
+    assert_eq!(text("K12000012a", &layout(&[(8, 9, "LAD"), (10, 10, "ZZZ")]), b"ZZZ"), Ok("a".to_string()));
     assert_eq!(text("K12000012a", &two_columns(), b"FXA"), no(17, 0));
     assert_eq!(text(B40, &layout(&[(8, 9, "LAD")]), b"LAD"), no(17, 0));
     assert_eq!(text("E120000PEV", &Layout::default(), b"LAD"), no(17, 0));
@@ -89,11 +92,11 @@ fn columns() {
 
 #[test]
 fn extras_heads_and_points() {
-    assert_eq!(read_extra(b"K000000", &Layout::default()), Ok(0));
-    assert_eq!(read_extra(b"K000000", &layout(&[(8, 8, "ZZZ")])), no(7, 0));
-    assert_eq!(read_extra(b"K000000", &layout(&[(36, 38, "FXA")])), no(17, 0));
-    assert_eq!(read_extra(b"J000000", &Layout::default()), no(17, 0));
-    assert_eq!(read_extra(b"", &Layout::default()), no(17, 0));
+    assert_eq!(time_of(b"K000000", &Layout::default()), Ok(0));
+    assert_eq!(time_of(b"K000000", &layout(&[(8, 8, "ZZZ")])), no(7, 0));
+    assert_eq!(time_of(b"K000000", &layout(&[(36, 38, "FXA")])), no(17, 0));
+    assert_eq!(time_of(b"J000000", &Layout::default()), no(17, 0));
+    assert_eq!(time_of(b"", &Layout::default()), no(17, 0));
     let declared = Date { day: 15, month: 7, year: 2024 };
     let flight = Some(Date { day: 16, month: 7, year: 2024 });
     assert_eq!(read_head(b"C150724110001160724123402Task one"), Ok(Head { declared, time: 39_601, flight, task: 1234, turns: 2 }));
@@ -106,7 +109,7 @@ fn extras_heads_and_points() {
     assert_eq!(read_point(HEAD.as_bytes()), no(23, 2));
     assert_eq!(read_head(format!("{POINT}LANDING").as_bytes()), no(25, 2));
     assert_eq!(read_head(b"C150724116001160724123402"), no(22, 8));
-    assert_eq!(read_extra(b"K000060", &Layout::default()), no(22, 2));
+    assert_eq!(time_of(b"K000060", &Layout::default()), no(22, 2));
     assert_eq!(read_point(b"C"), no(7, 0));
     assert_eq!(read_point(b""), no(17, 0));
 }

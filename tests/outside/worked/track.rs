@@ -3,7 +3,7 @@
 use super::*;
 use outside::files::Run;
 use outside::files::reached_track::{Reached, rooms};
-use outside::reading::{Fix, Position, Record, read_fix, track, track_into, tracked};
+use outside::reading::{Position, Record, track, track_into, tracked};
 
 fn fix_at(time: &str) -> String {
     b(Parts { time, ..PARTS })
@@ -191,7 +191,7 @@ fn of_any_file() {
         assert_eq!(records.iter().map(|r| r.line).collect::<Vec<_>>(), of_b, "file {n}");
         for r in records {
             let before = &lines[..r.line as usize];
-            assert_eq!(read_fix(before[before.len() - 1], &said.layouts.fixes), Ok(r.fix), "file {n}");
+            assert_eq!(fix_of(before[before.len() - 1], &said.layouts.fixes), Ok(r.fix), "file {n}");
             // A fall that is no new day is refused, so that each one up to here was a new day. HHMMSS falls where its text does.
             let clocks: Vec<&[u8]> = before.iter().filter(|l| b"BEFKN".contains(&l[0])).map(|l| &l[1..7]).collect();
             assert_eq!(r.day, clocks.windows(2).filter(|two| two[1] < two[0]).count() as u64, "file {n}");

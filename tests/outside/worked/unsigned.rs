@@ -3,9 +3,7 @@
 use super::*;
 use outside::files::examples::UNSIGNED;
 use outside::reading::listing::listing;
-use outside::reading::{
-    Family, column_given, layout_given, read_column, read_extra, read_layout, read_number, write_extra, write_layout, write_layout_given,
-};
+use outside::reading::{Family, column_given, layout_given, read_layout, write_extra, write_layout, write_layout_given};
 
 /// HRT at 8 to 10, OXY at 11 to 13: what M2 tells.
 const M2: &str = "M020810HRT1113OXY";
@@ -25,8 +23,8 @@ fn the_standards_own() {
     // 9 bytes, 13, 19, 15
     assert_eq!(table, [0, 9, 22, 41, 56, 7]);
     assert_eq!(listing(UNSIGNED), "OK 5 0 0 35 7 1 13\n");
-    assert_eq!(read_number(N13.as_bytes(), &heart(), b"HRT"), Ok(112));
-    assert_eq!(read_number(N13.as_bytes(), &heart(), b"OXY"), Ok(98));
+    assert_eq!(number(N13, &heart(), b"HRT"), Ok(112));
+    assert_eq!(number(N13, &heart(), b"OXY"), Ok(98));
 }
 
 #[test]
@@ -212,27 +210,28 @@ fn listings() {
 #[test]
 fn readers() {
     let (none, of_i) = (Layout::default(), layout(&[(36, 38, "FXA")]));
-    assert_eq!(read_extra(b"N000100", &none), Ok(60));
-    assert_eq!(read_extra(N13.as_bytes(), &heart()), Ok(43_200));
-    assert_eq!(read_extra(b"K120000112098", &heart()), Ok(43_200));
-    assert_eq!(read_extra(N13.as_bytes(), &none), no(7, 0));
-    assert_eq!(read_extra(N13.as_bytes(), &of_i), no(17, 0));
-    assert_eq!(read_extra(b"N", &of_i), no(17, 0));
-    assert_eq!(read_extra(b"N126000", &none), no(22, 2));
+    assert_eq!(time_of(b"N000100", &none), Ok(60));
+    assert_eq!(time_of(N13.as_bytes(), &heart()), Ok(43_200));
+    assert_eq!(time_of(b"K120000112098", &heart()), Ok(43_200));
+    assert_eq!(time_of(N13.as_bytes(), &none), no(7, 0));
+    assert_eq!(time_of(N13.as_bytes(), &of_i), no(17, 0));
+    assert_eq!(time_of(b"N", &of_i), no(17, 0));
+    assert_eq!(time_of(b"N126000", &none), no(22, 2));
     for other in ["M000000", "O000000", "E000000PEV", "B000000", "J000000", "n000000", ""] {
-        assert_eq!(read_extra(other.as_bytes(), &none), no(17, 0), "{other}");
+        assert_eq!(time_of(other.as_bytes(), &none), no(17, 0), "{other}");
     }
-    let text = |line: &str, y: &Layout, code: &[u8]| read_column(line.as_bytes(), y, code).map(|e| e.text(line.as_bytes()).to_vec());
-    assert_eq!(text(N13, &heart(), b"OXY"), Ok(b"098".to_vec()));
+    assert_eq!(columns_of(N13, &heart()), Ok(entries(&[(8, 10, "HRT"), (11, 13, "OXY")])));
+    assert_eq!(columns_of("N000100", &none), Ok(vec![]));
+    assert_eq!(text(N13, &heart(), b"OXY"), Ok("098".to_string()));
     assert_eq!(text(N13, &heart(), b"ENL"), no(19, 0));
     assert_eq!(text(N13, &of_i, b"FXA"), no(17, 0));
     assert_eq!(text(B35, &heart(), b"HRT"), no(17, 0));
     assert_eq!(text("O120000112098", &heart(), b"HRT"), no(17, 0));
     assert_eq!(text("N12000011209", &heart(), b"HRT"), no(7, 0));
-    assert_eq!(read_number(b"N120000 12-98", &heart(), b"HRT"), no(20, 0));
-    assert_eq!(read_number(b"N120000 12-98", &heart(), b"OXY"), Ok(-98));
-    assert_eq!(read_number(b"N120000 12-98", &heart(), b"ENL"), no(19, 0));
-    assert_eq!(read_number(b"N120000-12", &layout(&[(8, 10, "FXA")]), b"ENL"), no(13, 8));
+    assert_eq!(number("N120000 12-98", &heart(), b"HRT"), no(20, 0));
+    assert_eq!(number("N120000 12-98", &heart(), b"OXY"), Ok(-98));
+    assert_eq!(number("N120000 12-98", &heart(), b"ENL"), no(19, 0));
+    assert_eq!(number("N120000-12", &layout(&[(8, 10, "FXA")]), b"ENL"), no(13, 8));
     // given as a text, a layout has its kind: of J for K lines, of M for N lines
     assert_eq!(layout_given(M2.as_bytes(), Family::Unsigned), Some(heart()));
     assert_eq!(layout_given(M2.as_bytes(), Family::Extras), None);

@@ -1,18 +1,22 @@
 -- `read::fix` meets its contract: by a layout that is allowed it is what `known` reads. Assumes nothing.
-use mathlib.Core.Path.{sym, _∙_}
+use mathlib.Core.Path.{refl, sym, _∙_, ap}
 use borrow.Author.Needs.{needs}
 use borrow.Author.Tests.{not-true, not-false}
-use Rattle.rules.specs.Reads.{fixTold}
-use Rattle.known.proofs.Laws.{fix-allowed, fix-not-allowed}
+use Rattle.rules.specs.Reads.{answered, fixTold, fixReadingTold}
+use Rattle.known.proofs.Laws.{fix-read, fix-not-read, told-refused}
 use Rattle.read.proofs.fix.Statement.{statement}
 use Rattle.read.proofs.fix.Tie as tie
 
+returns : tie.Need-returns
+unfolding fixTold fixReadingTold
+returns c = told-refused _ _ _ refl (c .empty-layout .ensures) ∙ ap answered (fix-not-read _ _ (sym (c .before .before .allowed .ensures) ∙ not-true _ (c .before .if1 .taken)))
+
 pub fix-spec : {M : Type 1} → statement M
-unfolding fixTold
 fix-spec =
     tie.close
     (tie.spec
     (λ c κs. search needs)
-    (λ c. fix-not-allowed _ _ (sym (c .before .allowed .ensures) ∙ not-true _ (c .if1 .taken)))
     (λ c κs. search needs)
-    (λ c. c .fix .ensures ∙ fix-allowed _ _ (sym (c .before .before .allowed .ensures) ∙ not-false _ (c .before .if1 .left))))
+    returns
+    (λ c κs. search needs)
+    (λ c. c .fix .ensures ∙ ap answered (fix-read _ _ (sym (c .before .before .allowed .ensures) ∙ not-false _ (c .before .if1 .left)))))

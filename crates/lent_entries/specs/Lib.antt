@@ -1,0 +1,2 @@
+-- The entries of a reading as a lent list of numbers.
+pub mod Lent
