@@ -1,5 +1,4 @@
 -- What a layout is that a line tells, and the families one by one.
-pub mod Each
 pub mod Families
 pub mod Entries
 pub mod Placed
