@@ -15,7 +15,7 @@ use lib.ListN.{length, getD}
 use Rattle.rules.specs.Choice.{given, firstOf, bytes}
 use Rattle.rules.specs.Refusals.{says, refuses, number}
 use Rattle.rules.specs.Fields.{isEither, yearOf}
-use Rattle.rules.specs.Degrees.{quotient, isNegated, angle, isPosition, degreesOf}
+use Rattle.rules.specs.Degrees.{quotient, isNegated, angle, isFinePosition, degreesOf}
 use Rattle.rules.specs.Listed.{listed, unlisted, listedNumber, packedOf}
 use Rattle.rules.specs.Layouts.{emptyLayout, allowed}
 use Rattle.rules.specs.Order.{onward, nextDay, back, passing}
@@ -24,7 +24,7 @@ use Rattle.rules.specs.Reads.{layoutSaid}
 use Rattle.rules.specs.Writes.{isFix, written, outAfter, wroteTold}
 use Rattle.rules.specs.Promises.{Written}
 use Rattle.rules.specs.declared.Refusal.{Refusal}
-use Rattle.rules.specs.declared.Position.{Position}
+use Rattle.rules.specs.declared.FinePosition.{FinePosition}
 use Rattle.rules.specs.declared.Listed.{Listed}
 use Rattle.rules.specs.declared.Family.the-variants as family
 use Rattle.rules.specs.declared.Fix.{Fix}
@@ -81,20 +81,24 @@ long-leaves seal file table h = rw (long-file seal file (some (length table)) h)
 
 -- ---- degrees
 
--- "plain zero for count 0 under either letter"
-pub zero-plain : (letter : ℕ) → angle (record { count = 0; letter = letter }) ≡ fin false 0 (pos 0)
+-- "plain zero for count 0 under either letter", whatever its decimals: without them, and with the most
+pub zero-plain : (letter : ℕ) → angle (record { count = 0; letter = letter; decimals = 0 }) ≡ fin false 0 (pos 0)
 unfolding angle isNegated quotient round
 zero-plain letter = refl
 
-abbrev north : Position
-north = record { count = 3090000; letter = code "N" }
+pub zero-plain-finer : (letter : ℕ) → angle (record { count = 0; letter = letter; decimals = 4 }) ≡ fin false 0 (pos 0)
+unfolding angle isNegated quotient round
+zero-plain-finer letter = refl
 
-abbrev west : Position
-west = record { count = 15000; letter = code "W" }
+abbrev north : FinePosition
+north = record { count = 3090000; letter = code "N"; decimals = 0 }
+
+abbrev west : FinePosition
+west = record { count = 15000; letter = code "W"; decimals = 0 }
 
 -- "the count over 60,000, one rounded division, negated for S and W": 51.5, which is 103 times 2^-1, and -0.25
 pub degrees-of-five : degreesOf north west ≡ says (record { lat = fin false 103 (negsuc 0); lon = fin true 1 (negsuc 1) })
-unfolding degreesOf isPosition isEither angle isNegated quotient round neg
+unfolding degreesOf isFinePosition isEither angle isNegated quotient round neg
 degrees-of-five = refl
 
 -- ---- listed codes
@@ -159,8 +163,8 @@ allowed-for = refl
 -- a fix that is well but for what is given
 abbrev fixWith : ℕ → ℕ → ℤ → Fix
 fixWith count letter metres = record {
-  time = 43200;
-  lat = record { count = count; letter = letter };
+  time = record { count = 43200; decimals = 0 };
+  lat = record { count = count; letter = letter; decimals = 0 };
   lon = west;
   validity = code "A";
   pressure = record { metres = metres };
