@@ -3,7 +3,7 @@ use Prim.Native.Nat.{ℕ, zero, suc, _+_, _*_, _/_, _%_, _^_, _≤_, _<_}
 use mathlib.Core.Bool.{Bool, true, false}
 use mathlib.Core.List.{List, [], _∷_, _++_, append-nil}
 use mathlib.Core.Path.{_≡_, refl, sym, ap, ap₂, _∙_}
-use native.Mathlib.Nat.{zero-add, pow-suc}
+use native.Mathlib.Nat.{zero-add, pow-suc, mod-lt}
 use native.Mathlib.Omega.{arith}
 use borrow.Author.Tests.{le-leb, eq-eqb, ne-eqb}
 use lib.ListN.{length, getD, take, drop, drop-of-length-le}
@@ -22,7 +22,7 @@ use Rattle.pieces.proofs.Laws.{then, nothing}
 use Rattle.put.proofs.Laws.{digits-length}
 use Rattle.spell.proofs.Laws.{time-length}
 use Rattle.tens.specs.Tens.{fewOf, powerOf}
-use Rattle.tens.proofs.Laws.{by-few, few-most, power-all}
+use Rattle.tens.proofs.Laws.{by-few, power-all, told-least, told-most}
 use Rattle.trail.specs.Trail.{colons, behindDot, extraShown, shownSeconds, shownClock, unitsOf, withDecimals, shownDegrees}
 
 -- ---- digits in a buffer of their own
@@ -65,7 +65,8 @@ pub seconds-fill : (out after six zeros : List ℕ) (at r t : ℕ) → length ze
 unfolding shownSeconds
 seconds-fill out after six zeros at r t h e p =
     let long = time-length t in
-    let none : drop (length (timeText t)) zeros ≡ [] = drop-of-length-le zeros (omega arith) in
+    let short : length zeros ≤ length (timeText t) = omega arith in
+    let none : drop (length (timeText t)) zeros ≡ [] = drop-of-length-le zeros short in
     let d : six ≡ timeText t = e ∙ fronted zeros (timeText t) (omega arith) ∙ rw none (append-nil (timeText t)) in
     rw (clock-apart t, ← d) p
 
@@ -97,7 +98,15 @@ parted : (count n : ℕ) → n ≤ 4 → Parted count n
 unfolding unitsOf
 parted count = by-few (Parted count) (omega arith, omega arith) (omega arith, omega arith) (omega arith, omega arith) (omega arith, omega arith) (omega arith, omega arith)
 
--- so many degrees, a dot, and the digits of the rest: whole is what was told of 60,000 times the power of ten
+-- what is divided by is no 0, and what is left of the count is small: p is the power of ten that was told
+module _ (n count p : ℕ) (e : p ≡ powerOf n) where
+  pub whole-least : 0 < 60000 * p
+  whole-least = omega (arith, told-least n p e)
+
+  pub rest-below : count % (60000 * p) < 600000000
+  rest-below = omega (arith, mod-lt count whole-least, told-most n p e)
+
+-- so many degrees, a dot, and the digits of the rest: p is the power of ten that was told
 pub degrees-fill : (out mid after : List ℕ) (at m r n count p : ℕ) → n ≤ 4 → p ≡ powerOf n → PiecePut out at (decimal (count / (60000 * p))) m mid
     → PiecePut mid m (behindDot (6 + n) ((count % (60000 * p) * 50 + 1) / 3)) r after → PiecePut out at (withDecimals (6 + n) (unitsOf count)) r after
 unfolding withDecimals behindDot
