@@ -20,7 +20,7 @@ use Rattle.rules.specs.declared.Family.{Family}
 use Rattle.rules.specs.declared.Family.the-variants as family
 use Rattle.rules.proofs.Inverse.{none-some}
 use Rattle.basics.proofs.Presence.{set-bits, count-bits}
-use Rattle.sound.proofs.Each.{each-map}
+use Rattle.trips.proofs.Each.{each-map}
 use Rattle.sound.proofs.Entries.{packed-back}
 use Rattle.sound.proofs.Placed.{Coded, allowed-there, carries-none}
 use Rattle.sound.proofs.Columns.{carried-there}

@@ -33,7 +33,7 @@ use Rattle.words.specs.Characters.{IsValid}
 use Rattle.words.proofs.Codes.{rule-exactly}
 use Rattle.demands.specs.Grammar.{widthOf, IsEntry, Tiles, Columns, none, column}
 use Rattle.demands.specs.Readings.{Spells, plain, minus, NumberOf, ReadsColumn, columnTexts, IsName, ReadsColumns}
-use Rattle.sound.proofs.Each.{each-map, each-both, each-join, each-cut, nothing-found, none-found}
+use Rattle.trips.proofs.Each.{each-map, each-both, each-join, each-cut, nothing-found, none-found}
 use Rattle.sound.proofs.Entries.{unpacked, packed-back}
 use Rattle.sound.proofs.Placed.{Coded, Sound, allowed-there}
 use Rattle.sound.proofs.Columns.{each-looked, end-of, line-end}

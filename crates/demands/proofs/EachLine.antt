@@ -51,7 +51,7 @@ use Rattle.words.specs.Characters.{IsValid, IsCode}
 use Rattle.words.proofs.Characters.{valid-exactly, code-exactly, codes-exactly}
 use Rattle.words.proofs.Values.{either-exactly, time-exactly, latitude-exactly, longitude-exactly, fix-exactly}
 use Rattle.demands.specs.Grammar.{Shaped, IsALine, IsDateLine, IsHLine, IsDLine, IsELine, IsFLine, IsLLine, IsGLine, IsOtherLine, Columns, IsBLine, IsExtraLine, IsColumned, IsHeadLine, IsPointLine}
-use Rattle.sound.proofs.Each.{each-map, each-cut}
+use Rattle.trips.proofs.Each.{each-map, each-cut}
 use Rattle.demands.proofs.Laws.{day-exactly, planned-exactly, are-valid, shape-there, shape-said, valid-are}
 use Rattle.demands.proofs.LayoutLines.{IsTold}
 use Rattle.demands.proofs.Columns.{tail-exactly}

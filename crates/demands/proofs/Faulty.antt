@@ -37,7 +37,7 @@ use Rattle.demands.specs.Checks.{isThere, Check, check, AllPass, FailsFi
 use Rattle.demands.specs.Grammar.{laid}
 use Rattle.demands.proofs.Leading.{letter-tests}
 use Rattle.demands.proofs.Standing.{only-without, none-open, declaration-told, laid-out, Stands}
-use Rattle.sound.proofs.Each.{each-join}
+use Rattle.trips.proofs.Each.{each-join}
 use Rattle.sound.proofs.Families.{none-pass}
 use Rattle.sound.proofs.Placed.{with-laid, entries-laid}
 use Rattle.sound.proofs.Columns.{end-of, line-end}

@@ -30,7 +30,7 @@ use Rattle.rules.specs.declared.Family.{Family}
 use Rattle.rules.specs.declared.Family.the-variants as family
 use Rattle.rules.specs.declared.Position.{Position}
 use Rattle.rules.proofs.Inverse.{refuses-says, none-some, false-true, given-inv, need-inv, and-inv, not-inv}
-use Rattle.sound.proofs.Each.{each-map}
+use Rattle.trips.proofs.Each.{each-map}
 use Rattle.sound.proofs.Placed.{carries-none, none-carries, allowed-there}
 use Rattle.sound.proofs.Entries.{packed-back}
 use Rattle.demands.specs.Grammar.{laid}

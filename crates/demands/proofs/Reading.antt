@@ -48,7 +48,7 @@ use Rattle.demands.specs.Grammar.{IsDateLine, IsLayoutLine, IsHeadLine, 
 use Rattle.demands.specs.Grammar as grammar
 use Rattle.demands.specs.Coming.{isAmong}
 use Rattle.demands.specs.Readings.{Entered, ReadsFix, ReadsExtra, ReadsColumned, ReadsColumns, ReadsValue, ReadsLayout, ReadsPresence, ReadsLine, ReadsHead, ReadsPoint, NoC, ReadsDeclaration, nowhere, declared, total, Steps, Readable}
-use Rattle.sound.proofs.Each.{each-map, each-join, each-cut}
+use Rattle.trips.proofs.Each.{each-map, each-join, each-cut}
 use Rattle.sound.proofs.Families.{every, none-pass, line-role, tells-role}
 use Rattle.demands.proofs.EachLine.{e-said, f-said, start-low, fix-reads, extra-reads, fix-read, extra-read, reading-here, reading-there, columned-letter, columned-fields, head-reads, point-reads, head-said, point-said}
 use Rattle.demands.proofs.Readers.{date-exactly, event-exactly, satellite-exactly, on-map}

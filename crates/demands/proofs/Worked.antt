@@ -33,7 +33,7 @@ use Rattle.demands.specs.Coming.{isAmong}
 use Rattle.demands.specs.Grammar.{IsText, july, AtMostOne, absent, given, Timed, columned, event, satellites, Items, done, timed, untimed, Body, undeclared, declared, none, column, IsGLine, Parts, SealedBy, Keeps, linesIn, Meets, joinLines}
 use Rattle.laws.proofs.Splitting.{lines-are-text}
 use Rattle.demands.proofs.Sections.{text-is}
-use Rattle.sound.proofs.Each.{each-map, each-join, each-cut}
+use Rattle.trips.proofs.Each.{each-map, each-join, each-cut}
 use Rattle.sound.proofs.Families.{every, none-pass}
 use Rattle.demands.proofs.Laws.{are-valid}
 use Rattle.demands.proofs.EachLine.{columned-letter, head-said, point-said}

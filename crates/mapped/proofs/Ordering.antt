@@ -26,7 +26,7 @@ use Rattle.rules.specs.declared.State.{State}
 use Rattle.rules.proofs.Inverse.{false-true}
 use Rattle.laws.proofs.Passing.{roleIn, Onward}
 use Rattle.laws.proofs.Walking.{InStep, both-go}
-use Rattle.sound.proofs.Each.{each-map}
+use Rattle.trips.proofs.Each.{each-map}
 use Rattle.next_fix.specs.Track.{recordOf, recordsOf, trackFrom}
 use Rattle.next_fix.specs.declared.Record.{Record}
 use Rattle.track.proofs.Stepping.{other-said, fixed}

@@ -31,7 +31,7 @@ use Rattle.trips.proofs.Fixes.{fix-front}
 use Rattle.wider.specs.Wider.{textIn, KeepsRules, WiderLine}
 use Rattle.wider.specs.Before.{textSaid, AsBefore}
 use Rattle.wider.proofs.Families.{first-byte}
-use Rattle.sound.proofs.Each.{each-map, each-both}
+use Rattle.trips.proofs.Each.{each-map, each-both}
 use Rattle.sound.proofs.Placed.{Sound}
 use Rattle.sound.proofs.Looked.{read-fits, look-there}
 use Rattle.sound.proofs.Columns.{carried-there, each-at, each-looked, ruled-there, ruled-here, columns-valid}
