@@ -4,3 +4,4 @@ pub mod Entries
 pub mod Placed
 pub mod Columns
 pub mod Looked
+pub mod Fine

@@ -14,6 +14,7 @@ pub mod Points
 pub mod Placing
 pub mod Tails
 pub mod Refined
+pub mod AtLimits
 pub mod Columned
 pub mod Extras
 pub mod Heads
