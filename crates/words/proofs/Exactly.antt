@@ -22,6 +22,7 @@ use Rattle.rules.specs.Layouts.{emptyLayout, lineLength}
 use Rattle.rules.specs.declared.Extra.{Extra}
 use Rattle.rules.specs.declared.Extra.the-variants as extra
 use Rattle.rules.specs.declared.Family.the-variants as family
+use Rattle.rules.specs.declared.AtLimit.{AtLimit}
 use Rattle.rules.specs.declared.Position.{Position}
 use Rattle.rules.specs.declared.FinePosition.{FinePosition}
 use Rattle.rules.specs.declared.Height.{Height}
@@ -29,7 +30,7 @@ use Rattle.rules.specs.declared.FixFields.{FixFields}
 use Rattle.rules.specs.declared.Fix.{Fix}
 use Rattle.words.specs.Characters.{IsValid, IsDigit, IsCode, CodesAt}
 use Rattle.words.specs.Codes.{rows, RowSays, Holds, SameRows}
-use Rattle.words.specs.Finer.{IsPlain, IsFineLatitude, IsFineLongitude, IsAngle, OnlyZeros, Zeros}
+use Rattle.words.specs.Finer.{IsPlain, IsFineLatitude, IsFineLongitude, IsAngle, OnlyZeros, Zeros, AtLatitude, AtLongitude}
 use Rattle.words.specs.Values.{IsTime, IsLatitude, IsLongitude, IsAltitude, IsFixFields}
 use Rattle.words.proofs.Characters as characters
 use Rattle.words.proofs.Codes as codes
@@ -67,13 +68,17 @@ width-exactly = codes.width-exactly
 pub rule-exactly : (x : ℕ) (t : List ℕ) → (keepsRule x t ≡ true) ↔ RowSays x (λ p. Holds (p .name) t)
 rule-exactly = codes.rule-exactly
 
--- of a K or an N line, which has no coordinates, and of a B line: "LAD or LOD digits other than zeros break their column's rule where the plain count is already at its limit."
-pub off-limit-exactly : (x : ℕ) (t : List ℕ) → (keepsLimit offLimit x t ≡ true) ↔ RowSays x (λ p. Holds (p .name) t)
-off-limit-exactly = finer.off-limit-exactly
-
-pub limit-exactly : (f : FixFields) (x : ℕ) (t : List ℕ)
-    → (keepsLimit (atLimit f) x t ≡ true) ↔ (RowSays x (λ p. Holds (p .name) t) × (OnlyZeros f (codeText x) → Zeros t))
+-- "LAD or LOD digits other than zeros break their column's rule where the plain count is already at its limit."
+pub limit-exactly : (at : AtLimit) (AtLat AtLon : Type 0) → (at .lat ≡ true) ↔ AtLat → (at .lon ≡ true) ↔ AtLon → (x : ℕ) (t : List ℕ)
+    → (keepsLimit at x t ≡ true) ↔ (RowSays x (λ p. Holds (p .name) t) × (OnlyZeros AtLat AtLon (codeText x) → Zeros t))
 limit-exactly = finer.limit-exactly
+
+-- of a B line by its fields; a K or an N line has no coordinates
+pub at-limit-exactly : (f : FixFields) → ((atLimit f .lat ≡ true) ↔ AtLatitude f) × ((atLimit f .lon ≡ true) ↔ AtLongitude f)
+at-limit-exactly = finer.at-limit-exactly
+
+pub off-limit-exactly : ((offLimit .lat ≡ true) ↔ ⊥) × ((offLimit .lon ≡ true) ↔ ⊥)
+off-limit-exactly = finer.off-limit-exactly
 
 -- the codes of finer digits: of a time, a latitude and a longitude, and their numbers in the table
 pub finer-exactly : (codeText tds ≡ bytes "TDS") × (codeText lad ≡ bytes "LAD") × (codeText lod ≡ bytes "LOD")

@@ -14,9 +14,10 @@ use lib.Ieee.{Float, fin, neg}
 use Rattle.rules.specs.Choice.{leads, bytes}
 use Rattle.rules.specs.Fields.{isEither}
 use Rattle.rules.specs.Degrees.{quotient, isNegated, angle, isFinePosition, isFineLatitude, isFineLongitude}
-use Rattle.rules.specs.Listed.{packedOf, codeText, keepsLimit, offLimit, isZeros, isPast, lad, lod}
+use Rattle.rules.specs.Listed.{packedOf, codeText, keepsLimit, offLimit, isZeros, lad, lod}
 use Rattle.rules.specs.Lines.{atLimit}
 use Rattle.rules.specs.Fixes.{plain}
+use Rattle.rules.specs.declared.AtLimit.{AtLimit}
 use Rattle.rules.specs.declared.FinePosition.{FinePosition}
 use Rattle.rules.specs.declared.FixFields.{FixFields}
 use Rattle.rules.proofs.Inverse.{false-true, and-inv, need-inv}
@@ -24,7 +25,7 @@ use Rattle.laws.proofs.Settled.{zero-plain}
 use Rattle.trips.proofs.AtLimits.{AtLimits, limits-exactly}
 use Rattle.sound.proofs.Entries.{packed-back}
 use Rattle.words.specs.Codes.{RowSays, Holds}
-use Rattle.words.specs.Finer.{IsPlain, IsFineLatitude, IsFineLongitude, inDegrees, IsAngle, nought, negated, as-it-is, OnlyZeros, Zeros}
+use Rattle.words.specs.Finer.{IsPlain, IsFineLatitude, IsFineLongitude, inDegrees, IsAngle, nought, negated, as-it-is, OnlyZeros, Zeros, AtLatitude, AtLongitude}
 use Rattle.words.specs.Finer as finer
 use Rattle.words.proofs.Values.{either-exactly}
 use Rattle.words.proofs.Codes.{rule-exactly}
@@ -106,23 +107,27 @@ zeros-exactly (b ∷ t) = (
 named : (x : ℕ) (name : List ℕ) → codeText x ≡ name → x ≡ packedOf name
 named x name e = sym (packed-back x) ∙ ap packedOf e
 
-pub limit-exactly : (f : FixFields) (x : ℕ) (t : List ℕ)
-    → (keepsLimit (atLimit f) x t ≡ true) ↔ (RowSays x (λ p. Holds (p .name) t) × (OnlyZeros f (codeText x) → Zeros t))
-unfolding atLimit bytes
-limit-exactly f x t = (λ e. let w = limits-exactly (atLimit f) x t .0 e in (rule-exactly x t .0 (w .rule), there w), λ h. limits-exactly (atLimit f) x t .1 (here (h .0) (h .1)))
+pub limit-exactly : (at : AtLimit) (AtLat AtLon : Type 0) → (at .lat ≡ true) ↔ AtLat → (at .lon ≡ true) ↔ AtLon → (x : ℕ) (t : List ℕ)
+    → (keepsLimit at x t ≡ true) ↔ (RowSays x (λ p. Holds (p .name) t) × (OnlyZeros AtLat AtLon (codeText x) → Zeros t))
+unfolding bytes
+limit-exactly at AtLat AtLon a o x t = (λ e. let w = limits-exactly at x t .0 e in (rule-exactly x t .0 (w .rule), there w), λ h. limits-exactly at x t .1 (here (h .0) (h .1)))
   where
-    there : AtLimits (atLimit f) x t → OnlyZeros f (codeText x) → Zeros t
-    there w (finer.lad n c) = zeros-exactly t .0 (w .lat (eq-eqb _ _ c) (named x _ n))
-    there w (finer.lod n c) = zeros-exactly t .0 (w .lon (eq-eqb _ _ c) (named x _ n))
+    there : AtLimits at x t → OnlyZeros AtLat AtLon (codeText x) → Zeros t
+    there w (finer.lad n c) = zeros-exactly t .0 (w .lat (a .1 c) (named x _ n))
+    there w (finer.lod n c) = zeros-exactly t .0 (w .lon (o .1 c) (named x _ n))
 
-    here : RowSays x (λ p. Holds (p .name) t) → (OnlyZeros f (codeText x) → Zeros t) → AtLimits (atLimit f) x t
+    here : RowSays x (λ p. Holds (p .name) t) → (OnlyZeros AtLat AtLon (codeText x) → Zeros t) → AtLimits at x t
     here r z = record {
       rule = rule-exactly x t .1 r;
-      lat = λ c n. zeros-exactly t .1 (z (finer.lad (ap codeText n) (eqb-true _ _ c)));
-      lon = λ c n. zeros-exactly t .1 (z (finer.lod (ap codeText n) (eqb-true _ _ c)));
+      lat = λ c n. zeros-exactly t .1 (z (finer.lad (ap codeText n) (a .0 c)));
+      lon = λ c n. zeros-exactly t .1 (z (finer.lod (ap codeText n) (o .0 c)));
     }
 
--- a line without coordinates: the rule of the column's code
-pub off-limit-exactly : (x : ℕ) (t : List ℕ) → (keepsLimit offLimit x t ≡ true) ↔ RowSays x (λ p. Holds (p .name) t)
-unfolding keepsLimit isPast
-off-limit-exactly x t = rule-exactly x t
+-- which coordinates of a B line are at their limit
+pub at-limit-exactly : (f : FixFields) → ((atLimit f .lat ≡ true) ↔ AtLatitude f) × ((atLimit f .lon ≡ true) ↔ AtLongitude f)
+unfolding atLimit
+at-limit-exactly f = ((eqb-true _ _, eq-eqb _ _), (eqb-true _ _, eq-eqb _ _))
+
+-- a K or an N line has none
+pub off-limit-exactly : ((offLimit .lat ≡ true) ↔ ⊥) × ((offLimit .lon ≡ true) ↔ ⊥)
+off-limit-exactly = ((false-true, λ z. absurd z), (false-true, λ z. absurd z))

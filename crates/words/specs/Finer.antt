@@ -39,11 +39,19 @@ pub data IsAngle (p : FinePosition) : Float → Type 0 where
   negated : 1 ≤ p .count → (p .letter ≡ code "S") ⊎ (p .letter ≡ code "W") → IsAngle p (neg (inDegrees p))
   as-it-is : 1 ≤ p .count → (p .letter ≡ code "S" → ⊥) → (p .letter ≡ code "W" → ⊥) → IsAngle p (inDegrees p)
 
--- "LAD or LOD digits other than zeros break their column's rule where the plain count is already at its limit.": the columns that can only hold zeros
-pub data OnlyZeros (f : FixFields) (name : List ℕ) : Type 0 where
-  lad : name ≡ bytes "LAD" → f .lat .count ≡ 90 * 60 * 1000 → OnlyZeros f name
-  lod : name ≡ bytes "LOD" → f .lon .count ≡ 180 * 60 * 1000 → OnlyZeros f name
+-- "LAD or LOD digits other than zeros break their column's rule where the plain count is already at its limit.": the columns that can only hold zeros, where `AtLat` says that the
+-- latitude of their line is at its limit, and `AtLon` that the longitude is
+pub data OnlyZeros (AtLat AtLon : Type 0) (name : List ℕ) : Type 0 where
+  lad : name ≡ bytes "LAD" → AtLat → OnlyZeros AtLat AtLon name
+  lod : name ≡ bytes "LOD" → AtLon → OnlyZeros AtLat AtLon name
 
 -- a text of zeros
 abbrev pub Zeros : List ℕ → Type 0
 Zeros t = Each (λ b. b ≡ code "0") t
+
+-- "where the plain count is already at its limit": 90 degrees, and 180 degrees
+abbrev pub AtLatitude : FixFields → Type 0
+AtLatitude f = f .lat .count ≡ 90 * 60 * 1000
+
+abbrev pub AtLongitude : FixFields → Type 0
+AtLongitude f = f .lon .count ≡ 180 * 60 * 1000
