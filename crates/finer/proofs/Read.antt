@@ -20,9 +20,9 @@ use Rattle.trips.proofs.Times.{time-trip}
 use Rattle.finer.specs.Within.{within, timeWithin, positionWithin, fixWithin}
 use Rattle.finer.proofs.Laws.{is-within}
 
-pub fix-read : (l : List ℕ) (layout : Layout) (f : FixFields) → fieldsSaid family.B l layout ≡ says f → fixWithin l (finerOf layout) f ≡ fixOf l (finerOf layout) f
+pub read-within : (l : List ℕ) (layout : Layout) (f : FixFields) → fieldsSaid family.B l layout ≡ says f → fixWithin l (finerOf layout) f ≡ fixOf l (finerOf layout) f
 unfolding fixWithin timeWithin positionWithin fixOf finePosition
-fix-read l layout f e =
+read-within l layout f e =
     let w = by-said family.B l layout f e in
     let c = fix-front .passes layout l f .0 (w .2) .fields in
     let few = fine-most layout (w .1) in
@@ -43,4 +43,4 @@ pub fix-made : (l : List ℕ) (layout : Layout) (f : Fix) → fixSaid l layout �
 unfolding fixSaid
 fix-made l layout f e =
     let s = said-from (λ (l : List ℕ). fixOf l (finerOf layout)) fieldsOf (λ (l : List ℕ). fields-of-fix l (finerOf layout)) l (fieldsSaid family.B l layout) f e in
-    fix-read l layout (fieldsOf f) (s .0) ∙ s .1
+    read-within l layout (fieldsOf f) (s .0) ∙ s .1

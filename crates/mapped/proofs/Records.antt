@@ -33,6 +33,7 @@ use Rattle.laws.proofs.Splitting.{textsOf}
 use Rattle.laws.proofs.Walking.{columned-time, event-time, satellites-time}
 use Rattle.demands.specs.Grammar.{IsBLine, beginning}
 use Rattle.demands.specs.Readings.{ReadsLine}
+use Rattle.demands.proofs.EachLine.{fix-alone}
 use Rattle.next_fix.specs.Steps.{zeroRecord}
 use Rattle.next_fix.specs.Track.{recordsOf, trackFrom}
 use Rattle.next_fix.specs.declared.Record.{Record}
@@ -92,7 +93,7 @@ module _ (seal : Seal) (layouts : Layouts) (f : Flight) where
         after = g .after;
         judges = g .judges;
         good = record { runs = g .runs; reads = w .reads .1 };
-        fix = λ e. let x = w .reads .0 .columned family.B e in (x .fix, x .is, x .reads);
+        fix = λ e. let x = w .reads .0 .columned family.B e in (x .fix, x .is, fix-alone t layout _ (x .reads));
       }
 
   abbrev records : Walk → Lines → List Record
