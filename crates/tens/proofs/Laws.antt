@@ -61,3 +61,15 @@ power-least n = by-few (λ k. 1 ≤ 10 ^ k) (lit≤ tt) (lit≤ tt) (lit≤ tt) 
 pub power-most : (n : ℕ) → powerOf n ≤ 10000
 unfolding powerOf
 power-most n = by-few (λ k. 10 ^ k ≤ 10000) (lit≤ tt) (lit≤ tt) (lit≤ tt) (lit≤ tt) (lit≤ tt) (fewOf n) (few-most n)
+
+-- ---- what was told: r is the power, k how many decimals are taken
+
+module _ (n r : ℕ) (e : r ≡ powerOf n) where
+  pub told-least : 0 < r
+  told-least = omega (arith, power-least n)
+
+  pub told-most : r ≤ 10000
+  told-most = omega (arith, power-most n)
+
+pub told-few : (n k : ℕ) → k ≡ fewOf n → k ≤ 4
+told-few n k e = omega (arith, few-most n)
