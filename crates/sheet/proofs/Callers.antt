@@ -23,8 +23,8 @@ module _ {file : List ℕ} {from : Progress} {left : ℕ} {block after : List �
 
   pub sheet-less : 0 < left → r .left < left
   unfolding fewOf
-  sheet-less h = by (ltb 400 left) (s .rest)
+  sheet-less h = by (ltb 380 left) (s .rest)
     where
-      by : (t : Bool) → r .left ≡ left - cond t 400 left → r .left < left
+      by : (t : Bool) → r .left ≡ left - cond t 380 left → r .left < left
       by true e = omega arith
       by false e = omega arith

@@ -18,20 +18,20 @@ use Rattle.sheet.specs.Sheets.{fewOf, lineOf, linesFrom, afterSteps, She
 
 -- ---- how many
 
-pub few-most : (left : ℕ) → 400 < left → 400 ≡ fewOf left
+pub few-most : (left : ℕ) → 380 < left → 380 ≡ fewOf left
 unfolding fewOf
-few-most left h = rw (lt-ltb 400 left h)
+few-most left h = rw (lt-ltb 380 left h)
 
-pub few-all : (left : ℕ) → left ≤ 400 → left ≡ fewOf left
+pub few-all : (left : ℕ) → left ≤ 380 → left ≡ fewOf left
 unfolding fewOf
-few-all left h = rw (le-ltb 400 left h)
+few-all left h = rw (le-ltb 380 left h)
 
 pub few-within : (left n : ℕ) → n ≡ fewOf left → n ≤ left
 unfolding fewOf
-few-within left n e = by (ltb 400 left) refl e
+few-within left n e = by (ltb 380 left) refl e
   where
-    by : (t : Bool) → ltb 400 left ≡ t → n ≡ cond t 400 left → n ≤ left
-    by true g h = omega (arith, ltb-true 400 left g)
+    by : (t : Bool) → ltb 380 left ≡ t → n ≡ cond t 380 left → n ≤ left
+    by true g h = omega (arith, ltb-true 380 left g)
     by false g h = omega arith
 
 -- ---- one more

@@ -28,15 +28,15 @@ use Rattle.sheet.specs.declared.Sheet.{Sheet}
 
 -- ---- room
 
-few-room : (left : ℕ) → fewOf left ≤ 400
+few-room : (left : ℕ) → fewOf left ≤ 380
 unfolding fewOf
-few-room left = by (ltb 400 left) refl
+few-room left = by (ltb 380 left) refl
   where
-    by : (t : Bool) → ltb 400 left ≡ t → cond t 400 left ≤ 400
+    by : (t : Bool) → ltb 380 left ≡ t → cond t 380 left ≤ 380
     by true e = omega arith
-    by false e = ltb-false 400 left e
+    by false e = ltb-false 380 left e
 
-lines-room : (file : List ℕ) (from : Progress) (n : ℕ) → length (linesFrom file from n) ≤ 160 * n
+lines-room : (file : List ℕ) (from : Progress) (n : ℕ) → length (linesFrom file from n) ≤ 168 * n
 unfolding linesFrom
 lines-room file from zero = omega arith
 lines-room file from (suc n) =

@@ -13,7 +13,7 @@ use Rattle.sheet.specs.declared.Sheet.{Sheet}
 
 -- how many of the fixes that are left go on one sheet
 unfoldable pub fewOf : ℕ → ℕ
-fewOf left = cond (ltb 400 left) 400 left
+fewOf left = cond (ltb 380 left) 380 left
 
 -- a record's line
 abbrev pub lineOf : Record → List ℕ
