@@ -65,5 +65,5 @@ unfolding linesFrom recordsShown fixesFrom
 lines-shown file from zero = refl
 lines-shown file from (suc n) = ap (λ (l : List ℕ). lineOf (stepOf file from .found) ++ l) (lines-shown file (stepOf file from .next) n)
 
-pub track-whole : (file : List ℕ) (f : Flight) → verdict trackSeal file none ≡ says f → linesFrom file (startBy (fixSize f)) (countOf family.B (f .counts)) ≡ recordsShown (trackOf file (f .layouts .b))
-track-whole file f e = lines-shown file (startBy (fixSize f)) (countOf family.B (f .counts)) ∙ ap recordsShown (found-all file f e)
+pub track-whole : (file : List ℕ) (f : Flight) → verdict trackSeal file none ≡ says f → linesFrom file (startBy (fixSize f) (f .layouts .b)) (countOf family.B (f .counts)) ≡ recordsShown (trackOf file (f .layouts .b))
+track-whole file f e = lines-shown file (startBy (fixSize f) (f .layouts .b)) (countOf family.B (f .counts)) ∙ ap recordsShown (found-all file f e)
