@@ -1,4 +1,4 @@
--- Document 01's rules of a whole file as a grammar, with document 02's M and N lines, apart from any check: what a line of each kind is, which kind may follow which, and the
+-- Document 01's rules of a whole file as a grammar, with document 02's M and N lines and finer digits, apart from any check: what a line of each kind is, which kind may follow which, and the
 -- order of times.
 -- A line with a date, a time, a layout or a position is the text of such values within their limits; the listed codes, the characters and the limits are document 01's own
 -- words (crate words). Of the rules it has types and the texts of values. It has `firstStart`, `layoutLetter` and, in the text of a K or an N line, `lineLetter`:
