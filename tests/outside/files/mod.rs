@@ -16,6 +16,7 @@ pub mod reached_pairs;
 pub mod reached_signed;
 pub mod reached_track;
 mod rules;
+pub mod values;
 
 use crate::reading::layouts::FAMILIES;
 use crate::reading::refusals::{ENDS_EARLY, TABLE_FULL};
