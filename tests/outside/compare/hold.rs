@@ -6,8 +6,8 @@ use std::fmt::Debug;
 use crate::columns;
 use crate::library::{self, ANSWER, FixValues, HeadValues, PositionValues, TimeValues, Told};
 use outside::files::random::Random;
-use outside::files::reached_looks;
 use outside::files::values::{spoil_position, spoil_text, to_write};
+use outside::files::{reached_finer, reached_looks};
 use outside::reading::fields::{EAST_WEST, NORTH_SOUTH};
 use outside::reading::layouts::FAMILIES;
 use outside::reading::refusals::{BAD_VALUE, NO_ROOM};
@@ -21,6 +21,7 @@ pub struct Tally {
     pub answers: BTreeMap<&'static str, u64>,
     pub refusals: BTreeMap<(&'static str, u32), u64>,
     pub looks: reached_looks::Reached,
+    pub finer: reached_finer::Reached,
 }
 
 impl Tally {
@@ -299,6 +300,9 @@ fn fix(tally: &mut Tally, random: &mut Random, line: &[u8], given: &[u8]) -> Hel
     let layout = reading::layout_given(given, Family::Fixes);
     let answer = by_layout(&layout, |y| reading::read_fix(line, y));
     columns::fix(tally, random, line, given, &answer)?;
+    if let Some(layout) = &layout {
+        tally.finer.add_line(line, layout, &answer);
+    }
     if let (Ok(read), Some(layout)) = (answer, &layout) {
         degrees(tally, random, &read.said)?;
         write_fix(tally, random, read.said, &line[35..], given, layout)?;
@@ -350,6 +354,7 @@ fn degrees(tally: &mut Tally, random: &mut Random, fix: &Fix) -> Held<()> {
             Ok((x, y)) => (0, [x.to_bits(), y.to_bits()]),
             Err(r) => (r.number, [0, 0]),
         };
+        tally.finer.add_degrees(a, o, expected.0);
         tally.same("hive_degrees", &(a, o), raw.0, raw, expected)
     };
     hold(fix.latitude, fix.longitude)?;
@@ -391,6 +396,7 @@ fn write_fix(tally: &mut Tally, random: &mut Random, fix: Fix, columns: &[u8], g
     let (mut ours, mut theirs) = (out.clone(), out);
     let raw = library::write_fix(&values, &columns, given, place, &mut ours);
     let answer = reading::write_fix(&fix, &columns, layout, place, &mut theirs);
+    tally.finer.add_write(&fix, &columns, layout, answer.map_or_else(|r| r.number, |_| 0));
     let expected = (told(&answer, |&after| [after as u64]), theirs);
     tally.same("hive_write_fix", &(values, columns, given, place), raw.number, (raw, ours), expected)
 }

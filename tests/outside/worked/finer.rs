@@ -1,6 +1,10 @@
 //! Finer positions and times: the digits of LAD, LOD and TDS in the fix, at the limits, in the map's degrees, in the writer, and where the plain counts stay.
 
 use super::*;
+use outside::files::Run;
+use outside::files::random::Random;
+use outside::files::reached_finer::Reached;
+use outside::files::values::{spoil_position, to_write};
 use outside::reading::listing::listing;
 use outside::reading::{degrees, read_point, track, tracked, write_extra, write_fix};
 
@@ -322,4 +326,59 @@ fn printed() {
     assert_eq!(lines(of_four, &[b(full) + "00000000090"]), "4 0 23:59:60.090 90.0000000000 180.0000000000 A 100 120\n");
     let zero = Parts { lat: "0000000S", lon: "00000000W", ..PARTS };
     assert_eq!(lines("I023637LAD3838LOD", &[b(zero) + "000"]), "4 0 12:00:00 0.00000000 0.0000000 A 100 120\n");
+}
+
+/// What holds of the B lines of any file, and what a run reaches: the plain counts are those of the line without these columns, the line is written again from its fix, and no spoiled fix is
+/// written as another line.
+#[test]
+fn of_any_file() {
+    let run = Run::new(9, 20);
+    let mut reached = Reached::default();
+    for n in 0..12_000 {
+        let mut random = run.random(n);
+        let made = run.make(&mut random, n);
+        let said = check_usual(&made.file, &mut vec![0; made.file.len() / 3 + 1]);
+        reached.add_file(&made.file, &said);
+        let lines: Vec<&[u8]> = made.file.split(|&c| c == b'\n').map(|l| l.strip_suffix(b"\r").unwrap_or(l)).collect();
+        let told = lines.iter().find(|l| l.starts_with(b"I")).copied().unwrap_or(b"");
+        let Some(y) = outside::reading::layout_given(told, outside::reading::Family::Fixes) else { continue };
+        for line in lines.into_iter().filter(|l| l.starts_with(b"B")) {
+            let answer = read_fix(line, &y);
+            reached.add_line(line, &y, &answer);
+            if let Ok(read) = answer {
+                hold(&mut reached, &mut random, line, &y, &read.said);
+            }
+        }
+    }
+    println!("{}", reached.told());
+    assert_eq!(reached.never(), Vec::<String>::new(), "never met");
+}
+
+/// One fix of a line by a layout.
+fn hold(reached: &mut Reached, random: &mut Random, line: &[u8], y: &Layout, fix: &Fix) {
+    let plain = fix_of(&line[..35], &Layout::default()).unwrap();
+    let counts = |f: &Fix| [f.time, f.latitude.count, f.longitude.count].map(|c| c.plain());
+    assert_eq!(counts(fix), counts(&plain));
+    assert_eq!([fix.latitude.letter, fix.longitude.letter, fix.validity], [plain.latitude.letter, plain.longitude.letter, plain.validity]);
+    let widths = [b"TDS", b"LAD", b"LOD"].map(|code| y.look_up(code).map_or(0, |e| e.width() as u8));
+    assert_eq!([fix.time.decimals, fix.latitude.count.decimals, fix.longitude.count.decimals], widths);
+    let (mut a, mut o) = (fix.latitude, fix.longitude);
+    if random.once_in(2) {
+        spoil_position(random, &mut a, 5_400_000);
+    } else {
+        spoil_position(random, &mut o, 10_800_000);
+    }
+    for (a, o) in [(fix.latitude, fix.longitude), (a, o)] {
+        reached.add_degrees(a, o, degrees(a, o).map_or_else(|r| r.number, |_| 0));
+    }
+    let (other, columns) = to_write(random, fix, &line[35..], y);
+    let mut out = vec![b'.'; 400];
+    let answer = write_fix(&other, &columns, y, 0, &mut out);
+    reached.add_write(&other, &columns, y, answer.map_or_else(|r| r.number, |_| 0));
+    match answer {
+        Ok(end) => assert_eq!(fix_of(&out[..end - 2], y), Ok(other)),
+        Err(_) => assert_eq!(out, vec![b'.'; 400]),
+    }
+    let end = write_fix(fix, &line[35..], y, 0, &mut out).unwrap();
+    assert_eq!(&out[..end - 2], line);
 }
