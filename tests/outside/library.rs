@@ -22,6 +22,10 @@ pub const SIGNED: usize = 12;
 pub const MERGED_LENGTH: usize = 2;
 pub const REFUSED_COPY: usize = 3;
 
+/// Places in the answer of hive_point: those that hive_fix has. The letter stands behind its count.
+pub const POINT_LATITUDE: usize = 4;
+pub const POINT_LONGITUDE: usize = 7;
+
 /// Place in the answer of hive_track: the number of fixes.
 pub const TRACK_COUNT: usize = 2;
 

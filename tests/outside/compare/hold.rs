@@ -76,6 +76,14 @@ fn head_values(h: &Head) -> [u64; 9] {
     [d, m, y, h.time.into(), fd, fm, fy, h.task.into(), h.turns.into()]
 }
 
+fn point_values(p: &Point) -> [u64; ANSWER - 2] {
+    let mut answer = [0; ANSWER];
+    for (place, position) in [(library::POINT_LATITUDE, p.latitude), (library::POINT_LONGITUDE, p.longitude)] {
+        (answer[place], answer[place + 1]) = (position.count.count, position.letter.into());
+    }
+    answer[2..].try_into().unwrap()
+}
+
 /// What hive_check and hive_check_strict answer from answer[2] on.
 fn checked_values(a: &reading::Accepted) -> [u64; ANSWER - 2] {
     let mut answer = [0; ANSWER];
@@ -425,11 +433,7 @@ fn declaration(tally: &mut Tally, random: &mut Random, line: &[u8]) -> Held<()> 
     tally.same("hive_head", &line, raw.number, raw, told(&head, head_values))?;
     let point = reading::read_point(line);
     let raw = library::point(line);
-    let values = told(&point, |p| {
-        let (a, o) = (p.latitude, p.longitude);
-        [0, a.count.count, a.letter.into(), o.count.count, o.letter.into()]
-    });
-    tally.same("hive_point", &line, raw.number, raw, values)?;
+    tally.same("hive_point", &line, raw.number, raw, told(&point, point_values))?;
     if let Ok(head) = head {
         write_head(tally, random, head, &line[25..])?;
     }

@@ -88,11 +88,11 @@ fn degrees_of(latitude: library::PositionValues, longitude: library::PositionVal
     degrees.map(f64::from_bits)
 }
 
-/// The degrees of a declaration's point, which stands at 3 to 6 of an answer.
+/// The degrees of a declaration's point.
 fn degrees_of_point(told: &library::Told) -> [f64; 2] {
-    let (v, plain) = (told.answer, |count, letter| library::PositionValues { count, letter, decimals: 0 });
     assert_eq!(told.number, 0);
-    degrees_of(plain(v[3], v[4] as u8), plain(v[5], v[6] as u8))
+    let at = |place: usize| library::PositionValues { count: told.answer[place], letter: told.answer[place + 1] as u8, decimals: 0 };
+    degrees_of(at(library::POINT_LATITUDE), at(library::POINT_LONGITUDE))
 }
 
 /// The library's track of a file that has so many fixes.
