@@ -23,13 +23,13 @@ use Rattle.track.proofs.Tracking.{found-all}
 use Rattle.pieces.specs.Buffer.{Shown}
 use Rattle.pieces.proofs.Laws.{whole}
 use Rattle.trail.proofs.Room.{record-room}
-use Rattle.sheet.specs.Sheets.{fewOf, lineOf, recordsShown, linesFrom, afterSteps, SheetFilled}
+use Rattle.sheet.specs.Sheets.{sheetOf, lineOf, recordsShown, linesFrom, afterSteps, SheetFilled}
 use Rattle.sheet.specs.declared.Sheet.{Sheet}
 
 -- ---- room
 
-few-room : (left : ℕ) → fewOf left ≤ 380
-unfolding fewOf
+few-room : (left : ℕ) → sheetOf left ≤ 380
+unfolding sheetOf
 few-room left = by (ltb 380 left) refl
   where
     by : (t : Bool) → ltb 380 left ≡ t → cond t 380 left ≤ 380
@@ -45,8 +45,8 @@ lines-room file from (suc n) =
 
 -- the lines stand whole at the front of such a block, and behind them it is as it was
 pub sheet-whole : (file : List ℕ) (from : Progress) (left : ℕ) (block : List ℕ) (r : Sheet) (after : List ℕ) → SheetFilled file from left block r after → 64000 ≤ length block
-    → Shown (linesFrom file from (fewOf left)) block (r .used) after
-sheet-whole file from left block r after s h = whole refl (omega (arith, few-room left, lines-room file from (fewOf left))) (s .put)
+    → Shown (linesFrom file from (sheetOf left)) block (r .used) after
+sheet-whole file from left block r after s h = whole refl (omega (arith, few-room left, lines-room file from (sheetOf left))) (s .put)
 
 -- ---- sheets one after the other
 

@@ -1,7 +1,7 @@
 // The lines of a track for people, sheet by sheet: those of the next fixes of a file in a lent block, and where the next sheet goes on.
 ghost use mathlib.Core.Path.{_≡_};
 ghost use Rattle.pieces.specs.Buffer.{PiecePut};
-ghost use Rattle.sheet.specs.Sheets.{fewOf, lineOf, SheetFilled};
+ghost use Rattle.sheet.specs.Sheets.{sheetOf, lineOf, SheetFilled};
 use next_fix::Progress;
 use next_fix::Record;
 
@@ -14,7 +14,7 @@ pub struct Sheet {
 
 // How many of the fixes that are left go on one sheet: 380 at most.
 fn few(left: usize) -> usize
-    ensures { λ r. ⌜ r ≡ fewOf left ⌝ }
+    ensures { λ r. ⌜ r ≡ sheetOf left ⌝ }
 {
     if 380 < left {
         return 380;

@@ -1,4 +1,4 @@
--- What is claimed of the rules' table of listed codes, characters, limits and degrees: they are those of document 01, whose words stand in specs/. The grammar of `demands` has
+-- What is claimed of the rules' table of listed codes, characters, limits and degrees: they are those of documents 01 and 02, whose words stand in specs/. The grammar of `demands` has
 -- these words. Its checks of a refusal have the rules' own tests, as isValid, isCode, codesAt, widthFits, keepsLimit, isEither and timeAt; what these mean, in the same words,
 -- is said beside `refused-first` by the `..-meant` lines and `fields-told`. Assumes nothing.
 use Prim.Native.Nat.{ℕ, _≤_}
