@@ -40,12 +40,13 @@ static inline bool has_time(const uint8_t *text, uint32_t *seconds)
     return are_digits(text, 6) & (hours < 24) & (minutes < 60) & (rest < 60);
 }
 
+/* A position below its limit; one that stands there is left to the plain check, as finer digits are then looked at. */
 static inline bool has_position(const uint8_t *text, size_t wide, uint32_t most, uint8_t one, uint8_t other)
 {
     uint32_t degrees = wide == 3 ? (text[0] - '0') * 100u + two(text + 1) : two(text), minutes = two(text + wide);
     uint32_t thousandths = (text[wide + 2] - '0') * 100u + two(text + wide + 3);
     uint8_t letter = text[wide + 5];
-    return are_digits(text, wide + 5) & (minutes < 60) & ((degrees * 60 + minutes) * 1000 + thousandths <= most) & ((letter == one) | (letter == other));
+    return are_digits(text, wide + 5) & (minutes < 60) & ((degrees * 60 + minutes) * 1000 + thousandths < most) & ((letter == one) | (letter == other));
 }
 
 static inline bool has_altitude(const uint8_t *text)
@@ -69,7 +70,7 @@ static inline bool is_sure(const uint8_t *line, size_t left, size_t fixed, const
         return false;
     if (!(fixed == 35 ? is_sure_fix(line, seconds) : has_time(line + 1, seconds)))
         return false;
-    return all_within(line + fixed, length - fixed, '0', 9) || check_columns(line, layout).number == 0;
+    return all_within(line + fixed, length - fixed, '0', 9) || check_columns(line, layout, 0).number == 0;
 }
 
 /* The B, K and N lines from `at` on, as far as they are surely good and the table has room; returns the place behind them. */

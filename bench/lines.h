@@ -186,7 +186,22 @@ static struct fault read_layout(const uint8_t *line, size_t length, uint32_t sta
     return none;
 }
 
-static struct fault check_columns(const uint8_t *line, const struct layout *layout)
+/* Which coordinates of a fix stand at their limit: LAD or LOD can only be zeros there. */
+enum { AT_90 = 1, AT_180 = 2 };
+
+static uint32_t at_limit(const uint8_t *line)
+{
+    return (memcmp(line + 7, "9000000", 7) == 0 ? AT_90 : 0) | (memcmp(line + 15, "18000000", 8) == 0 ? AT_180 : 0);
+}
+
+static bool is_past(const struct column *column, const uint8_t *text, uint32_t limits)
+{
+    if (!(limits & AT_90 && memcmp(column->listed->code, "LAD", 3) == 0) && !(limits & AT_180 && memcmp(column->listed->code, "LOD", 3) == 0))
+        return false;
+    return memcmp(text, "0000", column->width) != 0;
+}
+
+static struct fault check_columns(const uint8_t *line, const struct layout *layout, uint32_t limits)
 {
     for (uint32_t n = 0; n < layout->count; n++) {
         const struct column *column = &layout->columns[n];
@@ -194,7 +209,7 @@ static struct fault check_columns(const uint8_t *line, const struct layout *layo
             continue;
         const uint8_t *text = line + column->first - 1;
         uint32_t sign = column->listed->sign && text[0] == '-';
-        if (sign == column->width || !all(text + sign, column->width - sign, DIGIT))
+        if (sign == column->width || !all(text + sign, column->width - sign, DIGIT) || is_past(column, text, limits))
             return (struct fault){13, column->first};
     }
     return none;
@@ -214,7 +229,7 @@ static struct fault check_fix(const uint8_t *line, const struct layout *layout, 
         return bad(ALTITUDE, 26);
     if (!is_altitude(line + 30))
         return bad(ALTITUDE, 31);
-    return check_columns(line, layout);
+    return check_columns(line, layout, at_limit(line));
 }
 
 static struct fault check_satellites(const uint8_t *line, size_t length, uint32_t *seconds)
@@ -363,9 +378,9 @@ static struct fault check_fields(const uint8_t *line, size_t length, struct stat
     case 'B':
         return check_fix(line, &state->fixes, seconds);
     case 'K':
-        return !is_time(line + 1, seconds) ? bad(TIME, 2) : check_columns(line, &state->notes);
+        return !is_time(line + 1, seconds) ? bad(TIME, 2) : check_columns(line, &state->notes, 0);
     case 'N':
-        return !is_time(line + 1, seconds) ? bad(TIME, 2) : check_columns(line, &state->unsigned_notes);
+        return !is_time(line + 1, seconds) ? bad(TIME, 2) : check_columns(line, &state->unsigned_notes, 0);
     default:
         return none;
     }

@@ -126,12 +126,12 @@ static inline uint64_t clock_of(const uint8_t *line)
     return eight(line) >> 8 & 0xFFFFFFFFFFFF;
 }
 
-/* What the places alone do not say of a position and two altitudes: at most 90 and 180 degrees, and no minus before zeros. */
+/* What the places alone do not say of a position and two altitudes: below 90 and 180 degrees, where finer digits may be any, and no minus before zeros. */
 static inline bool keeps_bounds(const uint8_t *line)
 {
     uint64_t latitude = eight(line + 7) >> 8, longitude = eight(line + 15), pressure = eight(line + 25) >> 24, gnss = eight(line + 27) & 0xFFFFFFFFFF;
     const uint64_t below_zero = eight((const uint8_t *)"-0000\0\0\0") >> 24;
-    return (latitude <= eight((const uint8_t *)"9000000\0") >> 8) & (longitude <= eight((const uint8_t *)"18000000")) & (pressure != below_zero) &
+    return (latitude < eight((const uint8_t *)"9000000\0") >> 8) & (longitude < eight((const uint8_t *)"18000000")) & (pressure != below_zero) &
            (gnss != below_zero);
 }
 

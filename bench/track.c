@@ -48,11 +48,37 @@ static int32_t metres_of(const uint8_t *text)
     return *text == '-' ? -(int32_t)digits(text + 1, 4) : (int32_t)digits(text, 5);
 }
 
-static struct hive_fix_values fix_of(const uint8_t *line)
+/* Where a column of finer digits stands in a B line, and how many digits it has: none without an I line that tells it. */
+struct finer {
+    size_t at, wide;
+};
+
+struct columns {
+    struct finer time, lat, lon;
+};
+
+static struct finer column_of(const uint8_t *layout, const char *code)
 {
-    return (struct hive_fix_values){seconds_of(line),
-                                    {digits(line + 7, 2) * 60000 + digits(line + 9, 5), line[14]},
-                                    {digits(line + 15, 3) * 60000 + digits(line + 18, 5), line[23]},
+    for (uint32_t n = 0; n < digits(layout + 1, 2); n++) {
+        const uint8_t *entry = layout + 3 + 7 * n;
+        if (memcmp(entry + 4, code, 3) == 0)
+            return (struct finer){digits(entry, 2) - 1, digits(entry + 2, 2) + 1 - digits(entry, 2)};
+    }
+    return (struct finer){0, 0};
+}
+
+static uint64_t refined(uint64_t count, const uint8_t *line, struct finer column)
+{
+    for (size_t n = 0; n < column.wide; n++)
+        count = count * 10 + (line[column.at + n] - '0');
+    return count;
+}
+
+static struct hive_fix_values fix_of(const uint8_t *line, const struct columns *finer)
+{
+    return (struct hive_fix_values){{refined(seconds_of(line), line, finer->time), finer->time.wide},
+                                    {refined(digits(line + 7, 2) * 60000 + digits(line + 9, 5), line, finer->lat), line[14], finer->lat.wide},
+                                    {refined(digits(line + 15, 3) * 60000 + digits(line + 18, 5), line, finer->lon), line[23], finer->lon.wide},
                                     line[24],
                                     metres_of(line + 25),
                                     metres_of(line + 30)};
@@ -61,6 +87,7 @@ static struct hive_fix_values fix_of(const uint8_t *line)
 static uint32_t track_by_hand(const uint8_t *file, size_t length, uint32_t *table, size_t entries, struct hive_record *list, size_t records, size_t *count)
 {
     struct answer checked = check(file, length, table, entries);
+    struct columns finer = {{0, 0}, {0, 0}, {0, 0}};
     uint32_t clock = 0, day = 0;
     if (checked.number)
         return checked.number;
@@ -69,13 +96,15 @@ static uint32_t track_by_hand(const uint8_t *file, size_t length, uint32_t *tabl
     *count = 0;
     for (uint32_t n = 0; n < checked.lines; n++) {
         const uint8_t *line = file + table[n];
+        if (*line == 'I')
+            finer = (struct columns){column_of(line, "TDS"), column_of(line, "LAD"), column_of(line, "LOD")};
         if (!strchr("BEFKN", *line))
             continue;
         uint32_t seconds = seconds_of(line);
         day += clock > seconds && clock - seconds > 43200;
         clock = seconds;
         if (*line == 'B')
-            list[(*count)++] = (struct hive_record){n + 1, day, fix_of(line)};
+            list[(*count)++] = (struct hive_record){n + 1, day, fix_of(line, &finer)};
     }
     return 0;
 }
@@ -84,12 +113,13 @@ static uint32_t track_by_hand(const uint8_t *file, size_t length, uint32_t *tabl
 
 static int is_same_position(struct hive_position a, struct hive_position b)
 {
-    return a.count == b.count && a.letter == b.letter;
+    return a.count == b.count && a.letter == b.letter && a.decimals == b.decimals;
 }
 
 static int is_same(const struct hive_record *a, const struct hive_record *b)
 {
-    return a->line == b->line && a->day == b->day && a->fix.time == b->fix.time && is_same_position(a->fix.lat, b->fix.lat) && is_same_position(a->fix.lon, b->fix.lon) &&
+    return a->line == b->line && a->day == b->day && a->fix.time.count == b->fix.time.count && a->fix.time.decimals == b->fix.time.decimals &&
+           is_same_position(a->fix.lat, b->fix.lat) && is_same_position(a->fix.lon, b->fix.lon) &&
            a->fix.validity == b->fix.validity && a->fix.pressure == b->fix.pressure && a->fix.gnss == b->fix.gnss;
 }
 

@@ -22,6 +22,9 @@ static const char M[] = "M010811HRT";
 static const char B[] = "B1200005130000N00015000WA001000012001208";
 static const char K[] = "K120005123";
 static const char N[] = "N1200050072";
+/* One digit for the time, four for each coordinate. */
+static const char FINE[] = "I033636TDS3740LAD4144LOD";
+static const char FINER[] = "B1200005130000N00015000WA0010000120512340009";
 
 /* Filled with 9 before each call, so that what a call leaves is seen. */
 static uint64_t answer[HIVE_ANSWER];
@@ -44,7 +47,7 @@ static void fresh(void) {
     memset(out, '.', sizeof out);
     memset(text, '.', sizeof text);
     for (int i = 0; i < 5; i++)
-        list[i] = (struct hive_record){9, 9, {9, {9, '.'}, {9, '.'}, '.', 9, 9}};
+        list[i] = (struct hive_record){9, 9, {{9, 9}, {9, '.', 9}, {9, '.', 9}, '.', 9, 9}};
 }
 
 static void say(const char *name, uint32_t returned) {
@@ -55,17 +58,17 @@ static void say(const char *name, uint32_t returned) {
     fresh();
 }
 
-/* The entries: the first seven numbers, and then what all the others are. */
+/* The entries: how many, the numbers of the first three, and then what all the others are. */
 static void say_entries(const char *name) {
     printf("%s: entries", name);
-    for (int i = 0; i < 7; i++)
+    for (int i = 0; i < 10; i++)
         printf(" %llu", (unsigned long long)entries[i]);
-    for (int i = 8; i < HIVE_ENTRIES; i++)
-        if (entries[i] != entries[7]) {
+    for (int i = 11; i < HIVE_ENTRIES; i++)
+        if (entries[i] != entries[10]) {
             printf(", number %d is %llu", i, (unsigned long long)entries[i]);
             break;
         }
-    printf(", then %llu\n", (unsigned long long)entries[7]);
+    printf(", then %llu\n", (unsigned long long)entries[10]);
 }
 
 static void say_fix(const char *name, uint32_t returned) {
@@ -85,7 +88,7 @@ static void say_number(const char *name, uint32_t returned) {
 }
 
 static void say_degrees(const char *name, uint32_t returned) {
-    printf("%s: %u | %.4f %.4f\n", name, (unsigned)returned, degrees[0], degrees[1]);
+    printf("%s: %u | %.10f %.10f\n", name, (unsigned)returned, degrees[0], degrees[1]);
     fresh();
 }
 
@@ -115,8 +118,9 @@ static void say_text(const char *name, uint32_t returned) {
 static void say_list(const char *name, uint32_t returned) {
     for (int i = 0; i < 5; i++) {
         const struct hive_fix_values *fix = &list[i].fix;
-        printf("%s: %u %u %u %llu %c %llu %c %c %d %d\n", name, (unsigned)list[i].line, (unsigned)list[i].day, (unsigned)fix->time, (unsigned long long)fix->lat.count, fix->lat.letter,
-               (unsigned long long)fix->lon.count, fix->lon.letter, fix->validity, (int)fix->pressure, (int)fix->gnss);
+        printf("%s: %u %u %u %u %llu %c %u %llu %c %u %c %d %d\n", name, (unsigned)list[i].line, (unsigned)list[i].day, (unsigned)fix->time.count, (unsigned)fix->time.decimals,
+               (unsigned long long)fix->lat.count, fix->lat.letter, (unsigned)fix->lat.decimals, (unsigned long long)fix->lon.count, fix->lon.letter, (unsigned)fix->lon.decimals,
+               fix->validity, (int)fix->pressure, (int)fix->gnss);
     }
     say(name, returned);
 }
@@ -174,8 +178,13 @@ static void lines(void) {
     say_fix("fix, neither A nor V", hive_fix(TEXT("B1200005130000N00015000WX0010000120"), NULL, 0, answer, HIVE_ANSWER, heights, HIVE_HEIGHTS, entries, HIVE_ENTRIES));
     say_fix("fix below zero", hive_fix(TEXT("B1200009000000S18000000EV-001299999"), NULL, 0, answer, HIVE_ANSWER, heights, HIVE_HEIGHTS, entries, HIVE_ENTRIES));
     say_fix("fix, entries of 39", hive_fix(TEXT(B), TEXT(I), answer, HIVE_ANSWER, heights, HIVE_HEIGHTS, entries, 39));
+    say_fix("fix, finer", hive_fix(TEXT(FINER), TEXT(FINE), answer, HIVE_ANSWER, heights, HIVE_HEIGHTS, entries, HIVE_ENTRIES));
+    say_fix("fix, finer at 90 degrees", hive_fix(TEXT("B1200009000000S00015000WA0010000120500000009"), TEXT(FINE), answer, HIVE_ANSWER, heights, HIVE_HEIGHTS, entries, HIVE_ENTRIES));
+    say_fix("fix, finer past 90 degrees", hive_fix(TEXT("B1200009000000S00015000WA0010000120500010009"), TEXT(FINE), answer, HIVE_ANSWER, heights, HIVE_HEIGHTS, entries, HIVE_ENTRIES));
+    say_fix("fix, finer past 180 degrees", hive_fix(TEXT("B1200005130000N18000000WA0010000120512341000"), TEXT(FINE), answer, HIVE_ANSWER, heights, HIVE_HEIGHTS, entries, HIVE_ENTRIES));
     say_extra("extra", hive_extra(TEXT(K), TEXT(J), answer, HIVE_ANSWER, entries, HIVE_ENTRIES));
     say_extra("extra, entries of 41", hive_extra(TEXT(K), TEXT(J), answer, HIVE_ANSWER, entries, 41));
+    say_extra("extra, a K line with TDS", hive_extra(TEXT("K1200055"), TEXT("J010808TDS"), answer, HIVE_ANSWER, entries, HIVE_ENTRIES));
     say_extra("extra at 60 minutes", hive_extra(TEXT("K126000123"), TEXT(J), answer, HIVE_ANSWER, entries, HIVE_ENTRIES));
     say_extra("extra by an I line", hive_extra(TEXT(K), TEXT(I), answer, HIVE_ANSWER, entries, HIVE_ENTRIES));
     say_extra("extra, a B line", hive_extra(TEXT(B), TEXT(J), answer, HIVE_ANSWER, entries, HIVE_ENTRIES));
@@ -197,10 +206,14 @@ static void lines(void) {
     say("presence of none", hive_presence(NULL, 0, answer, HIVE_ANSWER));
     say("presence of a J line", hive_presence(TEXT(J), answer, HIVE_ANSWER));
     say("presence of an M line", hive_presence(TEXT(M), answer, HIVE_ANSWER));
-    say_degrees("degrees", hive_degrees(3090000, 'N', 15000, 'W', degrees, HIVE_DEGREES));
-    say_degrees("degrees, 0 S", hive_degrees(0, 'S', 10800000, 'E', degrees, HIVE_DEGREES));
-    say_degrees("degrees, too many", hive_degrees(5400001, 'N', 15000, 'W', degrees, HIVE_DEGREES));
-    say_degrees("degrees of 1", hive_degrees(3090000, 'N', 15000, 'W', degrees, 1));
+    say_degrees("degrees", hive_degrees(3090000, 'N', 0, 15000, 'W', 0, degrees, HIVE_DEGREES));
+    say_degrees("degrees, 0 S", hive_degrees(0, 'S', 0, 10800000, 'E', 0, degrees, HIVE_DEGREES));
+    say_degrees("degrees, too many", hive_degrees(5400001, 'N', 0, 15000, 'W', 0, degrees, HIVE_DEGREES));
+    say_degrees("degrees of 1", hive_degrees(3090000, 'N', 0, 15000, 'W', 0, degrees, 1));
+    say_degrees("degrees, finer", hive_degrees(30900001234, 'N', 4, 150000009, 'W', 4, degrees, HIVE_DEGREES));
+    say_degrees("degrees, 0 S and 180 E, finer", hive_degrees(0, 'S', 4, 1080000000, 'E', 2, degrees, HIVE_DEGREES));
+    say_degrees("degrees, one digit past 90", hive_degrees(54000001, 'N', 1, 15000, 'W', 0, degrees, HIVE_DEGREES));
+    say_degrees("degrees, 5 decimals", hive_degrees(0, 'N', 5, 0, 'W', 0, degrees, HIVE_DEGREES));
 }
 
 /* Two columns as hive_fix tells those of B by I; what a look is to refuse is put into a copy. */
@@ -260,11 +273,17 @@ static void others(void) {
 }
 
 static void writers(void) {
-    say_out("write fix", hive_write_fix(43200, 3090000, 'N', 15000, 'W', 'A', -12, 120, TEXT("01208"), TEXT(I), 3, out, sizeof out, answer, HIVE_ANSWER));
-    say_out("write fix, no room", hive_write_fix(43200, 3090000, 'N', 15000, 'W', 'A', -12, 120, TEXT("01208"), TEXT(I), 3, out, 44, answer, HIVE_ANSWER));
-    say_out("write fix, no validity", hive_write_fix(43200, 3090000, 'N', 15000, 'W', 'X', -12, 120, TEXT("01208"), TEXT(I), 3, out, 44, answer, HIVE_ANSWER));
-    say_out("write fix by a J line", hive_write_fix(43200, 3090000, 'N', 15000, 'W', 'A', -12, 120, TEXT("01208"), TEXT(J), 3, out, sizeof out, answer, HIVE_ANSWER));
-    say_out("write fix, answer of 15", hive_write_fix(43200, 3090000, 'N', 15000, 'W', 'A', -12, 120, TEXT("01208"), TEXT(I), 3, out, sizeof out, answer, 15));
+    say_out("write fix", hive_write_fix(43200, 0, 3090000, 'N', 0, 15000, 'W', 0, 'A', -12, 120, TEXT("01208"), TEXT(I), 3, out, sizeof out, answer, HIVE_ANSWER));
+    say_out("write fix, no room", hive_write_fix(43200, 0, 3090000, 'N', 0, 15000, 'W', 0, 'A', -12, 120, TEXT("01208"), TEXT(I), 3, out, 44, answer, HIVE_ANSWER));
+    say_out("write fix, no validity", hive_write_fix(43200, 0, 3090000, 'N', 0, 15000, 'W', 0, 'X', -12, 120, TEXT("01208"), TEXT(I), 3, out, 44, answer, HIVE_ANSWER));
+    say_out("write fix by a J line", hive_write_fix(43200, 0, 3090000, 'N', 0, 15000, 'W', 0, 'A', -12, 120, TEXT("01208"), TEXT(J), 3, out, sizeof out, answer, HIVE_ANSWER));
+    say_out("write fix, answer of 15", hive_write_fix(43200, 0, 3090000, 'N', 0, 15000, 'W', 0, 'A', -12, 120, TEXT("01208"), TEXT(I), 3, out, sizeof out, answer, 15));
+    say_out("write fix, finer", hive_write_fix(432005, 1, 30900001234, 'N', 4, 150000009, 'W', 4, 'A', 100, 120, TEXT("512340009"), TEXT(FINE), 1, out, sizeof out, answer, HIVE_ANSWER));
+    say_out("write fix, a digit that is not LAD's", hive_write_fix(432005, 1, 30900001235, 'N', 4, 150000009, 'W', 4, 'A', 100, 120, TEXT("512340009"), TEXT(FINE), 1, out, sizeof out, answer, HIVE_ANSWER));
+    say_out("write fix, three decimals for LOD's four", hive_write_fix(432005, 1, 30900001234, 'N', 4, 15000000, 'W', 3, 'A', 100, 120, TEXT("512340009"), TEXT(FINE), 1, out, sizeof out, answer, HIVE_ANSWER));
+    say_out("write fix, decimals without TDS", hive_write_fix(432000, 1, 3090000, 'N', 0, 15000, 'W', 0, 'A', 100, 120, TEXT("01208"), TEXT(I), 1, out, sizeof out, answer, HIVE_ANSWER));
+    say_out("write fix, 200 decimals", hive_write_fix(43200, 200, 3090000, 'N', 0, 15000, 'W', 0, 'A', 100, 120, TEXT("01208"), TEXT(I), 1, out, sizeof out, answer, HIVE_ANSWER));
+    say_out("write fix, past 90 degrees", hive_write_fix(432005, 1, 54000000001, 'N', 4, 150000009, 'W', 4, 'A', 100, 120, TEXT("500010009"), TEXT(FINE), 1, out, sizeof out, answer, HIVE_ANSWER));
     say_out("write extra", hive_write_extra('K', 43205, TEXT("123"), TEXT(J), 0, out, sizeof out, answer, HIVE_ANSWER));
     say_out("write extra, its column too short", hive_write_extra('K', 43205, TEXT("12"), TEXT(J), 0, out, sizeof out, answer, HIVE_ANSWER));
     say_out("write extra, an N line", hive_write_extra('N', 43205, TEXT("0072"), TEXT(M), 1, out, sizeof out, answer, HIVE_ANSWER));
@@ -311,10 +330,15 @@ static const char NIGHT[] = NIGHT_LINES;
 /* A line behind the G line that may not come there. */
 static const char SPOILED[] = NIGHT_LINES "D11234\r\n";
 
+/* Two fixes with finer digits, the second earlier by them and not by its seconds: TDS has no part in the time order. */
+static const char START[] =
+    "AXYZ001\r\nHFDTE150724\r\nI033636TDS3740LAD4144LOD\r\nB1200005130000N00015000WA0010000120512340009\r\nB1200009000000S18000000EV0010000120400000000\r\nGABC\r\n";
+
 /* A record as the library lays it out; where C does not, this does not compile. */
 typedef char a_record_has_64_bytes[sizeof(struct hive_record) == 64 ? 1 : -1];
 typedef char its_fix_starts_at_8[offsetof(struct hive_record, fix) == 8 ? 1 : -1];
 typedef char its_places_are_plain[offsetof(struct hive_fix_values, lat) == 8 && offsetof(struct hive_fix_values, lon) == 24 && offsetof(struct hive_fix_values, validity) == 40 ? 1 : -1];
+typedef char its_decimals_are_plain[offsetof(struct hive_time, decimals) == 4 && offsetof(struct hive_position, letter) == 8 && offsetof(struct hive_position, decimals) == 9 ? 1 : -1];
 typedef char its_heights_are_plain[offsetof(struct hive_fix_values, pressure) == 44 && offsetof(struct hive_fix_values, gnss) == 48 ? 1 : -1];
 
 static void tracks(void) {
@@ -323,6 +347,7 @@ static void tracks(void) {
     say_list("track, list of 3", hive_track(TEXT(NIGHT), list, 3, answer, HIVE_ANSWER));
     say_list("track, no fixes and no list", hive_track(TEXT(SHORT), NULL, 0, answer, HIVE_ANSWER));
     say_list("track, with columns", hive_track(TEXT(FIVE), list, 5, answer, HIVE_ANSWER));
+    say_list("track, finer", hive_track(TEXT(START), list, 5, answer, HIVE_ANSWER));
     say_list("track, refused", hive_track(TEXT(SPOILED), list, 5, answer, HIVE_ANSWER));
     say_list("track, refused and short", hive_track(TEXT(SPOILED), list, 3, answer, HIVE_ANSWER));
     say_list("track, answer of 15", hive_track(TEXT(NIGHT), list, 5, answer, 15));

@@ -1,6 +1,6 @@
 /* Opens an IGC file and prints what it says: its counts, each fix with its columns; or why it is refused.
        fixes FILE
-   The lines printed are those of the listing program. */
+   The lines printed are those of the listing program, which has plain counts: the digits of TDS, LAD and LOD are told as columns. */
 #include <stdio.h>
 #include <stdlib.h>
 
@@ -22,6 +22,13 @@ static void print_column(struct text line, const uint64_t *entries, size_t n) {
     printf("COL %.3s %.*s\n", (const char *)code, (int)answer[HIVE_COLUMN_LENGTH], (const char *)line.bytes + answer[HIVE_START]);
 }
 
+/* A count without its extra decimals. */
+static unsigned long long plain(uint64_t count, uint64_t decimals) {
+    for (; 0 < decimals; decimals--)
+        count /= 10;
+    return count;
+}
+
 static void print_fix(uint64_t number, struct text line, struct text layout) {
     uint64_t answer[HIVE_ANSWER];
     int32_t heights[HIVE_HEIGHTS];
@@ -29,9 +36,9 @@ static void print_fix(uint64_t number, struct text line, struct text layout) {
     if (hive_fix(line.bytes, line.length, layout.bytes, layout.length, answer, HIVE_ANSWER, heights, HIVE_HEIGHTS, entries, HIVE_ENTRIES) != 0)
         return;
     printf("FIX %llu %llu %llu %c %llu %c %c %d %d\n", (unsigned long long)number,
-           (unsigned long long)answer[HIVE_SECONDS],
-           (unsigned long long)answer[HIVE_LATITUDE], (char)answer[HIVE_LATITUDE_LETTER],
-           (unsigned long long)answer[HIVE_LONGITUDE], (char)answer[HIVE_LONGITUDE_LETTER],
+           plain(answer[HIVE_SECONDS], answer[HIVE_SECONDS_DECIMALS]),
+           plain(answer[HIVE_LATITUDE], answer[HIVE_LATITUDE_DECIMALS]), (char)answer[HIVE_LATITUDE_LETTER],
+           plain(answer[HIVE_LONGITUDE], answer[HIVE_LONGITUDE_DECIMALS]), (char)answer[HIVE_LONGITUDE_LETTER],
            (char)answer[HIVE_VALIDITY], (int)heights[HIVE_PRESSURE], (int)heights[HIVE_GNSS]);
     for (size_t n = 0; n < entries[HIVE_COLUMNS]; n++)
         print_column(line, entries, n);

@@ -23,6 +23,10 @@
 
    A TIME is told and given in seconds of the day: 0 to 86,399, and 86,400 for the leap second, which the line has as 235960.
 
+   DECIMALS. The time, the latitude and the longitude of a fix are each a count with a number of extra decimals, which the columns TDS, LAD and LOD of the I line give: the count of
+   seconds or of thousandths of a minute, times ten for each decimal, plus the column's digits. A time has 0 to 3 decimals, a coordinate 0 to 4; 0 without the column, and then the
+   count is the plain one. The plain count of any is the count divided by ten for each decimal, in whole numbers. K, N, E, F and C lines have plain counts alone.
+
    A LINE is given without its CR LF. A LAYOUT is given as the text of the file's own I line, for B lines, J line, for K lines, or M line, for N lines; length 0 says that
    the file has no such line. One that is of another kind, or breaks a rule, is 17. (hive_column_at and hive_write_layout take that line itself: length 0 is 17 there, and hive_column_at
    tells what the line is refused for.) */
@@ -131,15 +135,19 @@ uint32_t hive_merge(const uint8_t *first, size_t first_length,
 
 /* ---- the track of a file: all its fixes in one call, as a lent list of records */
 
-/* A record, 64 bytes: line and day at 0 and 4; of the fix the seconds of the day at 8, the latitude and its letter at 16 and 24, the longitude and its letter at 32 and 40, A or V
-   at 48, pressure and GNSS altitude at 52 and 56. All fields are plain numbers: the counts are thousandths of a minute, letters and validity the bytes of the line, altitudes
-   metres. The bytes between the fields are padding, of which nothing is said: compare records field by field. */
+/* A record, 64 bytes: line and day at 0 and 4; of the fix the time's count and its decimals at 8 and 12, the latitude's count, letter and decimals at 16, 24 and 25, the longitude's
+   at 32, 40 and 41, A or V at 48, pressure and GNSS altitude at 52 and 56. All fields are plain numbers: counts and decimals as DECIMALS says above, letters and validity the bytes of
+   the line, altitudes metres. The bytes between the fields are padding, of which nothing is said: compare records field by field. */
+struct hive_time {
+    uint32_t count;
+    uint8_t decimals;
+};
 struct hive_position {
     uint64_t count;
-    uint8_t letter;
+    uint8_t letter, decimals;
 };
 struct hive_fix_values {
-    uint32_t time;
+    struct hive_time time;
     struct hive_position lat, lon;
     uint8_t validity;
     int32_t pressure, gnss;
@@ -149,7 +157,7 @@ struct hive_record {
     struct hive_fix_values fix;
 };
 
-/* Record n is the nth B line's: the number of its line, counted from 1, its day, counted from 0, and what hive_fix reads from it. The day rises at each fall of the time of over
+/* Record n is the nth B line's: the number of its line, counted from 1, its day, counted from 0, and what hive_fix reads from it. The day rises at each fall of the plain time of over
    43,200 seconds, those to and from E, F, K and N lines counted too. Refused with what hive_check refuses of the file (without 15), with line and byte; then HIVE_NO_ROOM, with line 0
    and byte 0, where the list has fewer records than the file has B lines. No record is changed where refused; records past the last fix stay as they were.
        2 how many records there are: the file's B lines */
@@ -160,8 +168,9 @@ uint32_t hive_track(const uint8_t *file, size_t file_length,
 
 /* ---- a line: 17 for another kind of line or a layout that is not allowed, then with the byte 7, 8, a field's (9, 22 to 24), 13 */
 
-/* A B line read, in one check of the line: its fix, and its columns. The counts are thousandths of a minute; letters and validity are the bytes of the line.
-       2 seconds of the day  3 latitude  4 N or S  5 longitude  6 E or W  7 A or V
+/* A B line read, in one check of the line: its fix, and its columns. Counts and decimals are as DECIMALS says above; letters and validity are the bytes of the line. 13, at the first
+   byte of LAD or LOD, also where one of its digits is not 0 and the plain count is 5,400,000 or 10,800,000 already.
+       2 seconds of the day  3 their decimals  4 latitude  5 N or S  6 its decimals  7 longitude  8 E or W  9 its decimals  10 A or V
        heights[0] pressure altitude, heights[1] GNSS altitude, in metres; 0 where refused
        entries[HIVE_COLUMNS] how many columns the line has, 0 to 13; then three numbers for each, in layout order, 0 behind the last column; all 0 where refused:
        entries[HIVE_COLUMN_CODE(n)] the code of column n, counted from 0, its first character times 65536 plus its second times 256 plus its third;
@@ -172,11 +181,14 @@ enum { HIVE_COLUMNS = 0 };
 #define HIVE_COLUMN_LAST(n) (3 * (n) + 3)
 enum {
     HIVE_SECONDS = 2,
-    HIVE_LATITUDE = 3,
-    HIVE_LATITUDE_LETTER = 4,
-    HIVE_LONGITUDE = 5,
-    HIVE_LONGITUDE_LETTER = 6,
-    HIVE_VALIDITY = 7,
+    HIVE_SECONDS_DECIMALS = 3,
+    HIVE_LATITUDE = 4,
+    HIVE_LATITUDE_LETTER = 5,
+    HIVE_LATITUDE_DECIMALS = 6,
+    HIVE_LONGITUDE = 7,
+    HIVE_LONGITUDE_LETTER = 8,
+    HIVE_LONGITUDE_DECIMALS = 9,
+    HIVE_VALIDITY = 10,
     HIVE_PRESSURE = 0,
     HIVE_GNSS = 1
 };
@@ -225,20 +237,22 @@ enum { HIVE_WORD = 2, HIVE_COUNT = 3 };
 uint32_t hive_presence(const uint8_t *layout, size_t layout_length,
                        uint64_t *answer, size_t answer_length);
 
-/* A position for the map. 17 for a count or a letter that is not allowed.
+/* A position for the map: each count over 60,000 times ten for each of its decimals, rounded once. 17 for a letter that is not allowed, for over 4 decimals, and for a count over
+   5,400,000 (a latitude) or 10,800,000 (a longitude) times ten for each of its decimals.
        degrees[0] latitude, degrees[1] longitude; 0 where refused */
-uint32_t hive_degrees(uint64_t latitude, uint8_t latitude_letter,
-                      uint64_t longitude, uint8_t longitude_letter,
+uint32_t hive_degrees(uint64_t latitude, uint8_t latitude_letter, uint8_t latitude_decimals,
+                      uint64_t longitude, uint8_t longitude_letter, uint8_t longitude_decimals,
                       double *degrees, size_t degrees_length);
 
 /* ---- writers: the line and its CR LF go into out from a place on. 17 where no line reads as the values given, then 18 where out is too short; a refused write changes no byte.
        2 the place after the CR LF */
 enum { HIVE_AFTER = 2 };
 
-/* A B line; columns is all that stands behind its first 35 bytes. */
-uint32_t hive_write_fix(uint32_t seconds,
-                        uint64_t latitude, uint8_t latitude_letter,
-                        uint64_t longitude, uint8_t longitude_letter,
+/* A B line; columns is all that stands behind its first 35 bytes. 17 also where the decimals of a count are not as many as TDS, LAD or LOD has digits by the layout (0 without that
+   column), or its last digits are not those that the columns have there. */
+uint32_t hive_write_fix(uint32_t seconds, uint8_t seconds_decimals,
+                        uint64_t latitude, uint8_t latitude_letter, uint8_t latitude_decimals,
+                        uint64_t longitude, uint8_t longitude_letter, uint8_t longitude_decimals,
                         uint8_t validity,
                         int32_t pressure, int32_t gnss,
                         const uint8_t *columns, size_t columns_length,
@@ -289,8 +303,8 @@ enum {
 uint32_t hive_head(const uint8_t *line, size_t line_length,
                    uint64_t *answer, size_t answer_length);
 
-/* A point of a declaration; its text stands behind 18 bytes.
-       3 latitude  4 N or S  5 longitude  6 E or W */
+/* A point of a declaration; its text stands behind 18 bytes. Its values stand where hive_fix has them.
+       4 latitude  5 N or S  7 longitude  8 E or W */
 uint32_t hive_point(const uint8_t *line, size_t line_length,
                     uint64_t *answer, size_t answer_length);
 

@@ -177,23 +177,23 @@ static void extras(void) {
 /* ---- B lines */
 
 static void timed(uint32_t seconds, size_t place) {
-    say(44, hive_write_fix(seconds, 0, 'S', 10800000, 'E', 'A', 100, 120, TEXT("012"), TEXT(I), place, OUT(44)));
+    say(44, hive_write_fix(seconds, 0, 0, 'S', 0, 10800000, 'E', 0, 'A', 100, 120, TEXT("012"), TEXT(I), place, OUT(44)));
 }
 
 static void at(uint64_t latitude, char n_or_s, uint64_t longitude, char e_or_w) {
-    say(44, hive_write_fix(43200, latitude, n_or_s, longitude, e_or_w, 'A', 100, 120, TEXT("012"), TEXT(I), 0, OUT(44)));
+    say(44, hive_write_fix(43200, 0, latitude, n_or_s, 0, longitude, e_or_w, 0, 'A', 100, 120, TEXT("012"), TEXT(I), 0, OUT(44)));
 }
 
 static void marked(char validity) {
-    say(44, hive_write_fix(43200, 0, 'S', 10800000, 'E', validity, 100, 120, TEXT("012"), TEXT(I), 0, OUT(44)));
+    say(44, hive_write_fix(43200, 0, 0, 'S', 0, 10800000, 'E', 0, validity, 100, 120, TEXT("012"), TEXT(I), 0, OUT(44)));
 }
 
 static void heights(int32_t pressure, int32_t gnss) {
-    say(44, hive_write_fix(43200, 0, 'S', 10800000, 'E', 'A', pressure, gnss, TEXT("012"), TEXT(I), 0, OUT(44)));
+    say(44, hive_write_fix(43200, 0, 0, 'S', 0, 10800000, 'E', 0, 'A', pressure, gnss, TEXT("012"), TEXT(I), 0, OUT(44)));
 }
 
 static void columns(const char *text, const uint8_t *line, size_t length, size_t place) {
-    say(44, hive_write_fix(43200, 0, 'S', 10800000, 'E', 'A', 100, 120, TEXT(text), line, length, place, OUT(44)));
+    say(44, hive_write_fix(43200, 0, 0, 'S', 0, 10800000, 'E', 0, 'A', 100, 120, TEXT(text), line, length, place, OUT(44)));
 }
 
 static void positions(void) {

@@ -22,6 +22,10 @@ pub const SIGNED: usize = 12;
 pub const MERGED_LENGTH: usize = 2;
 pub const REFUSED_COPY: usize = 3;
 
+/// Places in the answer of hive_point: those that hive_fix has. The letter stands behind its count.
+pub const POINT_LATITUDE: usize = 4;
+pub const POINT_LONGITUDE: usize = 7;
+
 /// Place in the answer of hive_track: the number of fixes.
 pub const TRACK_COUNT: usize = 2;
 
@@ -41,32 +45,60 @@ pub struct Told {
 pub struct Record {
     pub line: u32,
     pub day: u32,
-    pub fix: RecordFix,
+    pub fix: FixValues,
 }
 
+/// A fix as a record has it, and as hive_write_fix is given it.
 #[repr(C)]
 #[derive(Clone, Copy, PartialEq, Eq, Debug)]
-pub struct RecordFix {
-    pub time: u32,
-    pub latitude: RecordPosition,
-    pub longitude: RecordPosition,
+pub struct FixValues {
+    pub time: TimeValues,
+    pub latitude: PositionValues,
+    pub longitude: PositionValues,
     pub validity: u8,
     pub pressure: i32,
     pub gnss: i32,
 }
 
+/// A count of seconds, and its extra decimals.
 #[repr(C)]
 #[derive(Clone, Copy, PartialEq, Eq, Debug)]
-pub struct RecordPosition {
+pub struct TimeValues {
+    pub count: u32,
+    pub decimals: u8,
+}
+
+/// A count of thousandths of a minute, its letter, and its extra decimals.
+#[repr(C)]
+#[derive(Clone, Copy, PartialEq, Eq, Debug)]
+pub struct PositionValues {
     pub count: u64,
     pub letter: u8,
+    pub decimals: u8,
+}
+
+impl FixValues {
+    /// The values of hive_fix, from answer[2] on.
+    pub fn answered(&self) -> [u64; 9] {
+        let (t, a, o) = (self.time, self.latitude, self.longitude);
+        let place = |p: PositionValues| [p.count, p.letter.into(), p.decimals.into()];
+        let ([a, al, ad], [o, ol, od]) = (place(a), place(o));
+        [t.count.into(), t.decimals.into(), a, al, ad, o, ol, od, self.validity.into()]
+    }
+
+    /// Its heights.
+    pub fn heights(&self) -> [i32; 2] {
+        [self.pressure, self.gnss]
+    }
 }
 
 /// Where the fields of a record stand, and how long one is.
 const _: () = {
     use std::mem::offset_of;
-    assert!(offset_of!(Record, line) == 0 && offset_of!(Record, day) == 4 && offset_of!(Record, fix.time) == 8);
+    assert!(offset_of!(Record, line) == 0 && offset_of!(Record, day) == 4);
+    assert!(offset_of!(Record, fix.time.count) == 8 && offset_of!(Record, fix.time.decimals) == 12);
     assert!(offset_of!(Record, fix.latitude.count) == 16 && offset_of!(Record, fix.latitude.letter) == 24);
+    assert!(offset_of!(Record, fix.latitude.decimals) == 25 && offset_of!(Record, fix.longitude.decimals) == 41);
     assert!(offset_of!(Record, fix.longitude.count) == 32 && offset_of!(Record, fix.longitude.letter) == 40);
     assert!(offset_of!(Record, fix.validity) == 48 && offset_of!(Record, fix.pressure) == 52 && offset_of!(Record, fix.gnss) == 56);
     assert!(size_of::<Record>() == 64);
@@ -109,13 +141,16 @@ mod c {
         ) -> u32;
         pub fn hive_column_at(y: *const u8, yl: usize, n: usize, a: *mut u64, al: usize) -> u32;
         pub fn hive_presence(y: *const u8, yl: usize, a: *mut u64, al: usize) -> u32;
-        pub fn hive_degrees(lat: u64, latl: u8, lon: u64, lonl: u8, d: *mut f64, dl: usize) -> u32;
+        pub fn hive_degrees(lat: u64, latl: u8, latd: u8, lon: u64, lonl: u8, lond: u8, d: *mut f64, dl: usize) -> u32;
         pub fn hive_write_fix(
-            seconds: u32,
+            time: u32,
+            timed: u8,
             lat: u64,
             latl: u8,
+            latd: u8,
             lon: u64,
             lonl: u8,
+            lond: u8,
             validity: u8,
             pressure: i32,
             gnss: i32,
@@ -332,9 +367,9 @@ pub fn presence(layout: &[u8]) -> Told {
 }
 
 /// The bits of both degrees, so that minus zero is not taken for zero.
-pub fn degrees(latitude: (u64, u8), longitude: (u64, u8)) -> (u32, [u64; 2]) {
+pub fn degrees(a: PositionValues, o: PositionValues) -> (u32, [u64; 2]) {
     let mut degrees = [f64::from_bits(BEFORE); 2];
-    let number = unsafe { c::hive_degrees(latitude.0, latitude.1, longitude.0, longitude.1, degrees.as_mut_ptr(), 2) };
+    let number = unsafe { c::hive_degrees(a.count, a.letter, a.decimals, o.count, o.letter, o.decimals, degrees.as_mut_ptr(), 2) };
     (number, degrees.map(f64::to_bits))
 }
 
@@ -386,25 +421,17 @@ pub fn explain(file: &[u8], number: u32, line: u32, byte: u32, text: &mut [u8]) 
     told(|a, al| unsafe { c::hive_explain(file.as_ptr(), file.len(), number, line, byte, t, tl, a, al) })
 }
 
-/// What a fix is written from.
-#[derive(Clone, Copy, Debug)]
-pub struct FixValues {
-    pub seconds: u32,
-    pub latitude: (u64, u8),
-    pub longitude: (u64, u8),
-    pub validity: u8,
-    pub pressure: i32,
-    pub gnss: i32,
-}
-
 pub fn write_fix(v: &FixValues, columns: &[u8], layout: &[u8], place: usize, out: &mut [u8]) -> Told {
     told(|a, al| unsafe {
         c::hive_write_fix(
-            v.seconds,
-            v.latitude.0,
-            v.latitude.1,
-            v.longitude.0,
-            v.longitude.1,
+            v.time.count,
+            v.time.decimals,
+            v.latitude.count,
+            v.latitude.letter,
+            v.latitude.decimals,
+            v.longitude.count,
+            v.longitude.letter,
+            v.longitude.decimals,
             v.validity,
             v.pressure,
             v.gnss,

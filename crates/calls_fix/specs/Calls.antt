@@ -11,9 +11,10 @@ use Rattle.rules.specs.Reads.{answered}
 use Rattle.given.specs.Given.{fixBy, extraBy}
 use Rattle.lent_entries.specs.Lent.{entriesSize, entryNumbers}
 
--- a fix, its letters as bytes; the altitudes stand beside the answer
+-- a fix, each count with its extra decimals, its letters as bytes; the altitudes stand beside the answer
 abbrev pub fixNumbers : Fix → List ℕ
-fixNumbers f = f .time ∷ f .lat .count ∷ f .lat .letter ∷ f .lon .count ∷ f .lon .letter ∷ f .validity ∷ []
+fixNumbers f =
+    f .time .count ∷ f .time .decimals ∷ f .lat .count ∷ f .lat .letter ∷ f .lat .decimals ∷ f .lon .count ∷ f .lon .letter ∷ f .lon .decimals ∷ f .validity ∷ []
 
 -- the two altitudes of a fix, pressure and GNSS; 0 where refused
 abbrev pub heightsOf : Said Fix → List ℤ

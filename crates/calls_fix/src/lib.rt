@@ -40,15 +40,31 @@ fn put_heights(heights: &mut [i32], read: FixRead)
 fn fix_values(f: Fix) -> Numbers
     ensures { λ r. ⌜ r ≡ accepting (fixNumbers f) ⌝ }
 {
+    let time = f.time;
     let lat = f.lat;
     let lon = f.lon;
-    let time = f.time as u64;
+    let seconds = time.count as u64;
+    let of_seconds = time.decimals as u64;
     let latitude = lat.count;
     let n_or_s = lat.letter as u64;
+    let of_latitude = lat.decimals as u64;
     let longitude = lon.count;
     let e_or_w = lon.letter as u64;
+    let of_longitude = lon.decimals as u64;
     let validity = f.validity as u64;
-    accepted(&[time, latitude, n_or_s, longitude, e_or_w, validity])
+    accepted(
+        &[
+            seconds,
+            of_seconds,
+            latitude,
+            n_or_s,
+            of_latitude,
+            longitude,
+            e_or_w,
+            of_longitude,
+            validity,
+        ],
+    )
 }
 
 fn numbers(read: FixRead) -> Numbers

@@ -7,12 +7,12 @@ use lib.ListN.{length}
 use borrow.Author.Tests.{eq-eqb, ne-eqb}
 use Rattle.rules.specs.Degrees.{degreesTold, degreesOf}
 use Rattle.rules.specs.declared.DegreesRead.{DegreesRead}
-use Rattle.rules.specs.declared.Position.{Position}
+use Rattle.rules.specs.declared.FinePosition.{FinePosition}
 use Rattle.answers.specs.Answers.{numberOf}
 use Rattle.calls_line.specs.Calls.{DegreesAnswered}
 use Rattle.calls_line.specs.Values.{anglesOf}
 
-module _ (lat lon : Position) (degrees : List Float) where
+module _ (lat lon : FinePosition) (degrees : List Float) where
   pub degrees-no-room : (length degrees ≡ 2 → ⊥) → DegreesAnswered lat lon degrees 17 degrees
   degrees-no-room h = record { number = rw (ne-eqb (length degrees) 2 h); angles = rw (ne-eqb (length degrees) 2 h) }
 

@@ -3,7 +3,7 @@ use Prim.Native.Nat.{ℕ}
 use mathlib.Core.List.{List}
 use mathlib.Core.Path.{_≡_, sym, _∙_}
 use lib.Ieee.{Float}
-use Rattle.rules.specs.declared.Position.{Position}
+use Rattle.rules.specs.declared.FinePosition.{FinePosition}
 use Rattle.answers.proofs.Only.{only-answered}
 use Rattle.calls_line.specs.Calls.{DegreesAnswered, DateAnswered, EventAnswered, SatellitesAnswered, HeadAnswered, PointAnswered}
 
@@ -23,5 +23,5 @@ module _ (line answer : List ℕ) (r r′ : ℕ) (after after′ : List ℕ) whe
   pub only-point-answered : PointAnswered line answer r after → PointAnswered line answer r′ after′ → (r ≡ r′) × (after ≡ after′)
   only-point-answered = only-answered answer r r′ after after′
 
-pub only-degrees-answered : (lat lon : Position) (degrees : List Float) (r r′ : ℕ) (after after′ : List Float) → DegreesAnswered lat lon degrees r after → DegreesAnswered lat lon degrees r′ after′ → (r ≡ r′) × (after ≡ after′)
+pub only-degrees-answered : (lat lon : FinePosition) (degrees : List Float) (r r′ : ℕ) (after after′ : List Float) → DegreesAnswered lat lon degrees r after → DegreesAnswered lat lon degrees r′ after′ → (r ≡ r′) × (after ≡ after′)
 only-degrees-answered lat lon degrees r r′ after after′ d d′ = (d .number ∙ sym (d′ .number), d .angles ∙ sym (d′ .angles))

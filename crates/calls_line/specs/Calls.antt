@@ -6,7 +6,7 @@ use mathlib.Core.Path.{_≡_}
 use lib.Ieee.{Float}
 use Rattle.rules.specs.Degrees.{degreesOf}
 use Rattle.rules.specs.Reads.{dateSaid, eventSaid, satellitesSaid, headSaid, pointSaid}
-use Rattle.rules.specs.declared.Position.{Position}
+use Rattle.rules.specs.declared.FinePosition.{FinePosition}
 use Rattle.answers.specs.Answers.{inNumbers, numberOf, timeNumbers, hasRoom, AnswerGiven}
 use Rattle.calls_line.specs.Values.{dateNumbers, headNumbers, pointNumbers, anglesOf}
 
@@ -29,6 +29,6 @@ abbrev pub PointAnswered : List ℕ → List ℕ → ℕ → List ℕ → Type 0
 PointAnswered line answer r after = AnswerGiven answer (inNumbers pointNumbers (pointSaid line)) r after
 
 -- "For the map, a position also comes as a pair of f64 degrees"
-pub record DegreesAnswered (lat lon : Position) (degrees : List Float) (r : ℕ) (after : List Float) : Type 0 where
+pub record DegreesAnswered (lat lon : FinePosition) (degrees : List Float) (r : ℕ) (after : List Float) : Type 0 where
   pub number : r ≡ cond (hasRoom 2 degrees) (numberOf (degreesOf lat lon)) 17
   pub angles : after ≡ cond (hasRoom 2 degrees) (anglesOf (degreesOf lat lon)) degrees

@@ -24,9 +24,9 @@ abbrev pub headNumbers : Head → List ℕ
 headNumbers h =
     h .declared .day ∷ h .declared .month ∷ h .declared .year ∷ h .time ∷ plannedDate (h .flight) .day ∷ plannedDate (h .flight) .month ∷ plannedDate (h .flight) .year ∷ h .task ∷ h .turns ∷ []
 
--- a point of a declaration, its position where a fix has it
+-- a point of a declaration, its position where a fix has it, with no extra decimals
 abbrev pub pointNumbers : Point → List ℕ
-pointNumbers p = 0 ∷ p .lat .count ∷ p .lat .letter ∷ p .lon .count ∷ p .lon .letter ∷ []
+pointNumbers p = 0 ∷ 0 ∷ p .lat .count ∷ p .lat .letter ∷ 0 ∷ p .lon .count ∷ p .lon .letter ∷ []
 
 -- a latitude and a longitude in degrees; plain zero, the f64 whose bits are all 0, where refused
 abbrev pub anglesOf : Said Degrees → List Float

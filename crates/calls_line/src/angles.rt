@@ -7,7 +7,7 @@ ghost use Rattle.answers.specs.Answers.{numberOf};
 ghost use Rattle.calls_line.specs.Values.{anglesOf};
 ghost use Rattle.calls_line.specs.Calls.{DegreesAnswered};
 use rules::DegreesRead;
-use rules::Position;
+use rules::FinePosition;
 
 fn put_pair(out: &mut [f64], a: f64, b: f64)
     requires { ⌜ length (now out) ≡ 2 ⌝ }
@@ -37,20 +37,30 @@ fn number(read: DegreesRead) -> u32
     }
 }
 
-// A latitude and a longitude in degrees.
-pub fn degrees(latitude: u64, n_or_s: u8, longitude: u64, e_or_w: u8, degrees: &mut [f64]) -> u32
-    ensures { λ r. ⌜ DegreesAnswered (record { count = latitude; letter = «n_or_s» }) (record { count = longitude; letter = «e_or_w» }) (now (degrees .entry)) r (now (degrees .exit)) ⌝ }
+// A latitude and a longitude in degrees, each a count with its letter and its extra decimals.
+pub fn degrees(
+    latitude: u64,
+    n_or_s: u8,
+    latitude_decimals: u8,
+    longitude: u64,
+    e_or_w: u8,
+    longitude_decimals: u8,
+    degrees: &mut [f64],
+) -> u32
+    ensures { λ r. ⌜ DegreesAnswered (record { count = latitude; letter = «n_or_s»; decimals = «latitude_decimals» }) (record { count = longitude; letter = «e_or_w»; decimals = «longitude_decimals» }) (now (degrees .entry)) r (now (degrees .exit)) ⌝ }
 {
     if degrees.len() != 2 {
         return 17;
     }
-    let lat = Position {
+    let lat = FinePosition {
         count: latitude,
         letter: n_or_s,
+        decimals: latitude_decimals,
     };
-    let lon = Position {
+    let lon = FinePosition {
         count: longitude,
         letter: e_or_w,
+        decimals: longitude_decimals,
     };
     let read = degrees::degrees(lat, lon);
     put_degrees(degrees, read);

@@ -82,7 +82,7 @@ fn point_values(p: Point) -> Numbers
     let lon = p.lon;
     let n_or_s = lat.letter as u64;
     let e_or_w = lon.letter as u64;
-    accepted(&[0, lat.count, n_or_s, lon.count, e_or_w])
+    accepted(&[0, 0, lat.count, n_or_s, 0, lon.count, e_or_w])
 }
 
 pub(crate) fn point(read: PointRead) -> Numbers

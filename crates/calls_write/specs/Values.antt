@@ -15,13 +15,13 @@ use Rattle.rules.specs.declared.Point.{Point}
 abbrev pub placeNumbers : ℕ → List ℕ
 placeNumbers n = n ∷ []
 
--- a fix of plain numbers
-abbrev pub fixFrom : ℕ → ℕ → ℕ → ℕ → ℕ → ℕ → ℤ → ℤ → Fix
-fixFrom seconds latitude nOrS longitude eOrW validity pressure gnss =
+-- a fix of plain numbers: each of its three counts has its extra decimals beside it
+abbrev pub fixFrom : ℕ → ℕ → ℕ → ℕ → ℕ → ℕ → ℕ → ℕ → ℕ → ℤ → ℤ → Fix
+fixFrom seconds ofSeconds latitude nOrS ofLatitude longitude eOrW ofLongitude validity pressure gnss =
     record {
-      time = seconds;
-      lat = record { count = latitude; letter = nOrS };
-      lon = record { count = longitude; letter = eOrW };
+      time = record { count = seconds; decimals = ofSeconds };
+      lat = record { count = latitude; letter = nOrS; decimals = ofLatitude };
+      lon = record { count = longitude; letter = eOrW; decimals = ofLongitude };
       validity = validity;
       pressure = record { metres = pressure };
       gnss = record { metres = gnss };

@@ -15,10 +15,13 @@ mod values;
 // A B line of a fix, into an output from a place on.
 pub fn fix(
     seconds: u32,
+    seconds_decimals: u8,
     latitude: u64,
     n_or_s: u8,
+    latitude_decimals: u8,
     longitude: u64,
     e_or_w: u8,
+    longitude_decimals: u8,
     validity: u8,
     pressure: i32,
     gnss: i32,
@@ -28,17 +31,20 @@ pub fn fix(
     out: &mut [u8],
     answer: &mut [u64],
 ) -> u32
-    ensures { λ r. ⌜ WriteFixAnswered (fixFrom seconds latitude «n_or_s» longitude «e_or_w» validity pressure gnss) (now (columns .entry)) (now (layout .entry)) place (now (out .entry)) (now (answer .entry)) r (now (out .exit)) (now (answer .exit)) ⌝ }
+    ensures { λ r. ⌜ WriteFixAnswered (fixFrom seconds «seconds_decimals» latitude «n_or_s» «latitude_decimals» longitude «e_or_w» «longitude_decimals» validity pressure gnss) (now (columns .entry)) (now (layout .entry)) place (now (out .entry)) (now (answer .entry)) r (now (out .exit)) (now (answer .exit)) ⌝ }
 {
     if answer.len() != SIZE {
         return 17;
     }
     let f = values::fix_from(
         seconds,
+        seconds_decimals,
         latitude,
         n_or_s,
+        latitude_decimals,
         longitude,
         e_or_w,
+        longitude_decimals,
         validity,
         pressure,
         gnss,

@@ -7,6 +7,8 @@ use answers::Numbers;
 use answers::accepted;
 use answers::refused;
 use rules::Date;
+use rules::FinePosition;
+use rules::FineTime;
 use rules::Fix;
 use rules::Head;
 use rules::Height;
@@ -23,25 +25,33 @@ fn height(metres: i32) -> Height
 
 pub(crate) fn fix_from(
     seconds: u32,
+    seconds_decimals: u8,
     latitude: u64,
     n_or_s: u8,
+    latitude_decimals: u8,
     longitude: u64,
     e_or_w: u8,
+    longitude_decimals: u8,
     validity: u8,
     pressure: i32,
     gnss: i32,
 ) -> Fix
-    ensures { λ r. ⌜ r ≡ fixFrom seconds latitude «n_or_s» longitude «e_or_w» validity pressure gnss ⌝ }
+    ensures { λ r. ⌜ r ≡ fixFrom seconds «seconds_decimals» latitude «n_or_s» «latitude_decimals» longitude «e_or_w» «longitude_decimals» validity pressure gnss ⌝ }
 {
     Fix {
-        time: seconds,
-        lat: Position {
+        time: FineTime {
+            count: seconds,
+            decimals: seconds_decimals,
+        },
+        lat: FinePosition {
             count: latitude,
             letter: n_or_s,
+            decimals: latitude_decimals,
         },
-        lon: Position {
+        lon: FinePosition {
             count: longitude,
             letter: e_or_w,
+            decimals: longitude_decimals,
         },
         validity,
         pressure: height(pressure),

@@ -10,6 +10,7 @@ use Rattle.rules.specs.Choice.{part}
 use Rattle.rules.specs.Layouts.{badColumn, columns}
 use Rattle.rules.specs.Refusals.{says, no}
 use Rattle.rules.specs.declared.Reason.the-variants.{Column}
+use Rattle.rules.specs.declared.AtLimit.{AtLimit}
 use Rattle.rules.specs.declared.Layout.{Layout}
 
 -- the end comes before the start
@@ -29,10 +30,10 @@ pub part-whole : (a b e : ℕ) (l : List ℕ) → a ≡ b → take (e - a) (drop
 part-whole a b e l q = rw (← q)
 
 -- what the first bad column tells of all
-pub columns-clear : (l : List ℕ) (layout : Layout) → badColumn l layout ≡ none → says tt ≡ columns l layout
+pub columns-clear : (at : AtLimit) (l : List ℕ) (layout : Layout) → badColumn at l layout ≡ none → says tt ≡ columns at l layout
 unfolding columns
-columns-clear l layout e = rw e
+columns-clear at l layout e = rw e
 
-pub columns-bad : (l : List ℕ) (layout : Layout) (k : ℕ) → badColumn l layout ≡ some k → no Column k ≡ columns l layout
+pub columns-bad : (at : AtLimit) (l : List ℕ) (layout : Layout) (k : ℕ) → badColumn at l layout ≡ some k → no Column k ≡ columns at l layout
 unfolding columns
-columns-bad l layout k e = rw e
+columns-bad at l layout k e = rw e

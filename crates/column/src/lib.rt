@@ -2,9 +2,10 @@
 ghost use mathlib.Core.Path.{_≡_};
 ghost use Rattle.rules.specs.Choice.{byte};
 ghost use Rattle.rules.specs.Layouts.{spanOf, columnText};
-ghost use Rattle.rules.specs.Listed.{keepsRule};
+ghost use Rattle.rules.specs.Listed.{keepsLimit};
 ghost use Rattle.rules.specs.Promises.{ColumnsChecked};
 ghost use Rattle.column.specs.Parts.{TextOf};
+use rules::AtLimit;
 use rules::Entry;
 use rules::Layout;
 use rules::Outcome;
@@ -39,16 +40,16 @@ pub fn text_of(line: &[u8], first: u8, last: u8) -> &[u8]
     &line[a..e]
 }
 
-// Whether a column of a line keeps the rule of its code.
-fn keeps(line: &[u8], e: Entry) -> bool
-    ensures { λ r. ⌜ r ≡ keepsRule (e .code) (columnText (now (line .entry)) (spanOf e)) ⌝ }
+// Whether a column of a line, which has these coordinates at their limits, keeps the rule of its code.
+fn keeps(line: &[u8], e: Entry, at: AtLimit) -> bool
+    ensures { λ r. ⌜ r ≡ keepsLimit at (e .code) (columnText (now (line .entry)) (spanOf e)) ⌝ }
 {
-    listed::keeps_rule(e.code, text_of(line, e.first, e.last))
+    listed::keeps_limit(at, e.code, text_of(line, e.first, e.last))
 }
 
-// COLUMN at the first byte of the first listed column that breaks its rule.
-pub fn columns(line: &[u8], layout: Layout) -> Outcome
-    ensures { λ r. ⌜ ColumnsChecked (now (line .entry)) layout r ⌝ }
+// COLUMN at the first byte of the first listed column that breaks its rule, in a line that has these coordinates at their limits.
+pub fn columns(line: &[u8], layout: Layout, at: AtLimit) -> Outcome
+    ensures { λ r. ⌜ ColumnsChecked at (now (line .entry)) layout r ⌝ }
 {
     let n = layout.count;
     let mut i = 0;
@@ -57,7 +58,7 @@ pub fn columns(line: &[u8], layout: Layout) -> Outcome
             return Outcome::Accepted;
         }
         let e = layout.entries[i];
-        if !keeps(line, e) {
+        if !keeps(line, e, at) {
             return Outcome::Refused(Refusal {
                 reason: Reason::Column,
                 line: 0,

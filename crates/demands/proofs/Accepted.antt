@@ -33,7 +33,7 @@ use Rattle.laws.proofs.Passing.{front-over}
 use Rattle.laws.proofs.Signing.{judged-signed}
 use Rattle.laws.proofs.Splitting.{none-left}
 use Rattle.demands.specs.Grammar.{IsText, OrderFrom, InOrder, IsALine, IsDateLine, AtMostOne, Parts, toldIn, linesIn, SealedBy, Keeps, joinLines, Meets, beginning, countsIn, signedIn, flightOf}
-use Rattle.sound.proofs.Entries.{said-some}
+use Rattle.trips.proofs.Placing.{said-some}
 use Rattle.sound.proofs.Families.{every, all-layouts}
 use Rattle.demands.proofs.Leading.{letter-tests, counts-more, Part, Leads, a-line, date-line, h-line, layout-line, body-line, g-line, l-line, Sound, sound-start, judge-leads, leads-judge}
 use Rattle.demands.proofs.Leading as part

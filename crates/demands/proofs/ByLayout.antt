@@ -2,32 +2,29 @@
 use Prim.Native.Nat.{ℕ, suc, _+_, _*_, _^_}
 use mathlib.Core.Bool.{Bool, true, false, cond}
 use mathlib.Core.List.{List, [], _∷_}
-use mathlib.Core.Option.{some}
 use mathlib.Core.Path.{_≡_, refl, sym, _∙_, ap, subst}
 use native.Mathlib.Nat.{one-mul, zero-mul, zero-add, add-zero}
 use native.Mathlib.Omega.{arith}
-use borrow.Author.Tests.{eqb-true}
-use lib.Dec.{eqb}
-use Rattle.rules.specs.Choice.{given, firstOf, Each}
+use Rattle.rules.specs.Choice.{Each}
 use Rattle.rules.specs.Families.{firstStart}
-use Rattle.rules.specs.Refusals.{says, refuses, number}
+use Rattle.rules.specs.Refusals.{says}
 use Rattle.rules.specs.Listed.{listed, packedOf, codeText}
-use Rattle.rules.specs.Layouts.{entriesOf, lineLength, Span, spanOf, look, carries, wordFrom, presenceOf, lengthSaid, presenceSaid}
+use Rattle.rules.specs.Layouts.{entriesOf, lineLength, look, carries, wordFrom, presenceOf, lengthSaid, presenceSaid}
 use Rattle.rules.specs.declared.Listed.{Listed}
-use Rattle.rules.specs.declared.Entry.{Entry}
 use Rattle.rules.specs.declared.Layout.{Layout}
 use Rattle.rules.specs.declared.Family.{Family}
 use Rattle.rules.specs.declared.Family.the-variants as family
-use Rattle.rules.proofs.Inverse.{none-some}
 use Rattle.basics.proofs.Presence.{set-bits, count-bits}
-use Rattle.sound.proofs.Each.{each-map}
+use Rattle.trips.proofs.Each.{each-map}
 use Rattle.sound.proofs.Entries.{packed-back}
-use Rattle.sound.proofs.Placed.{Coded, allowed-there, carries-none}
+use Rattle.sound.proofs.Placed.{allowed-there, carries-none}
 use Rattle.sound.proofs.Columns.{carried-there}
 use Rattle.words.specs.Codes.{Row, rows, Same, SameRows}
 use Rattle.words.proofs.Codes.{listed-exactly}
-use Rattle.demands.specs.Readings.{Carries, Present, no-rows, carried, absent, ReadsPresence, ReadsLayout}
+use Rattle.demands.specs.Grammar.{Carries}
+use Rattle.demands.specs.Readings.{Present, no-rows, carried, absent, ReadsPresence, ReadsLayout}
 use Rattle.demands.proofs.LayoutLines.{IsTold}
+use Rattle.demands.proofs.Finer.{found-in}
 use Rattle.demands.proofs.Faulty.{length-laid}
 
 -- ---- the length of its lines
@@ -39,19 +36,6 @@ layout-reads f layout t =
     record { long = rw (t .right) (ap says (ap (lineLength (firstStart f)) (a .1) ∙ length-laid f (entriesOf layout))) }
 
 -- ---- the listed codes that it carries
-
--- a code that is found is that of an entry
-found-in : (x : ℕ) (es : List Entry) (n : ℕ) (s : Span) → firstOf (Coded x) (λ k e. spanOf e) es n ≡ some s → Carries es (codeText x)
-unfolding firstOf
-found-in x [] n s h = absurd (none-some h)
-found-in x (e ∷ es) n s h = by (eqb (e .code) x) refl h (found-in x es (suc n) s)
-  where
-    by : (t : Bool) → eqb (e .code) x ≡ t → cond t (some (spanOf e)) (firstOf (Coded x) (λ k e. spanOf e) es (suc n)) ≡ some s
-        → (firstOf (Coded x) (λ k e. spanOf e) es (suc n) ≡ some s → Carries es (codeText x)) → Carries (e ∷ es) (codeText x)
-    by true q h r = record { before = []; entry = e; after = es; order = refl; coded = ap codeText (eqb-true _ _ q) }
-    by false q h r =
-        let c = r h in
-        record { before = e ∷ c .before; entry = c .entry; after = c .after; order = ap (λ y. e ∷ y) (c .order); coded = c .coded }
 
 module _ (layout : Layout) (t : IsTold family.B layout) where
   carried-in : (r : Listed) (p : Row) → Same r p → carries layout (r .code) ≡ true → Carries (entriesOf layout) (p .name)

@@ -14,8 +14,9 @@ use lib.ListN.{length, getD, take, drop, length-append, length-drop, take-append
 use lib.Seq.{drop-drop, drop-at, take-at, length-take-le, drop-length}
 use lib.IntN.{pos, negℤ}
 use Rattle.rules.specs.Choice.{part, Each, given, need, on}
-use Rattle.rules.specs.Listed.{keepsRule, packedOf, codeText}
+use Rattle.rules.specs.Listed.{keepsLimit, packedOf, codeText}
 use Rattle.rules.specs.Layouts.{entriesOf, allowed, lineLength, Span, spanOf, look, columnText}
+use Rattle.rules.specs.declared.AtLimit.{AtLimit}
 use Rattle.rules.specs.declared.Entry.{Entry}
 use Rattle.rules.specs.declared.Layout.{Layout}
 use Rattle.rules.specs.Limits.{isClean, badTail, goodTail}
@@ -30,10 +31,11 @@ use Rattle.trips.proofs.Texts.{clean-valid}
 use Rattle.trips.proofs.Laws.{byte-there}
 use Rattle.trips.proofs.Digits.{digits-length, digits-front, number-there, number-here}
 use Rattle.words.specs.Characters.{IsValid}
-use Rattle.words.proofs.Codes.{rule-exactly}
+use Rattle.words.specs.Codes.{RowSays, Holds}
+use Rattle.words.specs.Finer.{OnlyZeros, Zeros}
 use Rattle.demands.specs.Grammar.{widthOf, IsEntry, Tiles, Columns, none, column}
 use Rattle.demands.specs.Readings.{Spells, plain, minus, NumberOf, ReadsColumn, columnTexts, IsName, ReadsColumns}
-use Rattle.sound.proofs.Each.{each-map, each-both, each-join, each-cut, nothing-found, none-found}
+use Rattle.trips.proofs.Each.{each-map, each-both, each-join, each-cut, nothing-found, none-found}
 use Rattle.sound.proofs.Entries.{unpacked, packed-back}
 use Rattle.sound.proofs.Placed.{Coded, Sound, allowed-there}
 use Rattle.sound.proofs.Columns.{each-looked, end-of, line-end}
@@ -62,10 +64,14 @@ with-column first last from wide left end a b c d e = omega arith
 
 -- ---- the columns of a tail
 
-module _ (start : ℕ) (tail : List ℕ) where
+-- what it means that a column keeps its code's rule, where `AtLat` and `AtLon` say that a coordinate is at its limit
+pub record Meant (at : AtLimit) (AtLat AtLon : Type 0) : Type 0 where
+  pub exactly : (x : ℕ) (t : List ℕ) → (keepsLimit at x t ≡ true) ↔ (RowSays x (λ p. Holds (p .name) t) × (OnlyZeros AtLat AtLon (codeText x) → Zeros t))
+
+module _ (at : AtLimit) (AtLat AtLon : Type 0) (meant : Meant at AtLat AtLon) (start : ℕ) (tail : List ℕ) where
   -- the text of an entry's column keeps its code's rule
   abbrev Keeps : Entry → Type 0
-  Keeps e = keepsRule (e .code) (part (e .first - start) (e .last + 1 - start) tail) ≡ true
+  Keeps e = keepsLimit at (e .code) (part (e .first - start) (e .last + 1 - start) tail) ≡ true
 
   -- what is left of the tail, from byte `from` of the line on, is the text of these entries
   record Left (es : List Entry) (from : ℕ) (rest : List ℕ) : Type 0 where
@@ -75,7 +81,7 @@ module _ (start : ℕ) (tail : List ℕ) where
     ruled : Each Keeps es
 
   module _ (low : 1 ≤ start) where
-    columns-there : (es : List Entry) (from : ℕ) (rest : List ℕ) → Tiles from es → start ≤ from → Left es from rest → Columns es rest
+    columns-there : (es : List Entry) (from : ℕ) (rest : List ℕ) → Tiles from es → start ≤ from → Left es from rest → Columns AtLat AtLon es rest
     columns-there [] from [] w h c = none
     columns-there [] from (b ∷ rest) w h c = absurd (omega (arith, c .long))
     columns-there (e ∷ es) from rest w h c =
@@ -95,12 +101,13 @@ module _ (start : ℕ) (tail : List ℕ) where
           valid = v .1;
           ruled = c .ruled .1;
         }) in
-        subst (Columns (e ∷ es)) s (column (take (widthOf e) rest) (length-take-le (widthOf e) rest k) (v .0) (rule-exactly (e .code) (take (widthOf e) rest) .0 (ap (keepsRule (e .code)) (sym t) ∙ c .ruled .0)) r)
+        let m = meant .exactly (e .code) (take (widthOf e) rest) .0 (ap (keepsLimit at (e .code)) (sym t) ∙ c .ruled .0) in
+        subst (Columns AtLat AtLon (e ∷ es)) s (column (take (widthOf e) rest) (length-take-le (widthOf e) rest k) (v .0) (m .0) (m .1) r)
 
-    columns-here : (es : List Entry) (from : ℕ) (rest : List ℕ) → Tiles from es → start ≤ from → drop (from - start) tail ≡ rest → Columns es rest
+    columns-here : (es : List Entry) (from : ℕ) (rest : List ℕ) → Tiles from es → start ≤ from → drop (from - start) tail ≡ rest → Columns AtLat AtLon es rest
         → Left es from rest
     columns-here [] from rest w h g none = record { here = g; long = omega arith; valid = tt; ruled = tt }
-    columns-here (e ∷ es) from rest w h g (column {t = r} c n v u x) =
+    columns-here (e ∷ es) from rest w h g (column {t = r} c n v u z x) =
         let f : IsEntry from e = w .0 in
         let p : e .first - start ≡ from - start = ap (λ x. x - start) (f .starts) in
         let q : e .last + 1 - start - (from - start) ≡ widthOf e = omega (arith, f .starts, f .ends) in
@@ -114,15 +121,15 @@ module _ (start : ℕ) (tail : List ℕ) where
           here = g;
           long = ap (λ x. from - 1 + x) (length-append c r) ∙ with-column (e .first) (e .last) from (length c) (length r) _ (f .starts) (f .ends) (omega arith) n (k .long);
           valid = each-join (IsValid false) c r v (k .valid);
-          ruled = (ap (keepsRule (e .code)) t ∙ rule-exactly (e .code) c .1 u, k .ruled);
+          ruled = (ap (keepsLimit at (e .code)) t ∙ meant .exactly (e .code) c .1 (u, z), k .ruled);
         }
 
 -- ---- the theorem
 
-pub tail-exactly : (start : ℕ) (tail : List ℕ) (layout : Layout) → 1 ≤ start → Sound start layout
-    → (goodTail start tail layout ≡ true) ↔ Columns (entriesOf layout) tail
+pub tail-exactly : (at : AtLimit) (AtLat AtLon : Type 0) → Meant at AtLat AtLon → (start : ℕ) (tail : List ℕ) (layout : Layout) → 1 ≤ start → Sound start layout
+    → (goodTail at start tail layout ≡ true) ↔ Columns AtLat AtLon (entriesOf layout) tail
 unfolding goodTail badTail
-tail-exactly start tail layout low s = (there, here)
+tail-exactly at AtLat AtLon meant start tail layout low s = (there, here)
   where
     ends : lineLength start layout ≡ end-of (entriesOf layout) start
     ends = ap (lineLength start) (allowed-there start layout (s .right) (s .full) .1) ∙ line-end start (entriesOf layout)
@@ -130,24 +137,24 @@ tail-exactly start tail layout low s = (there, here)
     same : start - start ≡ 0
     same = omega arith
 
-    there : goodTail start tail layout ≡ true → Columns (entriesOf layout) tail
+    there : goodTail at start tail layout ≡ true → Columns AtLat AtLon (entriesOf layout) tail
     there e =
         let a = need-inv (allowed start layout) false true _ false-true e in
         let n = need-inv (eqb (start - 1 + length tail) (lineLength start layout)) false true _ false-true (a .1) in
         let c = need-inv (isClean tail) false true _ false-true (n .1) in
         let w = told-tiles start layout s in
-        columns-there start tail low (entriesOf layout) start tail w (omega arith) (record {
+        columns-there at AtLat AtLon meant start tail low (entriesOf layout) start tail w (omega arith) (record {
           here = ap (λ x. drop x tail) same;
           long = eqb-true _ _ (n .0) ∙ ends;
           valid = are-valid tail (sym (clean-valid tail) ∙ c .0);
           ruled = each-map (entriesOf layout) (λ e h. not-false _ h) (nothing-found _ _ (entriesOf layout) 0 (nothing-given _ (c .1)));
         })
 
-    here : Columns (entriesOf layout) tail → goodTail start tail layout ≡ true
+    here : Columns AtLat AtLon (entriesOf layout) tail → goodTail at start tail layout ≡ true
     here x =
         let w = told-tiles start layout s in
-        let k = columns-here start tail low (entriesOf layout) start tail w (omega arith) (ap (λ x. drop x tail) same) x in
-        let b : badTail start tail layout ≡ _ = none-found _ _ (entriesOf layout) 0 (each-map (entriesOf layout) (λ e h. rw h refl) (k .ruled)) in
+        let k = columns-here at AtLat AtLon meant start tail low (entriesOf layout) start tail w (omega arith) (ap (λ x. drop x tail) same) x in
+        let b : badTail at start tail layout ≡ _ = none-found _ _ (entriesOf layout) 0 (each-map (entriesOf layout) (λ e h. rw h refl) (k .ruled)) in
         rw (s .right, eq-eqb _ _ (k .long ∙ sym ends), clean-valid tail, valid-are tail (k .valid), b)
 
 -- ---- the number that a text spells
@@ -207,11 +214,11 @@ number-of t none e = (refl, λ z s. none-some (sym e ∙ whole-here t s))
 
 -- ---- the columns stand one behind the other, each as wide as its entry says, up to the line's end
 
-texts-are : (l : List ℕ) (es : List Entry) (from : ℕ) (rest : List ℕ) → Tiles from es → 1 ≤ from → drop (from - 1) l ≡ rest → Columns es rest
+pub texts-are : {AtLat AtLon : Type 0} (l : List ℕ) (es : List Entry) (from : ℕ) (rest : List ℕ) → Tiles from es → 1 ≤ from → drop (from - 1) l ≡ rest → Columns AtLat AtLon es rest
     → (columnTexts l es ≡ rest) × Each (λ e. length (columnText l (spanOf e)) ≡ widthOf e) es
 unfolding columnTexts
 texts-are l [] from rest w h g none = (refl, tt)
-texts-are l (e ∷ es) from rest w h g (column {t = t} c n v u x) =
+texts-are l (e ∷ es) from rest w h g (column {t = t} c n v u z x) =
     let f : IsEntry from e = w .0 in
     let a : e .first - 1 ≡ from - 1 = ap (λ i. i - 1) (f .starts) in
     let b : e .last - (e .first - 1) ≡ widthOf e = omega (arith, f .starts, f .ends) in
@@ -251,8 +258,8 @@ module _ (layout : Layout) (l : List ℕ) (fits : fitsLine l layout ≡ true) wh
       let s = column-said (codeText (e .code)) (spanOf e) (ap (look layout) (packed-back (e .code)) ∙ h) in
       record { span = s; text = rw s; wide = n; number = rw s (number-of (columnText l (spanOf e)) (wholeOf (columnText l (spanOf e))) refl) }
 
-pub columns-read : (f : Family) (layout : Layout) (l tail : List ℕ) → 1 ≤ firstStart f → Sound (firstStart f) layout
-    → drop (firstStart f - 1) l ≡ tail → Columns (entriesOf layout) tail → fitsLine l layout ≡ true → ReadsColumns f layout l
+pub columns-read : {AtLat AtLon : Type 0} (f : Family) (layout : Layout) (l tail : List ℕ) → 1 ≤ firstStart f → Sound (firstStart f) layout
+    → drop (firstStart f - 1) l ≡ tail → Columns AtLat AtLon (entriesOf layout) tail → fitsLine l layout ≡ true → ReadsColumns f layout l
 unfolding number
 columns-read f layout l tail low s cut is fits =
     let t = told-tiles (firstStart f) layout s in

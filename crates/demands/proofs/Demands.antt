@@ -5,7 +5,7 @@
 -- `file::check_untabled` answers `verdict seal file none` (FileJudged); `cut::bounds` answers `boundsOf` (LineGiven), `Cursor::step` answers `stepAt` (LineStepped), the readers
 -- in `read` answer `reading` (FixGiven, ExtraGiven) and so on, the look in `look` answers `lookSaid` (LookGiven ..), `degrees::degrees` answers `degreesOf` (DegreesGiven); the writers in `write` keep `Written` (FixWritten ..),
 -- from which `BothWays` tells what they write (proofs/Promised). By the laws `only-..` of crate only, nothing else would keep these promises.
-use Prim.Native.Nat.{ℕ, _+_, _≤_}
+use Prim.Native.Nat.{ℕ, _+_, _*_, _≤_}
 use Prim.Native.Char.{code}
 use mathlib.Core.Bool.{Bool, true, false}
 use mathlib.Core.List.{List, [], _∷_, _++_}
@@ -13,12 +13,13 @@ use mathlib.Core.Logic.{_⊎_, _↔_}
 use mathlib.Core.Option.{Option, none, some}
 use mathlib.Core.Path.{_≡_, refl, sym, _∙_, ap}
 use lib.ListN.{length, getD}
-use Rattle.rules.specs.Choice.{Each}
+use Rattle.rules.specs.Choice.{byte, Each}
 use Rattle.rules.specs.Families.{firstStart, layoutOf, countOf, withLayout}
 use Rattle.rules.specs.Refusals.{says, refuses}
 use Rattle.rules.specs.Files.{verdict}
 use Rattle.rules.specs.Chars.{isValid, isCode}
-use Rattle.rules.specs.Listed.{widthFits, keepsRule}
+use Rattle.rules.specs.Listed.{codeText, widthFits, keepsLimit}
+use Rattle.rules.specs.Fields.{latitudeAt, longitudeAt}
 use Rattle.rules.specs.Degrees.{degreesOf}
 use Rattle.rules.specs.Layouts.{isSaid, allowed}
 use Rattle.rules.specs.Split.{Bounds, Stepped, boundsOf, stepAt}
@@ -35,7 +36,9 @@ use Rattle.rules.specs.declared.Family.the-variants as family
 use Rattle.rules.specs.declared.Fix.{Fix}
 use Rattle.rules.specs.declared.Head.{Head}
 use Rattle.rules.specs.declared.Point.{Point}
+use Rattle.rules.specs.declared.AtLimit.{AtLimit}
 use Rattle.rules.specs.declared.Position.{Position}
+use Rattle.rules.specs.declared.FinePosition.{FinePosition}
 use Rattle.rules.specs.declared.Degrees.{Degrees}
 use Rattle.rules.specs.declared.Flight.{Flight}
 use Rattle.rules.specs.declared.Seal.{Seal}
@@ -52,7 +55,9 @@ use Rattle.trips.proofs.Points.{point-trip, point-good}
 use Rattle.words.specs.Characters.{IsValid, IsCode}
 use Rattle.words.specs.Codes.{RowSays, Holds}
 use Rattle.words.proofs.Characters.{valid-exactly, code-exactly}
-use Rattle.words.proofs.Codes.{width-exactly, rule-exactly}
+use Rattle.words.specs.Finer.{OnlyZeros, Zeros}
+use Rattle.words.proofs.Codes.{width-exactly}
+use Rattle.words.proofs.Finer.{limit-exactly}
 use Rattle.demands.specs.Grammar.{IsDay, IsDateLine, IsELine, IsFLine, IsLayoutLine, IsBLine, IsExtraLine, IsColumned, IsHeadLine, IsPointLine, linesIn, Fits, Meets, flightOf}
 use Rattle.demands.specs.Faults.{PassAfter, Refused}
 use Rattle.demands.specs.Signed.{HasGLine}
@@ -72,6 +77,8 @@ use Rattle.demands.proofs.Laws.{day-exactly}
 use Rattle.demands.proofs.Reading as readings
 use Rattle.demands.proofs.LayoutLines.{layout-exactly, layout-line-exactly}
 use Rattle.demands.proofs.EachLine.{reading-here, reading-there, head-reads, head-read, point-reads, point-read}
+use Rattle.demands.specs.Checks.{limitsIn}
+use Rattle.demands.proofs.Faulty.{at-most}
 use Rattle.demands.proofs.Readers.{date-exactly, event-exactly, satellite-exactly, map-exactly, some-line}
 use Rattle.demands.proofs.Writers.{both-ways, trip-ways}
 use Rattle.demands.proofs.Endings as endings
@@ -140,8 +147,14 @@ dates-meant = day-exactly
 pub widths-meant : (x w : ℕ) → (widthFits x w ≡ true) ↔ RowSays x (λ p. (p .least ≤ w) × (w ≤ p .most))
 widths-meant = width-exactly
 
-pub texts-meant : (x : ℕ) (t : List ℕ) → (keepsRule x t ≡ true) ↔ RowSays x (λ p. Holds (p .name) t)
-texts-meant = rule-exactly
+pub texts-meant : (at : AtLimit) (x : ℕ) (t : List ℕ) → (keepsLimit at x t ≡ true) ↔ (RowSays x (λ p. Holds (p .name) t) × (OnlyZeros (at .lat ≡ true) (at .lon ≡ true) (codeText x) → Zeros t))
+texts-meant at = limit-exactly at (at .lat ≡ true) (at .lon ≡ true) (λ h. h, λ h. h) (λ h. h, λ h. h)
+
+-- which coordinates of a B line are at their limits: 90 degrees of latitude, 180 degrees of longitude
+pub limits-meant : (l : List ℕ)
+    → ((limitsIn family.B l .lat ≡ true) ↔ ((p : Position) × (latitudeAt l (byte 8) ≡ some p) × (p .count ≡ 90 * 60 * 1000)))
+    × ((limitsIn family.B l .lon ≡ true) ↔ ((p : Position) × (longitudeAt l (byte 16) ≡ some p) × (p .count ≡ 180 * 60 * 1000)))
+limits-meant l = (at-most (latitudeAt l (byte 8)) 5400000, at-most (longitudeAt l (byte 16)) 10800000)
 
 -- ---- the grammar by itself
 
@@ -235,7 +248,7 @@ pub steps-exactly : (file : List ℕ) (at : ℕ) (s : Stepped) → (stepAt file 
 steps-exactly = endings.step-exactly
 
 -- two positions on the map
-pub degrees-exactly : (lat lon : Position) (d : Degrees) → (degreesOf lat lon ≡ says d) ↔ OnMap lat lon d
+pub degrees-exactly : (lat lon : FinePosition) (d : Degrees) → (degreesOf lat lon ≡ says d) ↔ OnMap lat lon d
 degrees-exactly = map-exactly
 
 -- ---- lines read and written: of each kind `read-then-write`, `write-then-read` and `bad-value-exactly` (specs/BothWays); 35, 7, 25 and 18 bytes stand before the columns or

@@ -16,15 +16,16 @@ use Rattle.rules.specs.Choice.{on, Each, need}
 use Rattle.rules.specs.Refusals.{says}
 use Rattle.rules.specs.Chars.{isValid, isCode, codesAt}
 use Rattle.rules.specs.Fields.{timeAt, timeText, dateAt, dateText, isEither}
-use Rattle.rules.specs.Lines.{shaped, aLine, isDateMark, dateLine, hLine, dLine, eLine, badPair, fLine, lLine, gLine, otherLine, headLine, pointLine, FieldsIn, timeIn, columnedLine}
+use Rattle.rules.specs.Lines.{shaped, aLine, isDateMark, dateLine, hLine, dLine, eLine, badPair, fLine, atLimit, lLine, gLine, otherLine, headLine, pointLine, FieldsIn, timeIn, columnedLine}
 use Rattle.rules.specs.declared.Date.{Date}
 use Rattle.rules.specs.Degrees.{isLatitude, isLongitude}
-use Rattle.rules.specs.Limits.{isTime, isDate, isClean, goodTail, goodFixFields, goodFix, goodExtra, goodHeadFields, goodHead, goodPoint}
+use Rattle.rules.specs.Limits.{isTime, isDate, isClean, goodTail, goodFixFields, goodExtra, goodHeadFields, goodHead, goodPoint}
 use Rattle.rules.specs.Families.{firstStart, lineLetter}
-use Rattle.rules.specs.Layouts.{entriesOf}
+use Rattle.rules.specs.Listed.{offLimit}
+use Rattle.rules.specs.Layouts.{entriesOf, spanOf, columnText}
 use Rattle.rules.specs.Reads.{ValueOf, fieldsSaid, saidOf, Reading, reading, fixSaid, extraSaid, headSaid, pointSaid}
-use Rattle.rules.specs.Fixes.{fixOf, fieldsOf}
-use Rattle.rules.specs.Writes.{fieldsText, fixText, extraText}
+use Rattle.rules.specs.Fixes.{finerOf, fixOf, fieldsOf}
+use Rattle.rules.specs.Writes.{fieldsText, extraText}
 use Rattle.rules.specs.declared.Layout.{Layout}
 use Rattle.rules.specs.declared.Extra.{Extra}
 use Rattle.rules.specs.declared.Family.{Family}
@@ -38,10 +39,11 @@ use Rattle.trips.proofs.Laws.{past, byte-there}
 use Rattle.trips.proofs.Times.{time-trip}
 use Rattle.trips.proofs.Dates.{date-trip}
 use Rattle.trips.proofs.Texts.{clean-valid}
-use Rattle.trips.proofs.LineTrip.{line-limits}
-use Rattle.rules.proofs.Fixes.{fields-of-fix}
-use Rattle.trips.proofs.Columned.{line-timed, timed-line, value-said, said-by, by-said}
-use Rattle.trips.proofs.Fixes.{fix-fields, fix-trip}
+use Rattle.trips.proofs.LineTrip.{line-limits, said-from}
+use Rattle.trips.proofs.Columned.{line-timed, timed-line, value-said, said-by, by-said, limitIn, fields-trip}
+use Rattle.trips.proofs.Fixes.{fix-front}
+use Rattle.trips.proofs.Refined.{fields-of-fix}
+use Rattle.trips.proofs.AtLimits.{limits-exactly}
 use Rattle.trips.proofs.Extras.{extra-trip}
 use Rattle.trips.proofs.Heads.{head-trip, head-within}
 use Rattle.trips.proofs.Heads as heads
@@ -49,12 +51,16 @@ use Rattle.trips.proofs.Points.{point-trip}
 use Rattle.trips.proofs.Points as points
 use Rattle.words.specs.Characters.{IsValid, IsCode}
 use Rattle.words.proofs.Characters.{valid-exactly, code-exactly, codes-exactly}
+use Rattle.words.specs.Finer.{AtLatitude, AtLongitude}
+use Rattle.words.proofs.Finer.{limit-exactly, at-limit-exactly, off-limit-exactly}
 use Rattle.words.proofs.Values.{either-exactly, time-exactly, latitude-exactly, longitude-exactly, fix-exactly}
-use Rattle.demands.specs.Grammar.{Shaped, IsALine, IsDateLine, IsHLine, IsDLine, IsELine, IsFLine, IsLLine, IsGLine, IsOtherLine, Columns, IsBLine, IsExtraLine, IsColumned, IsHeadLine, IsPointLine}
-use Rattle.sound.proofs.Each.{each-map, each-cut}
+use Rattle.demands.specs.Grammar.{Shaped, IsALine, IsDateLine, IsHLine, IsDLine, IsELine, IsFLine, IsLLine, IsGLine, IsOtherLine, widthOf, Columns, IsBLine, IsExtraLine, IsColumned, IsHeadLine, IsPointLine}
+use Rattle.trips.proofs.Each.{each-map, each-cut}
 use Rattle.demands.proofs.Laws.{day-exactly, planned-exactly, are-valid, shape-there, shape-said, valid-are}
-use Rattle.demands.proofs.LayoutLines.{IsTold}
-use Rattle.demands.proofs.Columns.{tail-exactly}
+use Rattle.sound.proofs.Columns.{ruled-there}
+use Rattle.demands.proofs.LayoutLines.{IsTold, told-tiles}
+use Rattle.demands.proofs.Columns.{Meant, tail-exactly, texts-are}
+use Rattle.demands.proofs.Finer.{refines-there, refines-here}
 
 -- ---- A
 
@@ -260,38 +266,82 @@ pub start-low : (f : Family) → 1 ≤ firstStart f
 start-low family.B = omega arith
 start-low (family.Extra x) = omega arith
 
+-- what its columns mean, by the fields of a line of the family: whether its latitude and its longitude are at their limits
+abbrev AtLat : (f : Family) → FieldsIn f → Type 0
+AtLat family.B v = AtLatitude v
+AtLat (family.Extra x) t = ⊥
+
+abbrev AtLon : (f : Family) → FieldsIn f → Type 0
+AtLon family.B v = AtLongitude v
+AtLon (family.Extra x) t = ⊥
+
+columns-meant : (f : Family) (v : FieldsIn f) → Meant (limitIn f v) (AtLat f v) (AtLon f v)
+columns-meant family.B v = record { exactly = limit-exactly (atLimit v) (AtLatitude v) (AtLongitude v) (at-limit-exactly v .0) (at-limit-exactly v .1) }
+columns-meant (family.Extra x) t = record { exactly = limit-exactly offLimit ⊥ ⊥ (off-limit-exactly .0) (off-limit-exactly .1) }
+
 -- fields that are good, and columns
-limits : (f : Family) (layout : Layout) → IsTold f layout → (fields : Bool) (tail : List ℕ)
-    → ((need fields false λ u. goodTail (firstStart f) tail layout) ≡ true) ↔ ((fields ≡ true) × Columns (entriesOf layout) tail)
-limits f layout t fields tail =
-    let x = tail-exactly (firstStart f) tail layout (start-low f) t in (
+limits : (f : Family) (layout : Layout) → IsTold f layout → (v : FieldsIn f) (fields : Bool) (tail : List ℕ)
+    → ((need fields false λ u. goodTail (limitIn f v) (firstStart f) tail layout) ≡ true) ↔ ((fields ≡ true) × Columns (AtLat f v) (AtLon f v) (entriesOf layout) tail)
+limits f layout t v fields tail =
+    let x = tail-exactly (limitIn f v) (AtLat f v) (AtLon f v) (columns-meant f v) (firstStart f) tail layout (start-low f) t in (
       λ e. let w = need-inv fields false true _ false-true e in (w .0, x .0 (w .1)),
       λ h. rw (h .0) (x .1 (h .1)),
     )
 
 -- ---- a line as its reader reads it
 
+-- a B line has the fields that its text spells
+pub b-fields : (layout : Layout) → IsTold family.B layout → (f : Fix) (l : List ℕ) (w : IsBLine layout f l) → fieldsSaid family.B l layout ≡ says (w .plain)
+b-fields layout t f l w =
+    ap (λ x. fieldsSaid family.B x layout) (w .text) ∙ fields-trip fix-front layout .here (w .plain) (w .tail) (limits family.B layout t (w .plain) (goodFixFields (w .plain)) (w .tail) .1 (fix-exactly (w .plain) .1 (w .fields), w .columns))
+
+-- its columns are as wide as its entries say
+b-wide : (layout : Layout) → IsTold family.B layout → (v : FixFields) (l tail : List ℕ) → l ≡ fieldsText v tail → Columns (AtLatitude v) (AtLongitude v) (entriesOf layout) tail
+    → Each (λ e. length (columnText l (spanOf e)) ≡ widthOf e) (entriesOf layout)
+b-wide layout t v l tail e c =
+    texts-are l (entriesOf layout) 36 tail (told-tiles 36 layout t) (omega arith) (ap (drop 35) e ∙ fields-trip fix-front layout .behind v tail) c .1
+
+-- the fix that the fields and the columns of a line make
+b-line : (layout : Layout) → IsTold family.B layout → (v : FixFields) (l : List ℕ) → fieldsSaid family.B l layout ≡ says v → (w : IsBLine layout (fixOf l (finerOf layout) v) l) × (w .plain ≡ v)
+b-line layout t v l e =
+    let g = limits family.B layout t v (goodFixFields v) (drop 35 l) .0 (line-limits (fields-trip fix-front layout) l v e) in
+    let text = fields-trip fix-front layout .there l v e in
+    let p = fix-front .passes layout l v .0 (by-said family.B l layout v e .2) in
+    let k = each-map (entriesOf layout) (λ e h. limits-exactly (atLimit v) (e .code) _ .0 h .rule) (ruled-there (atLimit v) l layout (p .ruled)) in (
+      record {
+        plain = v;
+        tail = drop 35 l;
+        text = text;
+        fields = fix-exactly v .0 (g .0);
+        columns = g .1;
+        refines = refines-there layout t l (b-wide layout t v l (drop 35 l) text (g .1)) v k;
+      },
+      refl,
+    )
+
+pub b-fix : (layout : Layout) → IsTold family.B layout → (f : Fix) (l : List ℕ) (w : IsBLine layout f l) → fixOf l (finerOf layout) (w .plain) ≡ f
+b-fix layout t f l w = refines-here layout t l (b-wide layout t (w .plain) l (w .tail) (w .text) (w .columns)) (w .plain) f (w .refines)
+
 pub fix-reads : (layout : Layout) → IsTold family.B layout → (f : Fix) (l : List ℕ) → IsBLine layout f l → fixSaid l layout ≡ says f
-unfolding goodFix
-fix-reads layout t f l w =
-    ap (λ x. fixSaid x layout) (w .text) ∙ fix-trip layout .here f (w .tail) (limits family.B layout t (goodFixFields (fieldsOf f)) (w .tail) .1 (fix-exactly (fieldsOf f) .1 (w .fields), w .columns))
+unfolding fixSaid
+fix-reads layout t f l w = value-said family.B l layout (w .plain) (b-fields layout t f l w) ∙ ap says (b-fix layout t f l w)
+
+pub fix-read : (layout : Layout) → IsTold family.B layout → (f : Fix) (l : List ℕ) → fixSaid l layout ≡ says f → IsBLine layout f l
+unfolding fixSaid
+fix-read layout t f l e =
+    let s = said-from (λ l. fixOf l (finerOf layout)) fieldsOf (λ l. fields-of-fix l (finerOf layout)) l (fieldsSaid family.B l layout) f e in
+    subst (λ g. IsBLine layout g l) (s .1) (b-line layout t (fieldsOf f) l (s .0) .0)
 
 pub extra-reads : (x : Extra) (layout : Layout) → IsTold (family.Extra x) layout → (t : ℕ) (l : List ℕ) → IsExtraLine x layout t l → extraSaid x l layout ≡ says t
 unfolding goodExtra
 extra-reads x layout i t l w =
     ap (λ y. extraSaid x y layout) (w .text)
-    ∙ extra-trip x layout .here t (w .tail) (limits (family.Extra x) layout i (isTime t) (w .tail) .1 (time-exactly t .1 (w .time), w .columns))
-
-pub fix-read : (layout : Layout) → IsTold family.B layout → (f : Fix) (l : List ℕ) → fixSaid l layout ≡ says f → IsBLine layout f l
-unfolding goodFix
-fix-read layout t f l e =
-    let g = limits family.B layout t (goodFixFields (fieldsOf f)) (drop 35 l) .0 (line-limits (fix-trip layout) l f e) in
-    record { tail = drop 35 l; text = fix-trip layout .there l f e; fields = fix-exactly (fieldsOf f) .0 (g .0); columns = g .1 }
+    ∙ extra-trip x layout .here t (w .tail) (limits (family.Extra x) layout i t (isTime t) (w .tail) .1 (time-exactly t .1 (w .time), w .columns))
 
 pub extra-read : (x : Extra) (layout : Layout) → IsTold (family.Extra x) layout → (t : ℕ) (l : List ℕ) → extraSaid x l layout ≡ says t → IsExtraLine x layout t l
 unfolding goodExtra
 extra-read x layout i t l e =
-    let g = limits (family.Extra x) layout i (isTime t) (drop 7 l) .0 (line-limits (extra-trip x layout) l t e) in
+    let g = limits (family.Extra x) layout i t (isTime t) (drop 7 l) .0 (line-limits (extra-trip x layout) l t e) in
     record { tail = drop 7 l; text = extra-trip x layout .there l t e; time = time-exactly t .0 (g .0); columns = g .1 }
 
 -- the whole reading: the value, and the entries of the layout
@@ -377,8 +427,8 @@ point-read p l e =
 -- ---- a line as the check reads it
 
 pub columned-letter : (f : Family) (layout : Layout) (t : ℕ) (l : List ℕ) → IsColumned f layout t l → getD l 0 0 ≡ lineLetter f
-unfolding fieldsText fixText extraText
-columned-letter family.B layout t l w = ap (λ x. getD x 0 0) (w .2 .text)
+unfolding fieldsText extraText
+columned-letter family.B layout t l w = ap (λ x. getD x 0 0) (w .1 .text)
 columned-letter (family.Extra x) layout t l w = ap (λ x. getD x 0 0) (w .text)
 
 pub columned-there : (f : Family) (layout : Layout) (t : ℕ) (l : List ℕ) → IsTold f layout → getD l 0 0 ≡ lineLetter f → columnedLine f layout l ≡ says t → IsColumned f layout t l
@@ -386,13 +436,14 @@ unfolding fixSaid extraSaid columnedLine
 columned-there family.B layout t l i k e =
     let r = timed-line family.B layout l t e in
     let said = said-by family.B l layout (r .0) k (i .right) (r .1) in
-    (fixOf (r .0), ap (λ (x : FixFields). x .time) (fields-of-fix (r .0)) ∙ r .2, fix-read layout i (fixOf (r .0)) l (value-said family.B l layout (r .0) said))
+    let w = b-line layout i (r .0) l said in
+    (fixOf l (finerOf layout) (r .0), w .0, ap (λ (x : FixFields). x .time) (w .1) ∙ r .2)
 columned-there (family.Extra x) layout t l i k e = extra-read x layout i t l (said-by (family.Extra x) l layout t k (i .right) e)
 
 -- what it spells before its columns
 pub columned-fields : (f : Family) (layout : Layout) (t : ℕ) (l : List ℕ) → IsTold f layout → IsColumned f layout t l → (v : FieldsIn f) × (fieldsSaid f l layout ≡ says v) × (timeIn f v ≡ t)
 unfolding extraSaid
-columned-fields family.B layout t l i w = (fieldsOf (w .0), fix-fields l layout (w .0) (fix-reads layout i (w .0) l (w .2)), w .1)
+columned-fields family.B layout t l i w = (w .1 .plain, b-fields layout i (w .0) l (w .1), w .2)
 columned-fields (family.Extra x) layout t l i w = (t, extra-reads x layout i t l w, refl)
 
 pub columned-said : (f : Family) (layout : Layout) (t : ℕ) (l : List ℕ) → IsTold f layout → IsColumned f layout t l → columnedLine f layout l ≡ says t

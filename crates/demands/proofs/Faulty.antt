@@ -6,7 +6,7 @@ use mathlib.Core.Bool.{Bool, true, false, not, _&&_, _||_, cond, and-true, and-f
 use mathlib.Core.List.{List, [], _∷_, _++_}
 use mathlib.Core.Option.{Option, none, some}
 use mathlib.Core.Path.{_≡_, refl, sym, _∙_, ap, subst}
-use mathlib.Core.Logic.{_⊎_, inl, inr}
+use mathlib.Core.Logic.{_↔_, _⊎_, inl, inr}
 use native.Mathlib.Omega.{arith}
 use borrow.Author.Tests.{le-leb, lt-leb, leb-false, eqb-true, ne-eqb, eq-eqb}
 use lib.Dec.{eqb, leb, ltb}
@@ -15,6 +15,8 @@ use Rattle.rules.specs.Roles.{isDeclaring, atStart, afterA, afterH, afterLayout
 use Rattle.rules.specs.Choice.{need, bytes, given, on, firstOf}
 use Rattle.rules.specs.Order.{fitsDeclaration, orderOf, moved, laidOut, counted, onward, nextDay, back, isBack, passing, timed, declarationLine, headerLine, ruled, judge}
 use Rattle.rules.specs.declared.Extra.{Extra}
+use Rattle.rules.specs.declared.Position.{Position}
+use Rattle.rules.specs.declared.FixFields.{FixFields}
 use Rattle.rules.specs.declared.Family.{Family}
 use Rattle.rules.specs.declared.Family.the-variants as family
 use Rattle.rules.specs.declared.Role.{Role}
@@ -25,19 +27,21 @@ use Rattle.rules.specs.Refusals.{number, Said, says, refuses, andThen}
 use Rattle.rules.specs.Chars.{isValid, isCode, firstInvalid, characters}
 use Rattle.rules.specs.Numbers.{numberAt}
 use Rattle.rules.specs.Fields.{timeAt}
-use Rattle.rules.specs.Listed.{codeAt, widthFits, keepsRule}
+use Rattle.rules.specs.Listed.{codeAt, widthFits, keepsLimit}
 use Rattle.rules.specs.Layouts.{withEntry, lineLength, spanOf, look, carries, placed, entryAt, entriesFrom, layoutFields, columnText, badColumn, columns}
-use Rattle.rules.specs.Lines.{isSized, shaped, aLine, dateLine, hLine, layoutLine, headFields, headLine, pointLine, dLine, eLine, badPair, fLine, fixFields, shapedBy, bLine, extraLine, columnedLine}
+use Rattle.rules.specs.Lines.{isSized, shaped, aLine, dateLine, hLine, layoutLine, headFields, headLine, pointLine, dLine, eLine, badPair, fLine, fixFields, atLimit, shapedBy, bLine, extraLine, columnedLine}
+use Rattle.rules.specs.declared.AtLimit.{AtLimit}
 use Rattle.rules.specs.declared.Entry.{Entry}
-use Rattle.rules.proofs.Inverse.{false-true, bool-eq}
+use Rattle.rules.proofs.Inverse.{false-true, given-inv, bool-eq}
 use Rattle.laws.proofs.Passing.{roleIn}
 use Rattle.laws.proofs.Walking.{columned-time, event-time, satellites-time}
 use Rattle.demands.specs.Coming.{isAmong, only, without, isOpen, isBody, lettersBefore, mayCome, orZero, entryOf, entriesTold, endsAt, sizeOf, lastTime, isInTime}
-use Rattle.demands.specs.Checks.{isThere, Check, check, AllPass, FailsFirst, oneEach, shapeChecks, columnChecks, timeCheck, pairChecks, hasCode, entryChecks, layoutChecks, dateChecks, headerChecks, headChecks, pointChecks, thenTime, roleChecks, checksOf, lineChecks, eventChecks, satelliteChecks}
+use Rattle.trips.proofs.Fixes.{fields-there}
+use Rattle.demands.specs.Checks.{isThere, Check, check, AllPass, FailsFirst, oneEach, shapeChecks, limitsIn, columnChecks, timeCheck, pairChecks, hasCode, entryChecks, layoutChecks, dateChecks, headerChecks, headChecks, pointChecks, thenTime, roleChecks, checksOf, fixChecks, lineChecks, eventChecks, satelliteChecks}
 use Rattle.demands.specs.Grammar.{laid}
 use Rattle.demands.proofs.Leading.{letter-tests}
 use Rattle.demands.proofs.Standing.{only-without, none-open, declaration-told, laid-out, Stands}
-use Rattle.sound.proofs.Each.{each-join}
+use Rattle.trips.proofs.Each.{each-join}
 use Rattle.sound.proofs.Families.{none-pass}
 use Rattle.sound.proofs.Placed.{with-laid, entries-laid}
 use Rattle.sound.proofs.Columns.{end-of, line-end}
@@ -245,11 +249,11 @@ shape-agrees least most inH l =
     agree-need 7 0 (leb least (length l) && leb (length l) most) _ _ λ e.
     each-agrees 8 (λ i b. i + 1) (isValid inH) (λ i b. i) (λ i. i + 1) (λ i b. refl) tt l 0
 
-columns-agree : (l : List ℕ) (es : List Entry) → Agrees (columns l (laid es)) (columnChecks l es)
+columns-agree : (at : AtLimit) (l : List ℕ) (es : List Entry) → Agrees (columns at l (laid es)) (columnChecks at l es)
 unfolding columns badColumn columnChecks number
-columns-agree l es =
+columns-agree at l es =
     rw (entries-laid es)
-    (each-agrees 13 (λ (i : ℕ) (e : Entry). e .first) (λ e. keepsRule (e .code) (columnText l (spanOf e))) (λ (k : ℕ) (e : Entry). e .first) (λ i. i) (λ i e. refl) tt es 0)
+    (each-agrees 13 (λ (i : ℕ) (e : Entry). e .first) (λ e. keepsLimit at (e .code) (columnText l (spanOf e))) (λ (k : ℕ) (e : Entry). e .first) (λ i. i) (λ i e. refl) tt es 0)
 
 -- ---- times
 
@@ -301,9 +305,27 @@ pairs-agree v (a ∷ b ∷ l) at = go (isCode a && isCode b) (pairs-agree v l (a
 -- link by link
 ruleset agreeing = (agree-last, agree-need, agree-given, agree-then, shape-agrees, columns-agree, pairs-agree)
 
+fields-agree : (l : List ℕ) → Agrees (fixFields l) (fixChecks l)
+unfolding fixFields on number
+fields-agree l = search agreeing depth 20
+
+-- a coordinate that is at its limit
+pub at-most : (o : Option Position) (most : ℕ) → ((given o false λ p. eqb (p .count) most) ≡ true) ↔ ((p : Position) × (o ≡ some p) × (p .count ≡ most))
+at-most o most = (λ e. let g = given-inv o false true _ false-true e in (g .0, g .1, eqb-true _ _ (g .2)), λ h. rw (h .1, eq-eqb _ _ (h .2)))
+
+-- the coordinates that are at their limits, by the line and by its fields
+limits-same : (l : List ℕ) (f : FixFields) → fixFields l ≡ says f → limitsIn family.B l ≡ atLimit f
+unfolding atLimit
+limits-same l f e = let w = fields-there l f e in rw (w .at-lat, w .at-lon)
+
 pub fix-agrees : (es : List Entry) (l : List ℕ) → Agrees (bLine (laid es) l) (lineChecks family.B es l)
-unfolding bLine fixFields shapedBy on number
-fix-agrees es l = rw (length-laid family.B es) (search agreeing depth 20)
+unfolding bLine shapedBy
+fix-agrees es l =
+    rw (length-laid family.B es)
+    (agree-then (shaped (sizeOf family.B es) (sizeOf family.B es) false l) _ _ _ (shape-agrees (sizeOf family.B es) (sizeOf family.B es) false l) λ u h.
+    agree-then (fixFields l) _ (fixChecks l) _ (fields-agree l) λ f e.
+    subst (λ at. Agrees (andThen (columns (atLimit f) l (laid es)) λ u. says f) (columnChecks at l es)) (sym (limits-same l f e))
+    (agree-last (columns (atLimit f) l (laid es)) (λ u. f) _ (columns-agree (atLimit f) l es)))
 
 pub extra-agrees : (x : Extra) (es : List Entry) (l : List ℕ) → Agrees (extraLine (laid es) l) (lineChecks (family.Extra x) es l)
 unfolding extraLine shapedBy number

@@ -24,7 +24,7 @@ use Rattle.trips.proofs.Dates.{days-month}
 use Rattle.words.specs.Characters.{IsValid}
 use Rattle.words.proofs.Characters.{valid-exactly}
 use Rattle.demands.specs.Grammar.{Shaped, Days, january, february, february-leap, march, april, may, june, july, august, september, october, november, december, IsDay, IsPlanned}
-use Rattle.sound.proofs.Each.{each-map, nothing-found, none-found}
+use Rattle.trips.proofs.Each.{each-map, nothing-found, none-found}
 
 -- ---- a chain that came to x took this way
 

@@ -35,8 +35,9 @@ use Rattle.words.proofs.Codes.{width-exactly}
 use Rattle.demands.specs.Grammar.{widthOf, IsEntry, Tiles, laid, IsLayoutLine, AtMostOne, absent}
 use Rattle.demands.specs.Grammar as grammar
 use Rattle.demands.specs.Coming.{orZero, entryOf, entriesIn}
-use Rattle.sound.proofs.Each.{each-map, each-both, each-join, each-cut}
-use Rattle.sound.proofs.Entries.{code-range, Fits, entry-length, entry-there, Tiled, withAll, entries-here}
+use Rattle.trips.proofs.Each.{each-map, each-both, each-join, each-cut}
+use Rattle.trips.proofs.Placing.{Fits}
+use Rattle.sound.proofs.Entries.{code-range, entry-length, entry-there, Tiled, withAll, entries-here}
 use Rattle.sound.proofs.Placed.{with-laid, all-laid, entries-laid, carries-none, none-carries, Sound, allowed-there, sound-line, sound-empty}
 use Rattle.demands.proofs.Laws.{shape-there}
 

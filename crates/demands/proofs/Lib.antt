@@ -1,6 +1,7 @@
 pub mod Laws
 pub mod LayoutLines
 pub mod Columns
+pub mod Finer
 pub mod EachLine
 pub mod Readers
 pub mod Leading

@@ -11,18 +11,18 @@ use lib.Dec.{eqb}
 use lib.ListN.{getD}
 use Rattle.rules.specs.Families.{firstStart}
 use Rattle.rules.specs.Refusals.{Said, says}
-use Rattle.rules.specs.Degrees.{isLatitude, isLongitude, angle, degreesOf}
+use Rattle.rules.specs.Degrees.{isFineLatitude, isFineLongitude, angle, degreesOf}
 use Rattle.rules.specs.Layouts.{allowed}
 use Rattle.rules.specs.Lines.{dateLine, eLine, fLine}
 use Rattle.rules.specs.Reads.{ofKind, dateSaid, eventSaid, satellitesSaid}
 use Rattle.rules.specs.Writes.{layoutText}
 use Rattle.rules.specs.declared.Date.{Date}
 use Rattle.rules.specs.declared.Family.{Family}
-use Rattle.rules.specs.declared.Position.{Position}
+use Rattle.rules.specs.declared.FinePosition.{FinePosition}
 use Rattle.rules.specs.declared.Degrees.{Degrees}
 use Rattle.rules.proofs.Inverse.{refuses-says, need-inv}
-use Rattle.words.specs.Values.{IsLatitude, IsLongitude}
-use Rattle.words.proofs.Values.{latitude-exactly, longitude-exactly, angle-exactly}
+use Rattle.words.specs.Finer.{IsFineLatitude, IsFineLongitude}
+use Rattle.words.proofs.Finer.{fine-latitude-exactly, fine-longitude-exactly, angle-exactly}
 use Rattle.demands.specs.Grammar.{IsDateLine, IsELine, IsFLine, IsLayoutLine}
 use Rattle.demands.specs.BothWays.{Slotted}
 use Rattle.demands.specs.Readings.{OnMap, ReadsMap}
@@ -49,27 +49,27 @@ pub satellite-exactly : (t : ℕ) (l : List ℕ) → (satellitesSaid l ≡ says 
 unfolding satellitesSaid
 satellite-exactly t l = of-kind (code "F") fLine IsFLine t l (f-there l t) (f-said l t)
 
-pub map-exactly : (lat lon : Position) (d : Degrees) → (degreesOf lat lon ≡ says d) ↔ OnMap lat lon d
+pub map-exactly : (lat lon : FinePosition) (d : Degrees) → (degreesOf lat lon ≡ says d) ↔ OnMap lat lon d
 unfolding degreesOf
 map-exactly lat lon d = (
   λ e.
-      let a = need-inv (isLatitude lat) _ (says d) _ refuses-says e in
-      let b = need-inv (isLongitude lon) _ (says d) _ refuses-says (a .1) in
+      let a = need-inv (isFineLatitude lat) _ (says d) _ refuses-says e in
+      let b = need-inv (isFineLongitude lon) _ (says d) _ refuses-says (a .1) in
       let h = b .1 in
       let k : _≡_ {A = Degrees} (record { lat = angle lat; lon = angle lon }) d = cc in
       record {
-        latitude = latitude-exactly lat .0 (a .0);
-        longitude = longitude-exactly lon .0 (b .0);
+        latitude = fine-latitude-exactly lat .0 (a .0);
+        longitude = fine-longitude-exactly lon .0 (b .0);
         lat-angle = angle-exactly lat (d .lat) .0 (ap (λ x. x .lat) k);
         lon-angle = angle-exactly lon (d .lon) .0 (ap (λ x. x .lon) k);
       },
   λ w.
-      rw (latitude-exactly lat .1 (w .latitude), longitude-exactly lon .1 (w .longitude))
+      rw (fine-latitude-exactly lat .1 (w .latitude), fine-longitude-exactly lon .1 (w .longitude))
       (ap₂ (λ x y. says (record { lat = x; lon = y })) (angle-exactly lat (d .lat) .1 (w .lat-angle)) (angle-exactly lon (d .lon) .1 (w .lon-angle))),
 )
 
 -- positions within their limits
-pub on-map : (lat lon : Position) → IsLatitude lat → IsLongitude lon → ReadsMap lat lon
+pub on-map : (lat lon : FinePosition) → IsFineLatitude lat → IsFineLongitude lon → ReadsMap lat lon
 on-map lat lon p q =
     let d : Degrees = record { lat = angle lat; lon = angle lon } in
     let w : OnMap lat lon d = record { latitude = p; longitude = q; lat-angle = angle-exactly lat (angle lat) .0 refl; lon-angle = angle-exactly lon (angle lon) .0 refl } in

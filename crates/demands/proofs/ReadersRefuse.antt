@@ -1,6 +1,6 @@
 -- Each reader refuses with the number and byte of the first of its checks that fails, 17, then 7 to 13, then 19, then 20, with line 0, and says a value exactly where all pass.
 -- Assumes nothing.
-use Prim.Native.Nat.{ℕ, suc, _+_, _-_, _≤_}
+use Prim.Native.Nat.{ℕ, suc, _+_, _-_, _*_, _^_, _≤_}
 use Prim.Native.Char.{code}
 use mathlib.Core.Bool.{Bool, true, false, not, _&&_, _||_, cond}
 use mathlib.Core.List.{List, [], _∷_}
@@ -11,15 +11,15 @@ use lib.Dec.{eqb, leb}
 use lib.ListN.{length, getD, drop}
 use Rattle.rules.specs.Choice.{given, need, on, firstOf, Each}
 use Rattle.rules.specs.Families.{firstStart, lineLetter, layoutLetter}
-use Rattle.rules.specs.Refusals.{number, Said, says, refuses, andThen}
+use Rattle.rules.specs.Refusals.{number, Said, says, refuses}
 use Rattle.rules.specs.Numbers.{wholeOf}
 use Rattle.rules.specs.Listed.{packedOf, codeText}
 use Rattle.rules.specs.Layouts.{Span, spanOf, entriesOf, allowed, lookIn, look, columnText, lengthSaid, presenceSaid}
-use Rattle.rules.specs.Degrees.{isPosition, isLatitude, isLongitude, degreesOf}
+use Rattle.rules.specs.Degrees.{isFinePosition, isFineLatitude, isFineLongitude, degreesOf}
 use Rattle.rules.specs.Fields.{isEither}
 use Rattle.rules.specs.Split.{Bounds, Stepped, firstCRLF, isStart, boundsOf, stepAt}
 use Rattle.rules.specs.Lines.{bLine, extraLine}
-use Rattle.rules.specs.Fixes.{fixOf}
+use Rattle.rules.specs.Fixes.{finerOf, fixOf}
 use Rattle.rules.specs.Reads.{fieldsSaid, saidOf, fixSaid, extraSaid, reading, eventSaid, satellitesSaid, dateSaid, layoutSaid, headSaid, pointSaid}
 use Rattle.rules.specs.Looks.{carriedIn, twice, isInside, areInside, fitsLine, lookSaid, lookNumber}
 use Rattle.rules.specs.declared.Signed.{Signed}
@@ -28,16 +28,16 @@ use Rattle.rules.specs.declared.Layout.{Layout}
 use Rattle.rules.specs.declared.Extra.{Extra}
 use Rattle.rules.specs.declared.Family.{Family}
 use Rattle.rules.specs.declared.Family.the-variants as family
-use Rattle.rules.specs.declared.Position.{Position}
+use Rattle.rules.specs.declared.FinePosition.{FinePosition}
 use Rattle.rules.proofs.Inverse.{refuses-says, none-some, false-true, given-inv, need-inv, and-inv, not-inv}
-use Rattle.sound.proofs.Each.{each-map}
+use Rattle.trips.proofs.Each.{each-map}
 use Rattle.sound.proofs.Placed.{carries-none, none-carries, allowed-there}
 use Rattle.sound.proofs.Entries.{packed-back}
 use Rattle.demands.specs.Grammar.{laid}
 use Rattle.demands.specs.Checks.{Check, check, isThere, hasCode, lineChecks}
 use Rattle.demands.specs.BothWays.{Slotted}
 use Rattle.demands.specs.Readings.{Spells}
-use Rattle.demands.specs.ReadersRefuse.{RefusesFirst, layoutCheck, nameCheck, spanIn, numberCheck, columnedReader, areOnce, areWithin, Once, lookReader, numberReader, layoutReader, entryReader, numberedReader, stepReader, degreesReader, ReadersRefuse, NamesMeant}
+use Rattle.demands.specs.ReadersRefuse.{RefusesFirst, layoutCheck, spanIn, numberCheck, columnedReader, areOnce, areWithin, Once, lookReader, numberReader, layoutReader, entryReader, numberedReader, stepReader, coordinateCheck, degreesReader, ReadersRefuse, NamesMeant}
 use Rattle.demands.specs.Endings.{isEnding, hasEnding}
 use Rattle.demands.proofs.Endings.{ending-behind, ending-first}
 use Rattle.demands.proofs.Columns.{whole-there, whole-here, name-back}
@@ -84,7 +84,7 @@ module _ (i : Slotted) (l : List ℕ) where
 
   fix-first : Agrees (fixSaid l (i .layout)) (columnedReader family.B (i .layout) l)
   unfolding fixSaid number
-  fix-first = agree-last (fieldsSaid family.B l (i .layout)) fixOf _ (agree-need 17 0 (eqb (getD l 0 0) 66) _ _ λ k. by-layout family.B (λ x. bLine x l) (λ es. fix-agrees es l))
+  fix-first = agree-last (fieldsSaid family.B l (i .layout)) (fixOf l (finerOf (i .layout))) _ (agree-need 17 0 (eqb (getD l 0 0) 66) _ _ λ k. by-layout family.B (λ x. bLine x l) (λ es. fix-agrees es l))
 
   extra-first : (x : Extra) → Agrees (extraSaid x l (i .layout)) (columnedReader (family.Extra x) (i .layout) l)
   unfolding extraSaid number
@@ -193,9 +193,21 @@ step-first file at = agree-need 17 0 (leb at (length file)) _ _ λ a. go (eqb at
     go true s v h = (refl, tt)
     go false s v h = h
 
-degrees-first : (lat lon : Position) → Agrees (degreesOf lat lon) (degreesReader lat lon)
-unfolding degreesOf isPosition isEither number
-degrees-first lat lon = agree-need 17 0 (isLatitude lat) _ _ λ a. agree-need 17 0 (isLongitude lon) _ _ λ b. tt
+-- a position with its decimals, in one test
+fine-test : (most a b : ℕ) (p : FinePosition) → isFinePosition most a b p ≡ (leb (p .decimals) 4 && (leb (p .count) (most * 10 ^ p .decimals) && (eqb (p .letter) a || eqb (p .letter) b)))
+unfolding isFinePosition isEither
+fine-test most a b p = go (leb (p .decimals) 4) _
+  where
+    go : (s t : Bool) → (need s false λ u. t) ≡ (s && t)
+    go true t = refl
+    go false t = refl
+
+degrees-first : (lat lon : FinePosition) → Agrees (degreesOf lat lon) (degreesReader lat lon)
+unfolding degreesOf number
+degrees-first lat lon =
+    subst (λ t. Agrees (degreesOf lat lon) (check 17 0 t ∷ coordinateCheck 10800000 (code "E") (code "W") lon ∷ [])) (fine-test 5400000 (code "N") (code "S") lat)
+    (subst (λ t. Agrees (degreesOf lat lon) (check 17 0 (isFineLatitude lat) ∷ check 17 0 t ∷ [])) (fine-test 10800000 (code "E") (code "W") lon)
+    (agree-need 17 0 (isFineLatitude lat) _ _ λ a. agree-need 17 0 (isFineLongitude lon) _ _ λ b. tt))
 
 pub readers-refuse : ReadersRefuse
 unfolding dateSaid headSaid pointSaid eventSaid satellitesSaid lengthSaid presenceSaid number

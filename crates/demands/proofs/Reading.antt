@@ -18,7 +18,6 @@ use Rattle.rules.specs.Refusals.{says}
 use Rattle.rules.specs.Layouts.{emptyLayout, entriesOf}
 use Rattle.rules.specs.Split.{Lines, end, linesOf, offsets}
 use Rattle.rules.specs.Reads.{Reading, reading, fixSaid, extraSaid, dateSaid, layoutSaid, headRest, pointRest}
-use Rattle.rules.specs.Fixes.{fieldsOf}
 use Rattle.rules.specs.Files.{verdict, goodLines, tableAfter}
 use Rattle.rules.specs.Lines.{kindOf}
 use Rattle.rules.specs.declared.Date.{Date}
@@ -28,6 +27,7 @@ use Rattle.rules.specs.declared.Extra.the-variants as extra
 use Rattle.rules.specs.declared.Family.{Family}
 use Rattle.rules.specs.declared.Family.the-variants as family
 use Rattle.rules.specs.declared.Layouts.{Layouts}
+use Rattle.rules.specs.declared.Position.{Position}
 use Rattle.rules.specs.declared.Fix.{Fix}
 use Rattle.rules.specs.declared.Head.{Head}
 use Rattle.rules.specs.declared.Seal.{Seal}
@@ -40,17 +40,22 @@ use Rattle.laws.proofs.Splitting as splitting
 use Rattle.laws.proofs.Passing.{roleIn}
 use Rattle.laws.proofs.Counted.{accepted-whole, goodIn, textOf, offsetOf, Numbered, table-length, entry-put, entry-kept, line-by-number}
 use Rattle.sound.proofs.Looked.{read-fits}
-use Rattle.trips.proofs.Fixes.{fix-trip}
+use Rattle.trips.proofs.Columned.{fields-trip}
+use Rattle.trips.proofs.Fixes.{fix-front}
 use Rattle.trips.proofs.Extras.{extra-trip}
 use Rattle.trips.proofs.Heads.{head-trip}
 use Rattle.trips.proofs.Points.{point-trip}
 use Rattle.demands.specs.Grammar.{IsDateLine, IsLayoutLine, IsHeadLine, IsPointLine, IsELine, IsFLine, Columns, IsBLine, IsExtraLine, IsColumned, IsGLine, IsLLine, AtMostOne, absent, given, Timed, Untimed, differential, remark, other, Items, done, timed, untimed, Body, undeclared, Parts, toldIn, linesIn, Keeps, Meets, beginning, flightOf}
 use Rattle.demands.specs.Grammar as grammar
 use Rattle.demands.specs.Coming.{isAmong}
-use Rattle.demands.specs.Readings.{Entered, ReadsFix, ReadsExtra, ReadsColumned, ReadsColumns, ReadsValue, ReadsLayout, ReadsPresence, ReadsLine, ReadsHead, ReadsPoint, NoC, ReadsDeclaration, nowhere, declared, total, Steps, Readable}
-use Rattle.sound.proofs.Each.{each-map, each-join, each-cut}
+use Rattle.sound.proofs.Fine.{fine-there}
+use Rattle.words.specs.Values.{IsLatitude, IsLongitude}
+use Rattle.words.specs.Finer.{IsFineLatitude, IsFineLongitude}
+use Rattle.words.proofs.Finer.{fine-latitude-exactly, fine-longitude-exactly}
+use Rattle.demands.specs.Readings.{Entered, unrefined, ReadsMap, ReadsFix, ReadsExtra, ReadsColumned, ReadsColumns, ReadsValue, ReadsLayout, ReadsPresence, ReadsLine, ReadsHead, ReadsPoint, NoC, ReadsDeclaration, nowhere, declared, total, Steps, Readable}
+use Rattle.trips.proofs.Each.{each-map, each-join, each-cut}
 use Rattle.sound.proofs.Families.{every, none-pass, line-role, tells-role}
-use Rattle.demands.proofs.EachLine.{e-said, f-said, start-low, fix-reads, extra-reads, fix-read, extra-read, reading-here, reading-there, columned-letter, columned-fields, head-reads, point-reads, head-said, point-said}
+use Rattle.demands.proofs.EachLine.{e-said, f-said, start-low, b-fields, b-fix, fix-reads, extra-reads, fix-read, extra-read, reading-here, reading-there, columned-letter, columned-fields, head-reads, point-reads, head-said, point-said}
 use Rattle.demands.proofs.Readers.{date-exactly, event-exactly, satellite-exactly, on-map}
 use Rattle.demands.proofs.ByLayout.{presence-reads}
 use Rattle.demands.proofs.ByLayout as by-layout
@@ -91,8 +96,8 @@ total-is (l ∷ ls) = ap (λ n. length l + 2 + n) (total-is ls)
 -- ---- lines with columns
 
 -- the columns of a line that stand in its tail
-tail-columns : (f : Family) (layout : Layout) (t : ℕ) (l tail : List ℕ) → IsTold f layout → IsColumned f layout t l → drop (firstStart f - 1) l ≡ tail → Columns (entriesOf layout) tail
-    → ReadsColumns f layout l
+tail-columns : {AtLat AtLon : Type 0} (f : Family) (layout : Layout) (t : ℕ) (l tail : List ℕ) → IsTold f layout → IsColumned f layout t l → drop (firstStart f - 1) l ≡ tail
+    → Columns AtLat AtLon (entriesOf layout) tail → ReadsColumns f layout l
 tail-columns f layout t l tail i w d c =
     let r = columned-fields f layout t l i w in
     columns-read f layout l tail (start-low f) i d c (read-fits f l layout (r .0) (i .full) (r .1))
@@ -100,19 +105,32 @@ tail-columns f layout t l tail i w d c =
 -- the columns of a line that is, by the grammar, one of the family
 pub line-columns : (f : Family) (layout : Layout) (t : ℕ) (l : List ℕ) → IsTold f layout → IsColumned f layout t l → ReadsColumns f layout l
 line-columns family.B layout t l i w =
-    tail-columns family.B layout t l (w .2 .tail) i w (ap (drop 35) (w .2 .text) ∙ fix-trip layout .behind (w .0) (w .2 .tail)) (w .2 .columns)
+    tail-columns family.B layout t l (w .1 .tail) i w (ap (drop 35) (w .1 .text) ∙ fields-trip fix-front layout .behind (w .1 .plain) (w .1 .tail)) (w .1 .columns)
 line-columns (family.Extra x) layout t l i w =
     tail-columns (family.Extra x) layout t l (w .tail) i w (ap (drop 7) (w .text) ∙ extra-trip x layout .behind t (w .tail)) (w .columns)
 
 -- a B line, and a K or an N line
+-- a position without extra decimals
+plain-latitude : {p : Position} → IsLatitude p → IsFineLatitude (unrefined p)
+plain-latitude w = record { few = omega arith; most = w .most; letter = w .letter }
+
+plain-longitude : {p : Position} → IsLongitude p → IsFineLongitude (unrefined p)
+plain-longitude w = record { few = omega arith; most = w .most; letter = w .letter }
+
+-- the positions of a fix that was read are within their limits
+fix-on-map : (layout : Layout) (f : Fix) (l : List ℕ) → IsTold family.B layout → IsBLine layout f l → ReadsMap (f .lat) (f .lon)
+fix-on-map layout f l i w =
+    let h = fine-there l layout (w .plain) (b-fields layout i f l w) in
+    subst (λ (g : Fix). ReadsMap (g .lat) (g .lon)) (b-fix layout i f l w) (on-map _ _ (fine-latitude-exactly _ .0 (h .0)) (fine-longitude-exactly _ .0 (h .1)))
+
 reads-fix : (layout : Layout) (f : Fix) (l : List ℕ) → IsTold family.B layout → IsBLine layout f l → ReadsFix layout l
-unfolding fieldsOf fixSaid
+unfolding fixSaid
 reads-fix layout f l i w = record {
   fix = f;
   is = w;
   reads = reading-here family.B l layout f (fix-reads layout i f l w);
-  map = on-map (f .lat) (f .lon) (w .fields .lat) (w .fields .lon);
-  columns = line-columns family.B layout (f .time) l i (f, refl, w);
+  map = fix-on-map layout f l i w;
+  columns = line-columns family.B layout (w .plain .time) l i (f, w, refl);
 }
 
 reads-extra : (x : Extra) (layout : Layout) (t : ℕ) (l : List ℕ) → IsTold (family.Extra x) layout → IsExtraLine x layout t l → ReadsExtra x layout l
@@ -140,7 +158,7 @@ extras-read x layout l i r = (
 )
 
 reads-columned : (f : Family) (layout : Layout) (t : ℕ) (l : List ℕ) → IsTold f layout → IsColumned f layout t l → ReadsColumned f layout l
-reads-columned family.B layout t l i w = reads-fix layout (w .0) l i (w .2)
+reads-columned family.B layout t l i w = reads-fix layout (w .0) l i (w .1)
 reads-columned (family.Extra x) layout t l i w = reads-extra x layout t l i w
 
 -- ---- a head and its points, with the texts behind their fields
@@ -155,7 +173,7 @@ reads-point : (l : List ℕ) → IsPointLine l → ReadsPoint l
 unfolding pointRest
 reads-point l w =
     let r = point-reads l w in
-    record { is = w; reads = r; map = on-map (w .point .lat) (w .point .lon) (w .lat) (w .lon); text = rw r (ap (drop 18) (w .text) ∙ point-trip .behind (w .point) (w .rest)) }
+    record { is = w; reads = r; map = on-map (unrefined (w .point .lat)) (unrefined (w .point .lon)) (plain-latitude (w .lat)) (plain-longitude (w .lon)); text = rw r (ap (drop 18) (w .text) ∙ point-trip .behind (w .point) (w .rest)) }
 
 -- ---- lines that are none of these
 

@@ -33,7 +33,7 @@ use Rattle.demands.specs.Grammar.{IsHeadLine, IsPointLine, AtMostOne, ab
 use Rattle.demands.specs.Grammar as grammar
 use Rattle.demands.specs.Coming.{orZero, isAmong, only, without, endsWith, pointsOf, isOpen, lettersBefore, those, firstEntries, timedLetters, lastTime}
 use Rattle.demands.specs.FieldTexts.{Letter}
-use Rattle.sound.proofs.Each.{each-join}
+use Rattle.trips.proofs.Each.{each-join}
 use Rattle.sound.proofs.Families.{every, none-pass, put-by, same-family, is-same}
 use Rattle.demands.proofs.EachLine.{head-reads, head-said, head-there, point-there}
 use Rattle.demands.proofs.LayoutLines.{there, layout-laid, layout-there, layout-said}

@@ -2,6 +2,7 @@
 -- Assumes nothing.
 use Prim.Native.Nat.{ℕ}
 use Prim.Native.Char.{code}
+use mathlib.Core.Bool.{false, _||_}
 use mathlib.Core.List.{List, [], _∷_, _++_, append-assoc}
 use mathlib.Core.Path.{_≡_, refl, sym, _∙_, ap, subst}
 use native.Mathlib.Omega.{arith}
@@ -17,23 +18,26 @@ use Rattle.rules.specs.declared.Entry.{Entry}
 use Rattle.rules.specs.declared.Family.{Family}
 use Rattle.rules.specs.declared.Family.the-variants as family
 use Rattle.rules.specs.declared.Layouts.{Layouts}
+use Rattle.rules.specs.declared.FixFields.{FixFields}
 use Rattle.rules.specs.declared.Fix.{Fix}
 use Rattle.rules.specs.declared.Seal.{Seal}
 use Rattle.rules.specs.declared.Seal.the-variants as seal
 use Rattle.rules.proofs.Computed.{everything, fileOf}
 use Rattle.rules.proofs.Damaged.{fiveLines, fiveLayout}
 use Rattle.rules.proofs.SignedFiles.{fourLines}
-use Rattle.rules.specs.Fixes.{fieldsOf}
+use Rattle.rules.specs.Listed.{codeText}
+use Rattle.rules.proofs.Inverse.{false-true}
 use Rattle.rules.specs.Limits.{isAltitude, goodFixFields}
 use Rattle.trips.proofs.Texts.{areValid}
 use Rattle.words.proofs.Characters.{codes-exactly, word-exactly}
 use Rattle.words.proofs.Codes.{width-exactly, rule-exactly}
+use Rattle.words.specs.Finer.{OnlyZeros, lad, lod, Zeros, AtLatitude, AtLongitude}
 use Rattle.words.proofs.Values.{fix-exactly}
 use Rattle.demands.specs.Coming.{isAmong}
-use Rattle.demands.specs.Grammar.{IsText, july, AtMostOne, absent, given, Timed, columned, event, satellites, Items, done, timed, untimed, Body, undeclared, declared, none, column, IsGLine, Parts, SealedBy, Keeps, linesIn, Meets, joinLines}
+use Rattle.demands.specs.Grammar.{IsText, july, AtMostOne, absent, given, Timed, columned, event, satellites, Items, done, timed, untimed, Body, undeclared, declared, none, column, without, IsGLine, Parts, SealedBy, Keeps, linesIn, Meets, joinLines}
 use Rattle.laws.proofs.Splitting.{lines-are-text}
 use Rattle.demands.proofs.Sections.{text-is}
-use Rattle.sound.proofs.Each.{each-map, each-join, each-cut}
+use Rattle.trips.proofs.Each.{each-map, each-join, each-cut}
 use Rattle.sound.proofs.Families.{every, none-pass}
 use Rattle.demands.proofs.Laws.{are-valid}
 use Rattle.demands.proofs.EachLine.{columned-letter, head-said, point-said}
@@ -47,8 +51,8 @@ fxa = record { first = 36; last = 38; code = 0x465841 }
 siu : Entry
 siu = record { first = 39; last = 40; code = 0x534955 }
 
-theFix : Fix
-theFix = record {
+theFields : FixFields
+theFields = record {
   time = 43200;
   lat = record { count = 3090000; letter = code "N" };
   lon = record { count = 15000; letter = code "W" };
@@ -56,6 +60,27 @@ theFix = record {
   pressure = record { metres = pos 100 };
   gnss = record { metres = pos 120 };
 }
+
+-- its I line has no columns of finer digits
+theFix : Fix
+theFix = record {
+  time = record { count = 43200; decimals = 0 };
+  lat = record { count = 3090000; letter = code "N"; decimals = 0 };
+  lon = record { count = 15000; letter = code "W"; decimals = 0 };
+  validity = code "A";
+  pressure = record { metres = pos 100 };
+  gnss = record { metres = pos 120 };
+}
+
+-- and neither coordinate is at its limit
+off-limits : {name : List ℕ} (t : List ℕ) → OnlyZeros (AtLatitude theFields) (AtLongitude theFields) name → Zeros t
+unfolding theFields
+off-limits t (lad n c) = absurd (omega arith)
+off-limits t (lod n c) = absurd (omega arith)
+
+no-column : (name : List ℕ) → (eqb (getD name 0 0) 70 || eqb (getD name 0 0) 83) ≡ false → Each (λ e. codeText (e .code) ≡ name → ⊥) (fxa ∷ siu ∷ [])
+unfolding fxa siu
+no-column name h = ((λ e. false-true (sym h ∙ rw (← e) refl)), ((λ e. false-true (sym h ∙ rw (← e) refl)), tt))
 
 -- an I line, and neither a J nor an M line
 abbrev toldFive : Family → List (List ℕ)
@@ -79,7 +104,7 @@ partsWith gs = record {
 
 -- they keep to the rules, where the G lines do
 keepsWith : (needs : Seal) (gs : List (List ℕ)) → Each IsGLine gs → SealedBy needs gs → Keeps needs (partsWith gs) (record { day = 15; month = 7; year = 2024 }) layoutsFive (43200 ∷ [])
-unfolding everything fileOf joinLines areValid fxa siu theFix goodFixFields isPosition isAltitude
+unfolding everything fileOf joinLines areValid fxa siu theFields theFix goodFixFields isPosition isAltitude
 keepsWith needs gs g s = record {
   recorder = record {
     letter = refl;
@@ -105,14 +130,25 @@ keepsWith needs gs g s = record {
       absent;
   body = undeclared (timed (columned family.B (
     theFix,
-    refl,
     record {
+      plain = theFields;
       tail = bytes "01208";
       text = refl;
-      fields = fix-exactly (fieldsOf theFix) .0 refl;
-      columns = column (bytes "012") refl (are-valid (bytes "012") refl) (rule-exactly 0x465841 (bytes "012") .0 refl)
-          (column (bytes "08") refl (are-valid (bytes "08") refl) (rule-exactly 0x534955 (bytes "08") .0 refl) none);
+      fields = fix-exactly theFields .0 refl;
+      columns = column (bytes "012") refl (are-valid (bytes "012") refl) (rule-exactly 0x465841 (bytes "012") .0 refl) (off-limits (bytes "012"))
+          (column (bytes "08") refl (are-valid (bytes "08") refl) (rule-exactly 0x534955 (bytes "08") .0 refl) (off-limits (bytes "08")) none);
+      refines = record {
+        time = without (no-column (bytes "TDS") refl) refl refl;
+        lat = without (no-column (bytes "LAD") refl) refl refl;
+        lat-letter = refl;
+        lon = without (no-column (bytes "LOD") refl) refl refl;
+        lon-letter = refl;
+        validity = refl;
+        pressure = refl;
+        gnss = refl;
+      };
     },
+    refl,
   )) done);
   order = tt;
   seals = g;

@@ -14,12 +14,13 @@ use Rattle.rules.specs.Choice.{given, byte, Each}
 use Rattle.rules.specs.Chars.{isValid, isCode, codesAt}
 use Rattle.rules.specs.Numbers.{numberAt}
 use Rattle.rules.specs.Fields.{timeAt, dateAt, latitudeAt, longitudeAt, altitudeAt, isEither}
-use Rattle.rules.specs.Listed.{codeAt, widthFits, keepsRule}
+use Rattle.rules.specs.Listed.{codeAt, widthFits, keepsLimit}
 use Rattle.rules.specs.Layouts.{spanOf, columnText}
 use Rattle.rules.specs.Lines.{kindOf, isDateMark, plannedAt}
 use Rattle.rules.specs.Roles.{roleOf}
 use Rattle.rules.specs.declared.Class.{Class}
 use Rattle.rules.specs.declared.Class.the-variants as class
+use Rattle.rules.specs.declared.AtLimit.{AtLimit}
 use Rattle.rules.specs.declared.Entry.{Entry}
 use Rattle.rules.specs.declared.Family.{Family}
 use Rattle.rules.specs.declared.Family.the-variants as family
@@ -83,9 +84,14 @@ unfoldable pub shapeChecks : ℕ → ℕ → Bool → List ℕ → List Check
 shapeChecks least most inH l =
     check 7 0 (leb least (length l) && leb (length l) most) ∷ oneEach 8 (λ i b. i + 1) (isValid inH) l 0
 
--- "13 COLUMN: listed column against its rule; line, column's first byte"
-unfoldable pub columnChecks : List ℕ → List Entry → List Check
-columnChecks l es = oneEach 13 (λ i e. e .first) (λ e. keepsRule (e .code) (columnText l (spanOf e))) es 0
+-- "where the plain count is already at its limit" (document 02): 90 degrees of latitude, 180 degrees of longitude, in a B line; K and N lines have no coordinates
+abbrev pub limitsIn : Family → List ℕ → AtLimit
+limitsIn family.B l = record { lat = given (latitudeAt l (byte 8)) false λ p. eqb (p .count) 5400000; lon = given (longitudeAt l (byte 16)) false λ p. eqb (p .count) 10800000 }
+limitsIn (family.Extra x) l = record { lat = false; lon = false }
+
+-- "13 COLUMN: listed column against its rule; line, column's first byte"; "13 for digits past a limit" (document 02)
+unfoldable pub columnChecks : AtLimit → List ℕ → List Entry → List Check
+columnChecks at l es = oneEach 13 (λ i e. e .first) (λ e. keepsLimit at (e .code) (columnText l (spanOf e))) es 0
 
 -- "B, E, F and K lines run in time order."; of N: "and it joins the time order"; "14 BACK: time falls; line, 2"
 abbrev pub timeCheck : List (List ℕ) → List ℕ → Check
@@ -174,7 +180,7 @@ fieldChecks (family.Extra x) l = field class.Time 2 (isThere (timeAt l (byte 2))
 
 -- "B and K exactly what their layout gives"; "columns from 36", "columns from 8"; of N: "columns from 8, exact length, listed codes checked"
 abbrev pub lineChecks : Family → List Entry → List ℕ → List Check
-lineChecks f es l = sizeChecks f es l ++ (fieldChecks f l ++ columnChecks l es)
+lineChecks f es l = sizeChecks f es l ++ (fieldChecks f l ++ columnChecks (limitsIn f l) l es)
 
 -- "E 10 to 255"; "E: time, 3 code characters, text."
 abbrev pub eventChecks : List ℕ → List Check

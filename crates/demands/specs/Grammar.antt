@@ -1,10 +1,10 @@
--- Document 01's rules of a whole file as a grammar, with document 02's M and N lines, apart from any check: what a line of each kind is, which kind may follow which, and the
+-- Document 01's rules of a whole file as a grammar, with document 02's M and N lines and finer digits, apart from any check: what a line of each kind is, which kind may follow which, and the
 -- order of times.
 -- A line with a date, a time, a layout or a position is the text of such values within their limits; the listed codes, the characters and the limits are document 01's own
 -- words (crate words). Of the rules it has types and the texts of values. It has `firstStart`, `layoutLetter` and, in the text of a K or an N line, `lineLetter`:
 -- `starts-exactly` and `letters-exactly` hold these. It has `layoutOf`, which `answers-exactly` holds, with `entriesOf`, `emptyLayout` and `unused`, the parts of the answer's
--- layouts; and `fieldsOf`, which `fix-fields-exactly` holds.
-use Prim.Native.Nat.{ℕ, _+_, _-_, _%_, _≤_, _<_}
+-- layouts.
+use Prim.Native.Nat.{ℕ, _+_, _-_, _*_, _%_, _^_, _≤_, _<_}
 use Prim.Native.Char.{code}
 use mathlib.Core.Bool.{Bool, true, false, cond}
 use mathlib.Core.List.{List, [], _∷_, _++_}
@@ -14,13 +14,12 @@ use mathlib.Core.Path.{_≡_}
 use lib.Dec.{eqb, leb}
 use lib.ListN.{length, getD, replicate}
 use Rattle.rules.specs.Families.{firstStart, layoutLetter, layoutOf}
-use Rattle.rules.specs.Choice.{byte, Each}
+use Rattle.rules.specs.Choice.{byte, bytes, part, Each}
 use Rattle.rules.specs.Fields.{timeText, dateText}
 use Rattle.rules.specs.Numbers.{digitsOf}
 use Rattle.rules.specs.Listed.{codeText}
 use Rattle.rules.specs.Layouts.{unused, emptyLayout, entriesOf}
-use Rattle.rules.specs.Fixes.{fieldsOf}
-use Rattle.rules.specs.Writes.{fixText, extraText, entryTexts, headText, pointText}
+use Rattle.rules.specs.Writes.{fieldsText, extraText, entryTexts, headText, pointText}
 use Rattle.rules.specs.declared.Date.{Date}
 use Rattle.rules.specs.declared.Entry.{Entry}
 use Rattle.rules.specs.declared.Layout.{Layout}
@@ -30,6 +29,7 @@ use Rattle.rules.specs.declared.Family.{Family}
 use Rattle.rules.specs.declared.Family.the-variants as family
 use Rattle.rules.specs.declared.Layouts.{Layouts}
 use Rattle.rules.specs.declared.Counts.{Counts}
+use Rattle.rules.specs.declared.FixFields.{FixFields}
 use Rattle.rules.specs.declared.Fix.{Fix}
 use Rattle.rules.specs.declared.Planned.{Planned}
 use Rattle.rules.specs.declared.Planned.the-variants as planned
@@ -41,6 +41,7 @@ use Rattle.rules.specs.declared.Seal.the-variants as seal
 use Rattle.words.specs.Characters.{IsValid, IsCode, CodesAt}
 use Rattle.words.specs.Codes.{RowSays, Holds}
 use Rattle.words.specs.Values.{IsTime, IsLatitude, IsLongitude, IsFixFields}
+use Rattle.words.specs.Finer.{OnlyZeros, Zeros, AtLatitude, AtLongitude}
 
 -- ---- 'Lines' and 'Fields': a line of each kind, without its CR LF
 
@@ -175,34 +176,71 @@ pub record IsFLine (t : ℕ) (l : List ℕ) : Type 0 where
   pub codes : Each IsCode pairs
 
 -- The columns of a line, one behind the other, each as many bytes as from its entry's SS to its FF, and none behind the last: "A line of that kind ends at the last FF". Each
--- holds valid characters, and that of a listed code keeps its rule.
-pub data Columns : List Entry → List ℕ → Type 0 where
-  none : Columns [] []
+-- holds valid characters, and that of a listed code keeps its rule. Where `AtLat` or `AtLon` says that a coordinate of the line is at its limit, its finer digits are zeros.
+pub data Columns (AtLat AtLon : Type 0) : List Entry → List ℕ → Type 0 where
+  none : Columns AtLat AtLon [] []
   column : {e : Entry} {es : List Entry} {t : List ℕ} (c : List ℕ)
       → length c ≡ widthOf e
       → Each (IsValid false) c
       → RowSays (e .code) (λ p. Holds (p .name) c)
-      → Columns es t
-      → Columns (e ∷ es) (c ++ t)
+      → (OnlyZeros AtLat AtLon (codeText (e .code)) → Zeros c)
+      → Columns AtLat AtLon es t
+      → Columns AtLat AtLon (e ∷ es) (c ++ t)
+
+-- an entry of this code stands among the entries
+pub record Carries (es : List Entry) (name : List ℕ) : Type 0 where
+  pub before : List Entry
+  pub entry : Entry
+  pub after : List Entry
+  pub order : es ≡ before ++ (entry ∷ after)
+  pub coded : codeText (entry .code) ≡ name
+
+-- the bytes of a line from an entry's SS to its FF
+abbrev pub bytesOf : Entry → List ℕ → List ℕ
+bytesOf e l = part (byte (e .first)) (e .last) l
+
+-- Document 02, request 9: "a count with a number of extra decimals: the old count times ten for each digit, plus the digits of LAD, LOD or TDS ..; none without the column": by the
+-- column of this code in the line
+pub data Finer (name : List ℕ) (es : List Entry) (l : List ℕ) (old count decimals : ℕ) : Type 0 where
+  without : Each (λ e. codeText (e .code) ≡ name → ⊥) es → count ≡ old → decimals ≡ 0 → Finer name es l old count decimals
+  digits : (c : Carries es name) (v : ℕ)
+      → bytesOf (c .entry) l ≡ digitsOf decimals v
+      → v < 10 ^ decimals
+      → count ≡ old * 10 ^ decimals + v
+      → Finer name es l old count decimals
+
+-- "Latitude, longitude and time in the fix record each become a count with a number of extra decimals": the fix that a line has whose bytes before the columns spell these fields
+pub record Refines (es : List Entry) (l : List ℕ) (plain : FixFields) (f : Fix) : Type 0 where
+  pub time : Finer (bytes "TDS") es l (plain .time) (f .time .count) (f .time .decimals)
+  pub lat : Finer (bytes "LAD") es l (plain .lat .count) (f .lat .count) (f .lat .decimals)
+  pub lat-letter : f .lat .letter ≡ plain .lat .letter
+  pub lon : Finer (bytes "LOD") es l (plain .lon .count) (f .lon .count) (f .lon .decimals)
+  pub lon-letter : f .lon .letter ≡ plain .lon .letter
+  pub validity : f .validity ≡ plain .validity
+  pub pressure : f .pressure ≡ plain .pressure
+  pub gnss : f .gnss ≡ plain .gnss
 
 -- "B: time 2 to 7; latitude DDMMmmm and N or S, 8 to 15; longitude DDDMMmmm and E or W, 16 to 24; A or V, 25; pressure altitude 26 to 30; GNSS altitude 31 to 35;
--- columns from 36."; "B and K exactly what their layout gives"
+-- columns from 36."; "B and K exactly what their layout gives"; "LAD or LOD digits other than zeros break their column's rule where the plain count is already at its limit."
 pub record IsBLine (layout : Layout) (f : Fix) (l : List ℕ) : Type 0 where
+  pub plain : FixFields
   pub tail : List ℕ
-  pub text : l ≡ fixText f tail
-  pub fields : IsFixFields (fieldsOf f)
-  pub columns : Columns (entriesOf layout) tail
+  pub text : l ≡ fieldsText plain tail
+  pub fields : IsFixFields plain
+  pub columns : Columns (AtLatitude plain) (AtLongitude plain) (entriesOf layout) tail
+  pub refines : Refines (entriesOf layout) l plain f
 
--- "K: time 2 to 7, columns from 8."; "B and K exactly what their layout gives"; "N is built as K is: time at 2 to 7, columns from 8, exact length, listed codes checked"
+-- "K: time 2 to 7, columns from 8."; "B and K exactly what their layout gives"; "N is built as K is: time at 2 to 7, columns from 8, exact length, listed codes checked"; it has no
+-- coordinates
 pub record IsExtraLine (x : Extra) (layout : Layout) (t : ℕ) (l : List ℕ) : Type 0 where
   pub tail : List ℕ
   pub text : l ≡ extraText x t tail
   pub time : IsTime t
-  pub columns : Columns (entriesOf layout) tail
+  pub columns : Columns ⊥ ⊥ (entriesOf layout) tail
 
--- a B line, a K line or an N line, by its layout, and its time
+-- a B line, a K line or an N line, by its layout, and its time, of a B line the plain one: "Time order .. still use the plain counts."
 abbrev pub IsColumned : Family → Layout → ℕ → List ℕ → Type 0
-IsColumned family.B layout t l = (f : Fix) × (fieldsOf f .time ≡ t) × IsBLine layout f l
+IsColumned family.B layout t l = (f : Fix) × (w : IsBLine layout f l) × (w .plain .time ≡ t)
 IsColumned (family.Extra x) layout t l = IsExtraLine x layout t l
 
 -- "L 1 to 99"

@@ -1,7 +1,7 @@
 -- Document 01, the paragraph after the refusal table: what a reader refuses first. "A line of another kind than the reader's is 17. Line readers repeat the checks of 7 to 13
 -- after 17, with 0 for the line number; then 19, then 20. A refused reading returns no value." Document 02, request 8: 19 and 20 are the look's, after its own 17. Each reader has its checks as a list in that order; those of 7 to 13 stand in
 -- Checks, kind by kind.
-use Prim.Native.Nat.{ℕ, _-_, _≤_}
+use Prim.Native.Nat.{ℕ, _-_, _*_, _^_, _≤_}
 use Prim.Native.Char.{code}
 use mathlib.Core.Bool.{Bool, true, false, not, _&&_, _||_, cond}
 use mathlib.Core.List.{List, [], _∷_, _++_}
@@ -24,7 +24,7 @@ use Rattle.rules.specs.declared.Entry.{Entry}
 use Rattle.rules.specs.declared.Layout.{Layout}
 use Rattle.rules.specs.declared.Family.{Family}
 use Rattle.rules.specs.declared.Family.the-variants as family
-use Rattle.rules.specs.declared.Position.{Position}
+use Rattle.rules.specs.declared.FinePosition.{FinePosition}
 use Rattle.demands.specs.Checks.{Check, check, isThere, AllPass, FailsFirst, hasCode, layoutChecks, dateChecks, headChecks, pointChecks, lineChecks, eventChecks, satelliteChecks}
 use Rattle.demands.specs.BothWays.{Slotted}
 use Rattle.demands.specs.Endings.{isEnding, hasEnding}
@@ -107,12 +107,12 @@ numberedReader file table n = check 17 0 (leb 1 n) ∷ check 17 0 (leb n (length
 abbrev pub stepReader : List ℕ → ℕ → List Check
 stepReader file at = check 17 0 (leb at (length file)) ∷ check 17 0 (eqb at (length file) || hasEnding (drop at file)) ∷ []
 
--- "17 BAD_VALUE: value .. given is not allowed"; "Latitude at most 5,400,000, longitude at most 10,800,000", "N or S", "E or W"
-abbrev pub degreesReader : Position → Position → List Check
-degreesReader lat lon =
-    check 17 0 (leb (lat .count) 5400000 && (eqb (lat .letter) (code "N") || eqb (lat .letter) (code "S")))
-    ∷ check 17 0 (leb (lon .count) 10800000 && (eqb (lon .letter) (code "E") || eqb (lon .letter) (code "W")))
-    ∷ []
+-- "17 BAD_VALUE: value .. given is not allowed"; "Latitude at most 5,400,000, longitude at most 10,800,000", "N or S", "E or W"; each with up to 4 extra decimals (document 02)
+abbrev pub coordinateCheck : ℕ → ℕ → ℕ → FinePosition → Check
+coordinateCheck most a b p = check 17 0 (leb (p .decimals) 4 && (leb (p .count) (most * 10 ^ p .decimals) && (eqb (p .letter) a || eqb (p .letter) b)))
+
+abbrev pub degreesReader : FinePosition → FinePosition → List Check
+degreesReader lat lon = coordinateCheck 5400000 (code "N") (code "S") lat ∷ coordinateCheck 10800000 (code "E") (code "W") lon ∷ []
 
 -- ---- what is claimed, reader by reader
 
@@ -136,7 +136,7 @@ pub record ReadersRefuse : Type 0 where
   -- a line by its number, with any table; a step from any place; any two positions on the map
   pub numbered : (file table : List ℕ) (n : ℕ) → RefusesFirst (numberedReader file table n) (boundsOf file table n)
   pub step : (file : List ℕ) (at : ℕ) → RefusesFirst (stepReader file at) (stepAt file at)
-  pub degrees : (lat lon : Position) → RefusesFirst (degreesReader lat lon) (degreesOf lat lon)
+  pub degrees : (lat lon : FinePosition) → RefusesFirst (degreesReader lat lon) (degreesOf lat lon)
 
 -- no two entries have one code
 abbrev pub Once : List Entry → Type 0

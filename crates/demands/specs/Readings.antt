@@ -26,6 +26,7 @@ use Rattle.rules.specs.declared.Extra.{Extra}
 use Rattle.rules.specs.declared.Family.{Family}
 use Rattle.rules.specs.declared.Family.the-variants as family
 use Rattle.rules.specs.declared.Position.{Position}
+use Rattle.rules.specs.declared.FinePosition.{FinePosition}
 use Rattle.rules.specs.declared.Degrees.{Degrees}
 use Rattle.rules.specs.declared.Fix.{Fix}
 use Rattle.rules.specs.declared.Head.{Head}
@@ -33,8 +34,8 @@ use Rattle.rules.specs.declared.Layouts.{Layouts}
 use Rattle.rules.specs.declared.Flight.{Flight}
 use Rattle.rules.specs.declared.Seal.{Seal}
 use Rattle.words.specs.Codes.{Row, rows}
-use Rattle.words.specs.Values.{IsLatitude, IsLongitude, IsAngle}
-use Rattle.demands.specs.Grammar.{IsText, IsDateLine, widthOf, IsLayoutLine, IsELine, IsFLine, IsBLine, IsExtraLine, IsHeadLine, IsPointLine, joinLines, beginning}
+use Rattle.words.specs.Finer.{IsFineLatitude, IsFineLongitude, IsAngle}
+use Rattle.demands.specs.Grammar.{IsText, IsDateLine, widthOf, Carries, IsLayoutLine, IsELine, IsFLine, IsBLine, IsExtraLine, IsHeadLine, IsPointLine, joinLines, beginning}
 use Rattle.demands.specs.Coming.{sizeOf}
 
 -- ---- a column
@@ -77,14 +78,6 @@ pub record ReadsColumns (f : Family) (es : Layout) (l : List ℕ) : Type 0 where
 
 -- ---- what a layout says by itself
 
--- an entry of this code stands among the entries
-pub record Carries (es : List Entry) (name : List ℕ) : Type 0 where
-  pub before : List Entry
-  pub entry : Entry
-  pub after : List Entry
-  pub order : es ≡ before ++ (entry ∷ after)
-  pub coded : codeText (entry .code) ≡ name
-
 -- "One u32 word tells which listed codes an I line carries, a bit for each number, with the count of those columns: bit n, worth 2^n, for number n.": of these rows, the first
 -- of which has the number n, the word and the count
 pub data Present (es : List Entry) : List Row → ℕ → ℕ → ℕ → Type 0 where
@@ -106,15 +99,15 @@ pub record ReadsLayout (f : Family) (layout : Layout) : Type 0 where
 
 -- ---- "any fix, column, K line or declaration read"; any N line
 
--- "For the map, a position also comes as a pair of f64 degrees": a latitude and a longitude within their limits, and of each its degrees
-pub record OnMap (lat lon : Position) (d : Degrees) : Type 0 where
-  pub latitude : IsLatitude lat
-  pub longitude : IsLongitude lon
+-- "For the map, a position also comes as a pair of f64 degrees": a latitude and a longitude within their limits, with all their decimals, and of each its degrees
+pub record OnMap (lat lon : FinePosition) (d : Degrees) : Type 0 where
+  pub latitude : IsFineLatitude lat
+  pub longitude : IsFineLongitude lon
   pub lat-angle : IsAngle lat (d .lat)
   pub lon-angle : IsAngle lon (d .lon)
 
 -- of positions that were read it is never refused
-pub record ReadsMap (lat lon : Position) : Type 0 where
+pub record ReadsMap (lat lon : FinePosition) : Type 0 where
   pub degrees : Degrees
   pub is : OnMap lat lon degrees
   pub reads : degreesOf lat lon ≡ says degrees
@@ -161,11 +154,15 @@ pub record ReadsHead (h : Head) (l : List ℕ) : Type 0 where
   pub reads : headSaid l ≡ says h
   pub text : headRest l (headSaid l) ≡ is .rest
 
+-- the positions of a C point have no extra decimals
+abbrev pub unrefined : Position → FinePosition
+unrefined p = record { count = p .count; letter = p .letter; decimals = 0 }
+
 -- a C point line as the point whose line it is, and as the text behind its fields
 pub record ReadsPoint (l : List ℕ) : Type 0 where
   pub is : IsPointLine l
   pub reads : pointSaid l ≡ says (is .point)
-  pub map : ReadsMap (is .point .lat) (is .point .lon)
+  pub map : ReadsMap (unrefined (is .point .lat)) (unrefined (is .point .lon))
   pub text : pointRest l (pointSaid l) ≡ is .rest
 
 -- a line of another kind than C

@@ -22,7 +22,7 @@ use Rattle.rules.specs.declared.Seal.the-variants as seal
 use Rattle.laws.proofs.Splitting.{textsOf}
 use Rattle.laws.proofs.Passing.{roleIn}
 use Rattle.laws.proofs.Counted.{tally, family-counted}
-use Rattle.sound.proofs.Each.{each-map}
+use Rattle.trips.proofs.Each.{each-map}
 use Rattle.demands.specs.Grammar.{IsText, IsLLine, Meets, flightOf}
 use Rattle.demands.specs.Coming.{those}
 use Rattle.demands.proofs.Sections.{before}

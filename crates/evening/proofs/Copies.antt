@@ -11,7 +11,7 @@ use Rattle.rules.specs.Choice.{Each}
 use Rattle.rules.specs.Split.{end, linesOf}
 use Rattle.rules.specs.declared.Seal.the-variants as seal
 use Rattle.laws.proofs.Splitting.{textsOf}
-use Rattle.sound.proofs.Each.{each-map, each-both, each-join, each-cut}
+use Rattle.trips.proofs.Each.{each-map, each-both, each-join, each-cut}
 use Rattle.notes.specs.Notes.{joined, isSeal, sealed, commonPart, notesIn}
 use Rattle.demands.specs.Grammar.{IsText, IsGLine, IsLLine, Parts, linesIn, joinLines, Keeps, Meets}
 use Rattle.evening.specs.Evening.{sealedPart}

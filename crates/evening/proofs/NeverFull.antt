@@ -13,6 +13,7 @@ use Rattle.rules.specs.Roles.{roleOf}
 use Rattle.rules.specs.Refusals.{number, Said, says, refuses}
 use Rattle.rules.specs.Split.{linesOf}
 use Rattle.rules.specs.Files.{verdict}
+use Rattle.rules.specs.declared.AtLimit.{AtLimit}
 use Rattle.rules.specs.declared.Entry.{Entry}
 use Rattle.rules.specs.declared.Family.{Family}
 use Rattle.rules.specs.declared.Family.the-variants as family
@@ -57,9 +58,9 @@ shape : (least most : ℕ) (inH : Bool) (l : List ℕ) → clear (shapeChecks le
 unfolding shapeChecks
 shape least most inH l = one-each 8 _ _ l 0 refl
 
-columns : (l : List ℕ) (es : List Entry) → clear (columnChecks l es) ≡ true
+columns : (at : AtLimit) (l : List ℕ) (es : List Entry) → clear (columnChecks at l es) ≡ true
 unfolding columnChecks
-columns l es = one-each 13 _ _ es 0 refl
+columns at l es = one-each 13 _ _ es 0 refl
 
 pairs : (at : ℕ) (l : List ℕ) → clear (pairChecks at l) ≡ true
 unfolding pairChecks

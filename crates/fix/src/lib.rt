@@ -1,8 +1,9 @@
 // The fields of a B line before its columns, and how a field that breaks its rule is refused.
 ghost use mathlib.Core.Path.{_≡_};
 ghost use Rattle.rules.specs.Refusals.{reasonOf};
-ghost use Rattle.fix.specs.Parts.{FormGiven, FieldsGiven};
+ghost use Rattle.fix.specs.Parts.{FormGiven, FieldsGiven, LimitsGiven};
 use rules::Altitude;
+use rules::AtLimit;
 use rules::Class;
 use rules::FixFields;
 use rules::FixFieldsRead;
@@ -66,4 +67,16 @@ pub fn fix_fields(line: &[u8]) -> FixFieldsRead
         pressure,
         gnss,
     })
+}
+
+// Which coordinates of a fix stand at their limit: a latitude of 90 degrees, a longitude of 180.
+pub fn at_limit(f: FixFields) -> AtLimit
+    ensures { λ r. ⌜ LimitsGiven f r ⌝ }
+{
+    let lat = f.lat;
+    let lon = f.lon;
+    AtLimit {
+        lat: lat.count == 5400000,
+        lon: lon.count == 10800000,
+    }
 }

@@ -1,5 +1,5 @@
--- A line with a good front has its position, its validity and both its altitudes: bytes within bounds that are digits spell a number, and it is no more than what the upper bounds spell. Assumes nothing.
-use Prim.Native.Nat.{ℕ, zero, suc, _+_, _-_, _*_, _≤_}
+-- A line with a good front has its position, which is below both limits, its validity and both its altitudes: bytes within bounds that are digits spell a number, and it is no more than what the upper bounds spell. Assumes nothing.
+use Prim.Native.Nat.{ℕ, zero, suc, _+_, _-_, _*_, _≤_, _<_}
 use mathlib.Core.Bool.{Bool, true, false, cond, _&&_, _||_}
 use mathlib.Core.List.{List, [], _∷_}
 use mathlib.Core.Option.{Option, none, some}
@@ -13,7 +13,8 @@ use lib.Seq.{drop-drop}
 use Rattle.rules.specs.Choice.{leads, given, need, on, bytes}
 use Rattle.rules.specs.Chars.{isDigit}
 use Rattle.rules.specs.Numbers.{spell, numberAt}
-use Rattle.rules.specs.Fields.{isEither, positionAt, latitudeAt, longitudeAt, altitudeAt}
+use Rattle.rules.specs.Fields.{isEither, mostLatitude, mostLongitude, positionAt, latitudeAt, longitudeAt, altitudeAt}
+use Rattle.rules.specs.declared.Position.{Position}
 use Rattle.number.proofs.Laws.{digit-low, digit-high, spell-other, number-long}
 use Rattle.rules.proofs.Inverse.{and-inv}
 use Rattle.front.specs.Front.{isWithin, between, lows, highs, nears, isBounded, isFront}
@@ -65,9 +66,15 @@ pub record There {A : Type 0} (o : Option A) : Type 0 where
   pub value : A
   pub read : o ≡ some value
 
+-- a position below its limit is read
+pub record Below (o : Option Position) (most : ℕ) : Type 0 where
+  pub value : Position
+  pub read : o ≡ some value
+  pub below : value .count < most
+
 module _ (l : List ℕ) (at : ℕ) where
-  position-there : (width most a b degrees : ℕ) → Spelt (numberAt l at width) degrees → Spelt (numberAt l (at + width) 5) 59999 → degrees * 60000 + 59999 ≤ most → isEither (getD l (at + width + 5) 0) a b ≡ true
-      → There (positionAt l at width most a b)
+  position-there : (width most a b degrees : ℕ) → Spelt (numberAt l at width) degrees → Spelt (numberAt l (at + width) 5) 59999 → degrees * 60000 + 59999 < most → isEither (getD l (at + width + 5) 0) a b ≡ true
+      → Below (positionAt l at width most a b) most
   unfolding positionAt on
   position-there width most a b degrees d m h e =
       let low : d .value ≤ degrees = d .below in
@@ -75,6 +82,7 @@ module _ (l : List ℕ) (at : ℕ) where
       record {
         value = record { count = d .value * 60000 + m .value; letter = getD l (at + width + 5) 0 };
         read = rw (d .read, m .read, le-leb (m .value) 59999 minutes, le-leb (d .value * 60000 + m .value) most (omega arith), e);
+        below = omega arith;
       }
 
   no-minus : (v : ℕ) (t : Bool) → numberAt l at 5 ≡ some v → eqb (getD l at 0) 45 ≡ t → t ≡ false
@@ -91,8 +99,8 @@ module _ (l : List ℕ) (at : ℕ) where
       record { value = record { metres = pos (s .value) }; read = rw (no-minus (s .value) _ (s .read) refl, s .read) }
 
 pub record Front (l : List ℕ) : Type 0 where
-  pub lat : There (latitudeAt l 7)
-  pub lon : There (longitudeAt l 15)
+  pub lat : Below (latitudeAt l 7) mostLatitude
+  pub lon : Below (longitudeAt l 15) mostLongitude
   pub valid : isEither (getD l 24 0) 65 86 ≡ true
   pub pressure : There (altitudeAt l 25)
   pub gnss : There (altitudeAt l 30)

@@ -46,11 +46,21 @@ pub extern "C" fn hive_point(line: &[u8], answer: &mut [u64]) -> u32
 pub extern "C" fn hive_degrees(
     latitude: u64,
     n_or_s: u8,
+    latitude_decimals: u8,
     longitude: u64,
     e_or_w: u8,
+    longitude_decimals: u8,
     degrees: &mut [f64],
 ) -> u32
-    ensures { λ r. ⌜ DegreesAnswered (record { count = latitude; letter = «n_or_s» }) (record { count = longitude; letter = «e_or_w» }) (now (degrees .entry)) r (now (degrees .exit)) ⌝ }
+    ensures { λ r. ⌜ DegreesAnswered (record { count = latitude; letter = «n_or_s»; decimals = «latitude_decimals» }) (record { count = longitude; letter = «e_or_w»; decimals = «longitude_decimals» }) (now (degrees .entry)) r (now (degrees .exit)) ⌝ }
 {
-    calls_line::degrees(latitude, n_or_s, longitude, e_or_w, degrees)
+    calls_line::degrees(
+        latitude,
+        n_or_s,
+        latitude_decimals,
+        longitude,
+        e_or_w,
+        longitude_decimals,
+        degrees,
+    )
 }

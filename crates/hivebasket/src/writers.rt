@@ -6,10 +6,13 @@ ghost use Rattle.calls_write.specs.Calls.{WriteFixAnswered, WriteExtraAnswered,
 #[no_mangle]
 pub extern "C" fn hive_write_fix(
     seconds: u32,
+    seconds_decimals: u8,
     latitude: u64,
     n_or_s: u8,
+    latitude_decimals: u8,
     longitude: u64,
     e_or_w: u8,
+    longitude_decimals: u8,
     validity: u8,
     pressure: i32,
     gnss: i32,
@@ -19,14 +22,17 @@ pub extern "C" fn hive_write_fix(
     out: &mut [u8],
     answer: &mut [u64],
 ) -> u32
-    ensures { λ r. ⌜ WriteFixAnswered (fixFrom seconds latitude «n_or_s» longitude «e_or_w» validity pressure gnss) (now (columns .entry)) (now (layout .entry)) place (now (out .entry)) (now (answer .entry)) r (now (out .exit)) (now (answer .exit)) ⌝ }
+    ensures { λ r. ⌜ WriteFixAnswered (fixFrom seconds «seconds_decimals» latitude «n_or_s» «latitude_decimals» longitude «e_or_w» «longitude_decimals» validity pressure gnss) (now (columns .entry)) (now (layout .entry)) place (now (out .entry)) (now (answer .entry)) r (now (out .exit)) (now (answer .exit)) ⌝ }
 {
     calls_write::fix(
         seconds,
+        seconds_decimals,
         latitude,
         n_or_s,
+        latitude_decimals,
         longitude,
         e_or_w,
+        longitude_decimals,
         validity,
         pressure,
         gnss,

@@ -9,15 +9,20 @@ use lib.ListN.{getD}
 use Rattle.rules.specs.Families.{firstStart}
 use Rattle.rules.specs.Choice.{need}
 use Rattle.rules.specs.Layouts.{emptyLayout, allowed}
-use Rattle.rules.specs.Fixes.{fixOf}
-use Rattle.rules.specs.Reads.{ofKind, byLayout, fixSaid, extraSaid, withEntries, reading, Answer, answered}
-use Rattle.rules.specs.Refusals.{Said, says, no, refusal, andThen}
+use Rattle.rules.specs.Fixes.{finerOf, fixOf}
+use Rattle.rules.specs.Reads.{ofKind, byLayout, fieldsSaid, fixSaid, extraSaid, withEntries, reading, Answer, answered}
+use Rattle.rules.specs.Refusals.{Said, says, refuses, no, refusal, andThen}
 use Rattle.rules.specs.declared.Extra.{Extra}
 use Rattle.rules.specs.declared.Family.{Family}
 use Rattle.rules.specs.declared.Family.the-variants as family
+use Rattle.rules.specs.declared.Finer.{Finer}
+use Rattle.rules.specs.declared.Fix.{Fix}
+use Rattle.rules.specs.declared.FixFields.{FixFields}
 use Rattle.rules.specs.declared.Layout.{Layout}
 use Rattle.rules.specs.declared.Reason.the-variants.{BadValue}
 use Rattle.rules.specs.declared.Refusal.{Refusal}
+use Rattle.finer.specs.Within.{fixWithin}
+use Rattle.finer.proofs.Read.{read-within}
 use Rattle.known.specs.Known.{fieldsKnown, fixKnown, extraKnown}
 
 -- the first byte r is the reader's letter, or another
@@ -34,7 +39,16 @@ both : {A : Type 0} (t : Bool) (a : A) → a ≡ need t a (λ _. a)
 both true a = refl
 both false a = refl
 
+-- the fix that was made by the layout's columns of finer digits
+pub made-by : (l : List ℕ) (layout : Layout) (fine : Finer) (f : FixFields) (x : Fix) → x ≡ fixWithin l fine f → fine ≡ finerOf layout → x ≡ fixWithin l (finerOf layout) f
+made-by l layout fine f x e g = rw (← g) e
+
 -- ---- where the layout is allowed, or is not
+
+-- two makings of what is said, alike wherever it is said
+then-same : {A B : Type 0} (s : Said A) (f g : A → B) → ((v : A) → s ≡ says v → f v ≡ g v) → (andThen s λ v. says (f v)) ≡ (andThen s λ v. says (g v))
+then-same (says v) f g h = ap says (h v refl)
+then-same (refuses n l b) f g h = refl
 
 module _ {A : Type 0} (l : List ℕ) (letter : ℕ) (layout : Layout) (f : Family) (g : Unit {0} → Said A) where
   with-allowed : allowed (firstStart f) layout ≡ true → ofKind letter l g ≡ ofKind letter l λ _. byLayout f layout g
@@ -44,13 +58,19 @@ module _ {A : Type 0} (l : List ℕ) (letter : ℕ) (layout : Layout) (f : Famil
   with-not-allowed h = rw h (both (eqb (getD l 0 0) letter) (no BadValue 0))
 
 module _ (l : List ℕ) (layout : Layout) where
+  fields-allowed : allowed (firstStart family.B) layout ≡ true → fieldsKnown l layout ≡ fieldsSaid family.B l layout
+  unfolding fieldsKnown
+  fields-allowed h = with-allowed l _ layout family.B _ h
+
   pub fix-allowed : allowed (firstStart family.B) layout ≡ true → fixKnown l layout ≡ fixSaid l layout
-  unfolding fieldsKnown fixKnown fixSaid
-  fix-allowed h = ap (λ s. andThen s λ f. says (fixOf f)) (with-allowed l _ layout family.B _ h)
+  unfolding fixKnown fixSaid
+  fix-allowed h =
+      ap (λ s. andThen s λ f. says (fixWithin l (finerOf layout) f)) (fields-allowed h)
+      ∙ then-same (fieldsSaid family.B l layout) (fixWithin l (finerOf layout)) (fixOf l (finerOf layout)) (read-within l layout)
 
   fix-not-allowed : allowed (firstStart family.B) layout ≡ false → no BadValue 0 ≡ fixSaid l layout
   unfolding fixSaid
-  fix-not-allowed h = ap (λ s. andThen s λ f. says (fixOf f)) (with-not-allowed l _ layout family.B _ h)
+  fix-not-allowed h = ap (λ s. andThen s λ f. says (fixOf l (finerOf layout) f)) (with-not-allowed l _ layout family.B _ h)
 
   pub extra-allowed : (e : Extra) → allowed (firstStart (family.Extra e)) layout ≡ true → extraKnown e l layout ≡ extraSaid e l layout
   unfolding extraKnown extraSaid

@@ -4,7 +4,7 @@ use Prim.Native.Char.{code}
 use mathlib.Core.List.{List}
 use mathlib.Core.Path.{_≡_}
 use Rattle.rules.specs.Families.{lineLetter}
-use Rattle.rules.specs.Fixes.{fixOf}
+use Rattle.rules.specs.Fixes.{finerOf}
 use Rattle.rules.specs.Lines.{bLine, extraLine}
 use Rattle.rules.specs.Reads.{ofKind, withEntries, answered, fixReadingTold, extraReadingTold}
 use Rattle.rules.specs.Refusals.{Said, says, andThen}
@@ -15,14 +15,15 @@ use Rattle.rules.specs.declared.FixFields.{FixFields}
 use Rattle.rules.specs.declared.Fix.{Fix}
 use Rattle.rules.specs.declared.FixReading.{FixReading}
 use Rattle.rules.specs.declared.Layout.{Layout}
+use Rattle.finer.specs.Within.{fixWithin}
 
--- each is its namesake of `rules`, fieldsSaid, fixSaid and extraSaid, without the layout's own test
+-- each is its namesake of `rules`, fieldsSaid, fixSaid and extraSaid, without the layout's own test; a fix is made within the limits that an allowed layout keeps to
 
 unfoldable pub fieldsKnown : List ℕ → Layout → Said FixFields
 fieldsKnown l layout = ofKind (code "B") l λ _. bLine layout l
 
 unfoldable pub fixKnown : List ℕ → Layout → Said Fix
-fixKnown l layout = andThen (fieldsKnown l layout) λ f. says (fixOf f)
+fixKnown l layout = andThen (fieldsKnown l layout) λ f. says (fixWithin l (finerOf layout) f)
 
 unfoldable pub extraKnown : Extra → List ℕ → Layout → Said ℕ
 extraKnown e l layout = ofKind (lineLetter (family.Extra e)) l λ _. extraLine layout l

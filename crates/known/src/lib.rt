@@ -1,14 +1,11 @@
 // The readers of a line of a family by a layout that is known to be allowed: the layout is not tested. On one that is not allowed they are total too, but say nothing of the paper.
 ghost use mathlib.Core.Path.{_≡_};
-ghost use Rattle.rules.specs.Fixes.{fixOf};
 ghost use Rattle.rules.specs.Reads.{fixFieldsTold, timeReadTold};
 ghost use Rattle.known.specs.Known.{fieldsKnown, extraKnown, FixKnown, ExtraKnown};
 use layout::empty_layout;
 use rules::Extra;
 use rules::ExtraReading;
 use rules::Family;
-use rules::Fix;
-use rules::FixFields;
 use rules::FixFieldsRead;
 use rules::FixRead;
 use rules::FixReading;
@@ -16,24 +13,6 @@ use rules::Layout;
 use rules::Reason;
 use rules::Refusal;
 use rules::TimeRead;
-
-// What the reading of a B line gives of its fields.
-fn fix_of(f: FixFields) -> Fix
-    ensures { λ r. ⌜ r ≡ fixOf f ⌝ }
-{
-    let lat = f.lat;
-    let lon = f.lon;
-    let pressure = f.pressure;
-    let gnss = f.gnss;
-    Fix {
-        time: f.time,
-        lat,
-        lon,
-        validity: f.validity,
-        pressure,
-        gnss,
-    }
-}
 
 // The fields of a B line. BAD_VALUE for another kind; then what `line::fix_line` refuses.
 fn fields(line: &[u8], layout: Layout) -> FixFieldsRead
@@ -55,7 +34,7 @@ pub fn fix(line: &[u8], layout: Layout) -> FixReading
 {
     match fields(line, layout) {
         FixFieldsRead::Is(f) => FixReading {
-            fix: FixRead::Is(fix_of(f)),
+            fix: FixRead::Is(finer::fix_of(line, finer::finer_of(layout), f)),
             entries: layout,
         },
         FixFieldsRead::Refused(r) => FixReading {

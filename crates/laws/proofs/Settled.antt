@@ -1,21 +1,23 @@
 -- Points that document 01 settles, for all values, each with its sentence. Assumes nothing.
-use Prim.Native.Nat.{ℕ, zero, suc, _+_, _-_, _≤_, _<_}
+use Prim.Native.Nat.{ℕ, zero, suc, _+_, _-_, _*_, _^_, _≤_, _<_}
 use Prim.Native.Char.{code}
 use Prim.Native.String.{String}
 use mathlib.Core.Bool.{Bool, true, false, not, _&&_, _||_}
 use mathlib.Core.List.{List, [], _∷_, map}
 use mathlib.Core.Option.{Option, none, some}
 use mathlib.Core.Path.{_≡_, refl, sym, ap, _∙_}
+use native.Mathlib.Nat.{one-le-pow}
 use native.Mathlib.Omega.{arith}
 use borrow.Author.Tests.{le-leb, lt-leb, lt-ltb, le-ltb, eqb-true, eqb-false}
 use lib.Dec.{eqb}
-use lib.Ieee.{fin, round, neg}
+use lib.Ieee.{fin, binary64, round, neg}
+use lib.Ieee.Scale.{round-same}
 use lib.IntN.{ℤ, pos, negsuc, negℤ}
 use lib.ListN.{length, getD}
 use Rattle.rules.specs.Choice.{given, firstOf, bytes}
-use Rattle.rules.specs.Refusals.{says, refuses, number}
+use Rattle.rules.specs.Refusals.{says, refuses, number, valueOr}
 use Rattle.rules.specs.Fields.{isEither, yearOf}
-use Rattle.rules.specs.Degrees.{quotient, isNegated, angle, isPosition, degreesOf}
+use Rattle.rules.specs.Degrees.{quotient, isNegated, angle, isFinePosition, degreesOf}
 use Rattle.rules.specs.Listed.{listed, unlisted, listedNumber, packedOf}
 use Rattle.rules.specs.Layouts.{emptyLayout, allowed}
 use Rattle.rules.specs.Order.{onward, nextDay, back, passing}
@@ -24,8 +26,9 @@ use Rattle.rules.specs.Reads.{layoutSaid}
 use Rattle.rules.specs.Writes.{isFix, written, outAfter, wroteTold}
 use Rattle.rules.specs.Promises.{Written}
 use Rattle.rules.specs.declared.Refusal.{Refusal}
-use Rattle.rules.specs.declared.Position.{Position}
+use Rattle.rules.specs.declared.FinePosition.{FinePosition}
 use Rattle.rules.specs.declared.Listed.{Listed}
+use Rattle.rules.specs.declared.Layout.{Layout}
 use Rattle.rules.specs.declared.Family.the-variants as family
 use Rattle.rules.specs.declared.Fix.{Fix}
 use Rattle.rules.specs.declared.Wrote.the-variants as wrote
@@ -81,21 +84,30 @@ long-leaves seal file table h = rw (long-file seal file (some (length table)) h)
 
 -- ---- degrees
 
--- "plain zero for count 0 under either letter"
-pub zero-plain : (letter : ℕ) → angle (record { count = 0; letter = letter }) ≡ fin false 0 (pos 0)
+-- "plain zero for count 0 under either letter", with any number of decimals
+pub zero-plain : (letter decimals : ℕ) → angle (record { count = 0; letter = letter; decimals = decimals }) ≡ fin false 0 (pos 0)
 unfolding angle isNegated quotient round
-zero-plain letter = refl
+zero-plain letter decimals =
+    let p : 0 < 10 ^ decimals = one-le-pow decimals 10 (omega arith) in
+    round-same binary64 false 0 (60000 * 10 ^ decimals) 0 1 (omega arith) (omega arith) (omega arith)
 
-abbrev north : Position
-north = record { count = 3090000; letter = code "N" }
+abbrev north : FinePosition
+north = record { count = 3090000; letter = code "N"; decimals = 0 }
 
-abbrev west : Position
-west = record { count = 15000; letter = code "W" }
+abbrev west : FinePosition
+west = record { count = 15000; letter = code "W"; decimals = 0 }
 
 -- "the count over 60,000, one rounded division, negated for S and W": 51.5, which is 103 times 2^-1, and -0.25
 pub degrees-of-five : degreesOf north west ≡ says (record { lat = fin false 103 (negsuc 0); lon = fin true 1 (negsuc 1) })
-unfolding degreesOf isPosition isEither angle isNegated quotient round neg
+unfolding degreesOf isFinePosition isEither angle isNegated quotient round neg
 degrees-of-five = refl
+
+-- "The map's degrees use the finer count over 60,000 times that power of ten, still one division.": with four decimals, 51.5 again, and 15,117.1875 thousandths of a minute,
+-- which are 129 times 2^-9
+pub degrees-finer : degreesOf (record { count = 30900000000; letter = code "N"; decimals = 4 }) (record { count = 151171875; letter = code "W"; decimals = 4 })
+    ≡ says (record { lat = fin false 103 (negsuc 0); lon = fin true 129 (negsuc 8) })
+unfolding degreesOf isFinePosition isEither angle isNegated quotient round neg
+degrees-finer = refl
 
 -- ---- listed codes
 
@@ -159,8 +171,8 @@ allowed-for = refl
 -- a fix that is well but for what is given
 abbrev fixWith : ℕ → ℕ → ℤ → Fix
 fixWith count letter metres = record {
-  time = 43200;
-  lat = record { count = count; letter = letter };
+  time = record { count = 43200; decimals = 0 };
+  lat = record { count = count; letter = letter; decimals = 0 };
   lon = west;
   validity = code "A";
   pressure = record { metres = metres };
@@ -179,6 +191,35 @@ writable = refl
 pub unwritable : writes 5400001 (code "N") (pos 0) || writes 0 (code "E") (pos 0) || writes 0 (code "N") (pos 100000) || writes 0 (code "N") (negℤ (pos 10000)) ≡ false
 unfolding everything
 unwritable = refl
+
+-- one digit of TDS and four of LAD
+abbrev fineLayout : Layout
+fineLayout = valueOr emptyLayout (layoutSaid family.B (bytes "I023636TDS3740LAD"))
+
+-- a fix of a time and a latitude, each with its decimals, and the text of its columns
+abbrev fineFix : ℕ → ℕ → ℕ → ℕ → Fix
+fineFix time decimals lat more = record {
+  time = record { count = time; decimals = decimals };
+  lat = record { count = lat; letter = code "N"; decimals = more };
+  lon = west;
+  validity = code "A";
+  pressure = record { metres = pos 100 };
+  gnss = record { metres = pos 120 };
+}
+
+abbrev splits : ℕ → ℕ → ℕ → ℕ → String → Bool
+splits time decimals lat more tail = isFix (fineFix time decimals lat more) (bytes tail) fineLayout
+
+-- "The B writer splits the count again and refuses one whose decimals don't match the layout's width or whose digits aren't the column's.": 12:00:00.5 at 51.5 degrees and .1234 is
+-- written, the last tenth of a leap second, and 90 degrees with zeros
+pub split-written : splits 432005 1 30900001234 4 "51234" && splits 864009 1 54000000000 4 "90000" ≡ true
+unfolding everything
+split-written = refl
+
+-- a decimal too few, one too many, another digit, and digits past 90 degrees are not
+pub split-refused : splits 43200 0 30900001234 4 "01234" || splits 432005 1 309000012340 5 "51234" || splits 432006 1 30900001234 4 "51234" || splits 432005 1 54000000001 4 "50001" ≡ false
+unfolding everything
+split-refused = refl
 
 -- "Writers test 17 before 18"
 pub bad-first : (text : List ℕ) (place : ℕ) (out : List ℕ) → written false text place out ≡ refuses 17 0 0

@@ -14,7 +14,8 @@ use Rattle.rules.specs.Choice.{given, on, bytes}
 use Rattle.rules.specs.Chars.{codesAt}
 use Rattle.rules.specs.Fields.{timeAt, latitudeAt, longitudeAt, altitudeAt, isEither}
 use Rattle.rules.specs.Layouts.{columns}
-use Rattle.rules.specs.Lines.{badPair, shaped, shapedBy, fixFields, bLine, extraLine, eLine, fLine, columnedLine}
+use Rattle.rules.specs.Listed.{offLimit}
+use Rattle.rules.specs.Lines.{badPair, shaped, shapedBy, fixFields, atLimit, bLine, extraLine, eLine, fLine, columnedLine}
 use Rattle.rules.specs.Order.{Passing, onward, nextDay, back, passing, moved, judge, start}
 use Rattle.rules.specs.Refusals.{says}
 use Rattle.rules.specs.Roles.{isTimed}
@@ -51,13 +52,13 @@ columned-time family.B layout t l e =
     let r = then-inv (bLine layout l) t _ e in
     let s = then-inv (shapedBy 36 layout l) (r .0) _ (r .1) in
     let x = then-inv (fixFields l) (r .0) _ (s .2) in
-    let c = then-inv (columns l layout) (r .0) _ (x .2) in
+    let c = then-inv (columns (atLimit (x .0)) l layout) (r .0) _ (x .2) in
     let i : x .0 .time ≡ t = cc in
     fix-time l (x .0) (x .1) ∙ ap some i
 columned-time (family.Extra x) layout t l e =
     let s = then-inv (shapedBy 8 layout l) t _ e in
     let x = given-inv (timeAt l 1) _ (says t) _ refuses-says (s .2) in
-    let c = then-inv (columns l layout) t _ (x .2) in
+    let c = then-inv (columns offLimit l layout) t _ (x .2) in
     let i : x .0 ≡ t = cc in
     x .1 ∙ ap some i
 

@@ -18,7 +18,8 @@ use Rattle.rules.specs.declared.Entry.{Entry}
 use Rattle.rules.specs.declared.Layout.{Layout}
 use Rattle.rules.proofs.Inverse.{and-inv}
 use Rattle.trips.proofs.Laws.{past, byte-here}
-use Rattle.sound.proofs.Entries.{Fits, Tiled, code-range}
+use Rattle.trips.proofs.Placing.{Fits}
+use Rattle.sound.proofs.Entries.{Tiled, code-range}
 use Rattle.sound.proofs.Placed.{laid, with-laid, Sound, allowed-there}
 use Rattle.lent_entries.specs.Lent.{entriesSize, triples, entryNumbers, entryIn, noEntries, takenFrom, takenSaid}
 use Rattle.lent_entries.proofs.Laws.{numbers-long}

@@ -1,7 +1,10 @@
 // The values of a line, with the text behind its fields.
 ghost use mathlib.Core.Path.{_≡_};
 ghost use Rattle.rules.specs.Limits.{goodHeadFields, goodFixFields};
-ghost use Rattle.limits.specs.Tests.{PointTest, HeadTest, FieldsSpelt, FixTest, ExtraTest};
+ghost use Rattle.limits.specs.Tests.{PointTest, HeadTest, FixTest, ExtraTest};
+use crate::splits::are_split;
+use crate::splits::fields_of;
+use crate::splits::is_fine;
 use crate::tails::good_tail;
 use range::is_altitude;
 use range::is_clean;
@@ -9,6 +12,7 @@ use range::is_date;
 use range::is_latitude;
 use range::is_longitude;
 use range::is_planned;
+use rules::AtLimit;
 use rules::Extra;
 use rules::Family;
 use rules::Fix;
@@ -88,32 +92,21 @@ fn good_fix_fields(f: FixFields) -> bool
     is_altitude(f.gnss)
 }
 
-// What a writer has to spell of a fix.
-pub fn fields_of(f: Fix) -> FixFields
-    ensures { λ r. ⌜ FieldsSpelt f r ⌝ }
-{
-    let lat = f.lat;
-    let lon = f.lon;
-    let pressure = f.pressure;
-    let gnss = f.gnss;
-    FixFields {
-        time: f.time,
-        lat,
-        lon,
-        validity: f.validity,
-        pressure,
-        gnss,
-    }
-}
-
-// Whether some B line with this layout reads as the fix, with this tail.
+// Whether some B line with this layout reads as the fix, with this tail. The decimals are looked at first, so that no power of ten is too great.
 pub fn good_fix(f: Fix, tail: &[u8], l: Layout) -> bool
     ensures { λ r. ⌜ FixTest f (now (tail .entry)) l r ⌝ }
 {
-    if !good_fix_fields(fields_of(f)) {
+    if !is_fine(f) {
         return false;
     }
-    good_tail(Family::B, 36, tail, l)
+    let fields = fields_of(f);
+    if !good_fix_fields(fields) {
+        return false;
+    }
+    if !good_tail(Family::B, 36, tail, l, fix::at_limit(fields)) {
+        return false;
+    }
+    are_split(f, tail, finer::finer_of(l))
 }
 
 // Whether some K line with this layout reads as the time, with this tail; and whether some N line does, which is the same.
@@ -123,5 +116,9 @@ pub fn good_extra(t: u32, tail: &[u8], l: Layout) -> bool
     if 86400 < t {
         return false;
     }
-    good_tail(Family::Extra(Extra::K), 8, tail, l)
+    let no_coordinates = AtLimit {
+        lat: false,
+        lon: false,
+    };
+    good_tail(Family::Extra(Extra::K), 8, tail, l, no_coordinates)
 }

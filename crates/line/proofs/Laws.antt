@@ -6,11 +6,14 @@ use native.Mathlib.Omega.{arith}
 use lib.ListN.{length, getD, drop, length-drop}
 use lib.Seq.{drop-cons}
 use Rattle.rules.specs.Chars.{isCode}
+use Rattle.rules.specs.Layouts.{columns}
 use Rattle.rules.specs.Lines.{badPair, shaped}
 use Rattle.rules.specs.Promises.{foundTold}
 use Rattle.rules.specs.Refusals.{outcomeTold}
+use Rattle.rules.specs.declared.AtLimit.{AtLimit}
 use Rattle.rules.specs.declared.Found.{Found}
 use Rattle.rules.specs.declared.Found.the-variants as found
+use Rattle.rules.specs.declared.Layout.{Layout}
 use Rattle.rules.specs.declared.Outcome.{Outcome}
 use Rattle.rules.specs.declared.Outcome.the-variants as outcome
 use Rattle.shape.proofs.Laws.{accepted-most}
@@ -108,6 +111,10 @@ pub ruleset heads = (refuses-form, number-value, number-none, time-secs, time-no
 
 pub ruleset points = (refuses-form, outcome-accepted, outcome-refused, position-is, position-none)
 
-pub ruleset columned = (outcome-accepted, outcome-refused)
+-- the columns were checked by the coordinates that stand at their limits
+pub columns-at : (at this : AtLimit) (l : List ℕ) (layout : Layout) (r : Outcome) → this ≡ at → outcomeTold r ≡ columns this l layout → outcomeTold r ≡ columns at l layout
+columns-at at this l layout r e h = rw (← e) h
+
+pub ruleset columned = (outcome-accepted, outcome-refused, columns-at)
 
 pub ruleset whole = (outcome-accepted, outcome-refused, fix-fields-is, fix-fields-refused)

@@ -4,7 +4,7 @@ ghost use Prim.Native.Nat.{_-_, _%_};
 ghost use lib.Dec.{eqb};
 ghost use lib.ListN.{length, drop};
 ghost use Rattle.rules.specs.Families.{firstStart};
-ghost use Rattle.rules.specs.Lines.{isDateMark, plannedAt, headFields, badPair, shapedBy};
+ghost use Rattle.rules.specs.Lines.{atLimit, isDateMark, plannedAt, headFields, badPair, shapedBy};
 ghost use Rattle.rules.specs.Layouts.{columns};
 ghost use Rattle.rules.specs.Refusals.{outcomeTold, andThen, says};
 ghost use Rattle.rules.specs.Reads.{headTold, fixFieldsTold};
@@ -12,6 +12,7 @@ ghost use Rattle.rules.specs.Promises.{RecorderChecked, DateLineChecked, Header
 ghost use Rattle.line.specs.Parts.{plannedTold};
 use fix::fix_fields;
 use fix::form;
+use rules::AtLimit;
 use rules::Class;
 use rules::DateRead;
 use rules::Day;
@@ -267,9 +268,9 @@ fn shaped_by(family: Family, layout: Layout, line: &[u8]) -> Outcome
 
 // The fields of a fix whose line's columns keep their rules.
 fn with_columns(f: FixFields, line: &[u8], layout: Layout) -> FixFieldsRead
-    ensures { λ r. ⌜ fixFieldsTold r ≡ andThen (columns (now (line .entry)) layout) (λ _. says f) ⌝ }
+    ensures { λ r. ⌜ fixFieldsTold r ≡ andThen (columns (atLimit f) (now (line .entry)) layout) (λ _. says f) ⌝ }
 {
-    if let Outcome::Refused(r) = column::columns(line, layout) {
+    if let Outcome::Refused(r) = column::columns(line, layout, fix::at_limit(f)) {
         return FixFieldsRead::Refused(r);
     }
     FixFieldsRead::Is(f)
@@ -299,7 +300,11 @@ pub fn extra_line(line: &[u8], layout: Layout) -> TimeRead
     let Time::Secs(t) = field::time_at(line, 1) else {
         return TimeRead::Refused(form(Class::Time, 2));
     };
-    if let Outcome::Refused(r) = column::columns(line, layout) {
+    let none = AtLimit {
+        lat: false,
+        lon: false,
+    };
+    if let Outcome::Refused(r) = column::columns(line, layout, none) {
         return TimeRead::Refused(r);
     }
     TimeRead::Secs(t)

@@ -1,7 +1,11 @@
 // The listed codes: their table, and what it says of a column's width and text.
+ghost use mathlib.Core.Bool.{_&&_};
 ghost use mathlib.Core.Path.{_≡_};
+ghost use lib.Dec.{eqb};
+ghost use Rattle.rules.specs.Listed.{isPast};
 ghost use Rattle.rules.specs.Promises.{ListedAt, ColumnTest};
-ghost use Rattle.listed.specs.Parts.{inRow, CodePacked, ListedFound, WidthTest};
+ghost use Rattle.listed.specs.Parts.{inRow, isTopped, CodePacked, ListedFound, WidthTest, LimitTest};
+use rules::AtLimit;
 use rules::Found;
 use rules::Listed;
 
@@ -100,4 +104,44 @@ pub fn keeps_rule(code: u32, text: &[u8]) -> bool
     };
     let row = listed_at(n);
     plain::keeps_sign(row.sign, text)
+}
+
+// Whether a coordinate stands at its limit, and a code is the one whose column makes it finer.
+fn tops(at: bool, code: u32, finer: u32) -> bool
+    ensures { λ r. ⌜ r ≡ (at && eqb code finer) ⌝ }
+{
+    if !at {
+        return false;
+    }
+    code == finer
+}
+
+// Whether a column of this code makes a coordinate finer that stands at its limit.
+fn is_topped(at: AtLimit, code: u32) -> bool
+    ensures { λ r. ⌜ r ≡ isTopped at code ⌝ }
+{
+    if tops(at.lat, code, pack(b'L', b'A', b'D')) {
+        return true;
+    }
+    tops(at.lon, code, pack(b'L', b'O', b'D'))
+}
+
+// Whether the digits of a column take a coordinate past its limit.
+fn is_past(at: AtLimit, code: u32, text: &[u8]) -> bool
+    ensures { λ r. ⌜ r ≡ isPast at code (now (text .entry)) ⌝ }
+{
+    if !is_topped(at, code) {
+        return false;
+    }
+    !plain::is_zeros(text)
+}
+
+// Whether the text of a column keeps the rule of its code in a line that has these coordinates at their limits: there LAD or LOD are zeros.
+pub fn keeps_limit(at: AtLimit, code: u32, text: &[u8]) -> bool
+    ensures { λ r. ⌜ LimitTest at code (now (text .entry)) r ⌝ }
+{
+    if is_past(at, code, text) {
+        return false;
+    }
+    keeps_rule(code, text)
 }

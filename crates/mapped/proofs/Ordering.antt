@@ -4,19 +4,20 @@ use Prim.Native.Char.{code}
 use mathlib.Core.Bool.{Bool, true, false, cond}
 use mathlib.Core.List.{List, _++_}
 use mathlib.Core.Logic.{_⊎_, inl, inr}
+use mathlib.Core.Option.{some}
 use mathlib.Core.Path.{_≡_, refl, sym, _∙_}
 use native.Mathlib.Omega.{arith}
 use borrow.Author.Tests.{eqb-true, eqb-false, leb-true}
 use lib.Dec.{eqb, leb, ltb}
 use lib.ListN.{getD}
 use Rattle.rules.specs.Choice.{on, Each}
-use Rattle.rules.specs.Fixes.{fieldsOf}
+use Rattle.rules.specs.Fixes.{plainTime, fieldsOf}
 use Rattle.rules.specs.Order.{onward, nextDay, back, passing, isBack, judge}
 use Rattle.rules.specs.Reads.{fixSaid}
 use Rattle.rules.specs.Refusals.{says}
 use Rattle.rules.specs.Roles.{isTimed}
 use Rattle.rules.specs.Split.{Lines, end, broken, line}
-use Rattle.rules.specs.Walk.{Walk, dayAfter, walked}
+use Rattle.rules.specs.Walk.{Walk, timeOn, dayAfter, walked}
 use Rattle.rules.specs.declared.Fix.{Fix}
 use Rattle.rules.specs.declared.Flight.{Flight}
 use Rattle.rules.specs.declared.Layout.{Layout}
@@ -26,7 +27,7 @@ use Rattle.rules.specs.declared.State.{State}
 use Rattle.rules.proofs.Inverse.{false-true}
 use Rattle.laws.proofs.Passing.{roleIn, Onward}
 use Rattle.laws.proofs.Walking.{InStep, both-go}
-use Rattle.sound.proofs.Each.{each-map}
+use Rattle.trips.proofs.Each.{each-map}
 use Rattle.next_fix.specs.Track.{recordOf, recordsOf, trackFrom}
 use Rattle.next_fix.specs.declared.Record.{Record}
 use Rattle.track.proofs.Stepping.{other-said, fixed}
@@ -69,11 +70,16 @@ module _ (seal : Seal) (layouts : Layouts) (f : Flight) where
       by false n = rw n (inr (refl, omega arith))
 
   abbrev Behind : Walk → Record → Type 0
-  Behind w r = Later (w .day) (w .clock) (r .day) (fieldsOf (r .fix) .time)
+  Behind w r = Later (w .day) (w .clock) (r .day) (plainTime (r .fix))
+
+  -- the time of a line that reads as a fix is the fix's plain time
+  plain-time : (t : List ℕ) (g : Fix) → fixSaid t layout ≡ says g → timeOn t ≡ some (plainTime g)
+  unfolding fieldsOf
+  plain-time t g e = fixed layout t g e .time
 
   -- the record of a line, where the walk has passed it
   own : (t : List ℕ) (w : Walk) (g : Fix) → fixSaid t layout ≡ says g → Behind (walked t w) (recordOf (walked t w) g)
-  own t w g e = let x = fixed layout t g e .time in rw x (inr (refl, omega arith))
+  own t w g e = let x = plain-time t g e in rw x (inr (refl, omega arith))
 
   abbrev InOrder : Walk → List Record → Type 0
   InOrder w rs = Each (Behind w) rs × Ordered rs
@@ -94,7 +100,7 @@ module _ (seal : Seal) (layouts : Layouts) (f : Flight) where
       by false e x m later = rw (other-said layout t (eqb-false (getD t 0 0) (code "B") e) (walked t w)) (before (trackFrom layout (walked t w) ls) m (later .0), later .1)
       by true e x m later =
           let g = x .fix (eqb-true (getD t 0 0) (code "B") e) in
-          let c : fieldsOf (g .0) .time ≡ walked t w .clock = let y = fixed layout t (g .0) (g .2) .time in rw y in
+          let c : plainTime (g .0) ≡ walked t w .clock = let y = plain-time t (g .0) (g .2) in rw y in
           let o = own t w (g .0) (g .2) in
           rw (g .2) (
             (later-on _ _ _ _ _ _ m o, before (trackFrom layout (walked t w) ls) m (later .0)),

@@ -49,7 +49,7 @@ module _ (file : List ℕ) (list : List Record) (r : Tracked) (after : List Reco
     pub rest-stays : (length after ≡ length list) × (drop n after ≡ drop n list)
     rest-stays = whole.rest file list r after w n e
 
-    -- days never fall, and within a day times never fall
+    -- days never fall, and within a day plain times never fall
     pub track-in-order : Ordered (take n after)
     track-in-order = whole.ordered file list r after w n e
 

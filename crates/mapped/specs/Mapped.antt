@@ -10,7 +10,7 @@ use lib.Dec.{ltb}
 use lib.ListN.{length}
 use Rattle.rules.specs.Choice.{part, byte, Each}
 use Rattle.rules.specs.Fields.{timeText}
-use Rattle.rules.specs.Fixes.{fieldsOf}
+use Rattle.rules.specs.Fixes.{plainTime}
 use Rattle.rules.specs.Reads.{fixSaid}
 use Rattle.rules.specs.Refusals.{says}
 use Rattle.rules.specs.Split.{Bounds, stepAt}
@@ -73,9 +73,9 @@ pub record IsRecord (layout : Layout) (lines : List (List ℕ)) (n : ℕ) (r : R
 
 -- ---- days and times along a track
 
--- on a later day, or on the same day and no earlier
+-- on a later day, or on the same day and no earlier: "Time order, day number and the listing still use the plain counts." (document 02)
 abbrev pub NotBefore : Record → Record → Type 0
-NotBefore a b = (a .day < b .day) ⊎ ((a .day ≡ b .day) × (fieldsOf (a .fix) .time ≤ fieldsOf (b .fix) .time))
+NotBefore a b = (a .day < b .day) ⊎ ((a .day ≡ b .day) × (plainTime (a .fix) ≤ plainTime (b .fix)))
 
 -- no record is before one that stands earlier
 abbrev pub Ordered : List Record → Type 0

@@ -14,7 +14,6 @@ use lib.ListN.{length, getD, drop}
 use Rattle.rules.proofs.Role.{the-type}
 use Rattle.rules.proofs.Inverse.{and-inv}
 use Rattle.rules.specs.Fields.{timeAt, timeTold}
-use Rattle.rules.specs.Fixes.{fixOf}
 use Rattle.rules.specs.Choice.{on, part}
 use Rattle.rules.specs.Lines.{kindOf, fixFields}
 use Rattle.rules.specs.Split.{linesOf}
@@ -32,6 +31,7 @@ use Rattle.rules.specs.declared.Role.{Role}
 use Rattle.rules.specs.declared.Role.the-variants as role
 use Rattle.rules.specs.declared.Time.{Time}
 use Rattle.rules.specs.declared.Time.the-variants as times
+use Rattle.finer.specs.Within.{fixWithin}
 use Rattle.next_fix.specs.Track.{recordOf}
 use Rattle.next_fix.specs.Steps.{walkOf, behind, skipped, noFix, passedBy, readAt, isFew, Few, stepOf}
 use Rattle.next_fix.specs.declared.FixStep.{FixStep}
@@ -101,12 +101,12 @@ module _ (l : List ℕ) (b : ℕ) (k : Kind) (r : Role) (x : Bool) (e : b ≡ ge
 
 -- behind a line
 module _ (time : Time) (p : Progress) (next : ℕ) where
-  pub behind-untimed : time ≡ times.NoTime → record { at = next; lines = p .lines + 1; clock = p .clock; day = p .day; size = p .size } ≡ behind (timeTold time) p next
+  pub behind-untimed : time ≡ times.NoTime → record { at = next; lines = p .lines + 1; clock = p .clock; day = p .day; size = p .size; finer = p .finer } ≡ behind (timeTold time) p next
   unfolding timeTold
   behind-untimed e = rw e
 
   pub behind-timed : (t day : ℕ) → time ≡ times.Secs t → day ≡ dayAfter (passing (p .clock) t) (p .day)
-      → record { at = next; lines = p .lines + 1; clock = t; day = day; size = p .size } ≡ behind (timeTold time) p next
+      → record { at = next; lines = p .lines + 1; clock = t; day = day; size = p .size; finer = p .finer } ≡ behind (timeTold time) p next
   unfolding timeTold
   behind-timed t day e g = rw (e, g)
 
@@ -130,17 +130,17 @@ module _ (file : List ℕ) (p : Progress) (r : Bool) (x : FixStep) (e : r ≡ le
 
     module _ (b : getD file (p .at) 0 ≡ code "B") (f : FixFieldsRead) (g : fixFieldsTold f ≡ fixFields (part (p .at) (p .at + p .size) file)) where
       pub read-refused : (w : Refusal) → f ≡ fixFieldsRead.Refused w → x ≡ noFix p → x ≡ readAt file p
-      unfolding readAt fixFieldsTold
+      unfolding readAt on fixFieldsTold
       read-refused w k h = rw (← e, not-false r n, eq-eqb (getD file (p .at) 0) (code "B") b, ← g, k) h
 
-      pub read-is : (v : FixFields) → f ≡ fixFieldsRead.Is v → x ≡ passedBy p v → x ≡ readAt file p
-      unfolding readAt fixFieldsTold
+      pub read-is : (v : FixFields) → f ≡ fixFieldsRead.Is v → x ≡ passedBy (part (p .at) (p .at + p .size) file) p (p .at + p .size + 2) v → x ≡ readAt file p
+      unfolding readAt on fixFieldsTold
       read-is v k h = rw (← e, not-false r n, eq-eqb (getD file (p .at) 0) (code "B") b, ← g, k) h
 
-pub passed-so : (p n : Progress) (v : FixFields) (f : Fix) (r : Record) (t : Time) → n ≡ behind (timeTold t) p (p .at + p .size + 2) → t ≡ times.Secs (v .time) → f ≡ fixOf v → r ≡ recordOf (walkOf n) f
-    → record { found = r; next = n } ≡ passedBy p v
+pub passed-so : (l : List ℕ) (p n : Progress) (next : ℕ) (v : FixFields) (f : Fix) (r : Record) (t : Time) → n ≡ behind (timeTold t) p next → t ≡ times.Secs (v .time) → f ≡ fixWithin l (p .finer) v → r ≡ recordOf (walkOf n) f
+    → record { found = r; next = n } ≡ passedBy l p next v
 unfolding timeTold
-passed-so p n v f r t e k g h = rw (h, g, e, k)
+passed-so l p n next v f r t e k g h = rw (h, g, e, k)
 
 -- a step
 module _ (file : List ℕ) (p : Progress) (r : Bool) (x : FixStep) (e : r ≡ isFew (length file) p) where

@@ -1,4 +1,5 @@
--- A step from fix to fix over the bytes of a file, by numbers alone: the place, the lines passed, the last time, the day, and the length of a B line.
+-- A step from fix to fix over the bytes of a file, by numbers alone: the place, the lines passed, the last time, the day, the length of a B line, and where its columns of finer digits
+-- stand.
 use Prim.Native.Nat.{ℕ, _+_, _≤_, _<_}
 use Prim.Native.Char.{code}
 use mathlib.Core.Bool.{Bool, _&&_, cond}
@@ -9,13 +10,13 @@ use lib.Dec.{eqb, leb}
 use lib.IntN.{pos}
 use lib.ListN.{length, getD, drop}
 use Rattle.rules.specs.Choice.{need, on, part}
-use Rattle.rules.specs.Fixes.{fixOf}
 use Rattle.rules.specs.Lines.{fixFields}
 use Rattle.rules.specs.Refusals.{Said, says, refuses}
 use Rattle.rules.specs.Split.{Lines, end, broken, line, linesOf}
 use Rattle.rules.specs.Walk.{Walk, timeOn, walkedBy}
 use Rattle.rules.specs.declared.Fix.{Fix}
 use Rattle.rules.specs.declared.FixFields.{FixFields}
+use Rattle.finer.specs.Within.{fixWithin}
 use Rattle.next_fix.specs.Track.{recordOf}
 use Rattle.next_fix.specs.declared.Record.{Record}
 use Rattle.next_fix.specs.declared.Progress.{Progress}
@@ -27,7 +28,7 @@ walkOf p = record { lines = p .lines; clock = p .clock; day = p .day }
 
 -- behind a line with this time, if it has one, the next line standing behind `next` bytes
 abbrev pub behind : Option ℕ → Progress → ℕ → Progress
-behind o p next = record { at = next; lines = walkedBy o (walkOf p) .lines; clock = walkedBy o (walkOf p) .clock; day = walkedBy o (walkOf p) .day; size = p .size }
+behind o p next = record { at = next; lines = walkedBy o (walkOf p) .lines; clock = walkedBy o (walkOf p) .clock; day = walkedBy o (walkOf p) .day; size = p .size; finer = p .finer }
 
 -- past the lines that are no B lines
 unfoldable pub skipped : Lines → Progress → Progress
@@ -41,9 +42,9 @@ zeroRecord = record {
   line = 0;
   day = 0;
   fix = record {
-    time = 0;
-    lat = record { count = 0; letter = 0 };
-    lon = record { count = 0; letter = 0 };
+    time = record { count = 0; decimals = 0 };
+    lat = record { count = 0; letter = 0; decimals = 0 };
+    lon = record { count = 0; letter = 0; decimals = 0 };
     validity = 0;
     pressure = record { metres = pos 0 };
     gnss = record { metres = pos 0 };
@@ -53,21 +54,22 @@ zeroRecord = record {
 abbrev pub noFix : Progress → FixStep
 noFix p = record { found = zeroRecord; next = p }
 
--- a B line with these fields passed
-abbrev pub passedBy : Progress → FixFields → FixStep
-passedBy p f =
-    record { found = recordOf (walkedBy (some (f .time)) (walkOf p)) (fixOf f); next = behind (some (f .time)) p (p .at + p .size + 2) }
+-- a B line with these fields passed, the next line standing behind `next` bytes: "Time order, day number and the listing still use the plain counts." (document 02)
+abbrev pub passedBy : List ℕ → Progress → ℕ → FixFields → FixStep
+passedBy l p next f =
+    record { found = recordOf (walkedBy (some (f .time)) (walkOf p)) (fixWithin l (p .finer) f); next = behind (some (f .time)) p next }
 
-abbrev pub passedAs : Progress → Said FixFields → FixStep
-passedAs p (says f) = passedBy p f
-passedAs p (refuses n l b) = noFix p
+abbrev pub passedAs : List ℕ → Progress → ℕ → Said FixFields → FixStep
+passedAs l p next (says f) = passedBy l p next f
+passedAs l p next (refuses n c b) = noFix p
 
 -- the B line at a place, by its length and its fields
 unfoldable pub readAt : List ℕ → Progress → FixStep
 readAt file p =
     need (leb (p .at + p .size + 2) (length file)) (noFix p) λ _.
     need (eqb (getD file (p .at) 0) (code "B")) (noFix p) λ _.
-    passedAs p (fixFields (part (p .at) (p .at + p .size) file))
+    on (part (p .at) (p .at + p .size) file) λ l.
+    passedAs l p (p .at + p .size + 2) (fixFields l)
 
 -- numbers that a file of allowed size can have
 unfoldable pub isFew : ℕ → Progress → Bool

@@ -4,19 +4,20 @@ ghost use mathlib.Core.Path.{_≡_};
 ghost use lib.Dec.{leb};
 ghost use lib.ListN.{length, drop};
 ghost use Rattle.rules.specs.Fields.{timeTold};
-ghost use Rattle.rules.specs.Fixes.{fixOf};
 ghost use Rattle.rules.specs.Order.{passing};
 ghost use Rattle.rules.specs.Roles.{isTimed};
 ghost use Rattle.rules.specs.Split.{linesOf};
 ghost use Rattle.rules.specs.Walk.{timeOn, dayAfter};
 ghost use Rattle.next_fix.specs.Track.{recordOf};
-ghost use Rattle.next_fix.specs.Steps.{walkOf, behind, skipped, isFew, Few, Spare, noFix, readAt, FixStepped};
+ghost use Rattle.next_fix.specs.Steps.{walkOf, behind, skipped, isFew, Few, Spare, noFix, passedBy, readAt, FixStepped};
 use cut::Ended;
+use rules::FinePosition;
+use rules::FineTime;
+use rules::Finer;
 use rules::Fix;
 use rules::FixFields;
 use rules::FixFieldsRead;
 use rules::Height;
-use rules::Position;
 use rules::Role;
 use rules::Time;
 
@@ -28,13 +29,15 @@ pub struct Record {
     pub fix: Fix,
 }
 
-// How far the reading of a file's fixes has come: the place, how many lines are passed, the last time, the day; and how many bytes a B line of the file has.
+// How far the reading of a file's fixes has come: the place, how many lines are passed, the last time, the day; and how many bytes a B line of the file has, and where its columns of
+// finer digits stand.
 pub struct Progress {
     pub at: usize,
     pub lines: u32,
     pub clock: u32,
     pub day: u32,
     pub size: usize,
+    pub finer: Finer,
 }
 
 // The fix that was found, and how far the reading has come with it.
@@ -86,6 +89,7 @@ fn behind(time: Time, p: Progress, next: usize) -> Progress
     ensures { λ r. ⌜ r ≡ behind (timeTold time) p next ⌝ }
 {
     let size = p.size;
+    let finer = p.finer;
     let lines = p.lines + 1;
     match time {
         Time::NoTime => Progress {
@@ -94,6 +98,7 @@ fn behind(time: Time, p: Progress, next: usize) -> Progress
             clock: p.clock,
             day: p.day,
             size,
+            finer,
         },
         Time::Secs(t) => Progress {
             at: next,
@@ -101,6 +106,7 @@ fn behind(time: Time, p: Progress, next: usize) -> Progress
             clock: t,
             day: day_after(p.clock, t, p.day),
             size,
+            finer,
         },
     }
 }
@@ -129,18 +135,24 @@ fn skip(file: &[u8], from: Progress) -> Progress
 fn no_fix(p: Progress) -> FixStep
     ensures { λ r. ⌜ r ≡ noFix p ⌝ }
 {
-    let lat = Position {
+    let time = FineTime {
         count: 0,
-        letter: 0,
+        decimals: 0,
     };
-    let lon = Position {
+    let lat = FinePosition {
         count: 0,
         letter: 0,
+        decimals: 0,
+    };
+    let lon = FinePosition {
+        count: 0,
+        letter: 0,
+        decimals: 0,
     };
     let pressure = Height { metres: 0 };
     let gnss = Height { metres: 0 };
     let fix = Fix {
-        time: 0,
+        time,
         lat,
         lon,
         validity: 0,
@@ -157,24 +169,6 @@ fn no_fix(p: Progress) -> FixStep
     }
 }
 
-// What the reading of a B line gives of its fields.
-fn fix_of(f: FixFields) -> Fix
-    ensures { λ r. ⌜ r ≡ fixOf f ⌝ }
-{
-    let lat = f.lat;
-    let lon = f.lon;
-    let pressure = f.pressure;
-    let gnss = f.gnss;
-    Fix {
-        time: f.time,
-        lat,
-        lon,
-        validity: f.validity,
-        pressure,
-        gnss,
-    }
-}
-
 // The record of the fix that was passed last.
 fn record_of(p: Progress, fix: Fix) -> Record
     ensures { λ r. ⌜ r ≡ recordOf (walkOf p) fix ⌝ }
@@ -183,6 +177,19 @@ fn record_of(p: Progress, fix: Fix) -> Record
         line: p.lines,
         day: p.day,
         fix,
+    }
+}
+
+// A B line with these fields passed: its record, with its finer digits, and the progress behind it. Its plain time moves the clock and the day.
+fn passed(line: &[u8], p: Progress, f: FixFields, after: usize) -> FixStep
+    requires { ⌜ Spare p ⌝ }
+    ensures { λ r. ⌜ r ≡ passedBy (now (line .entry)) p after f ⌝ }
+{
+    let fix = finer::fix_of(line, p.finer, f);
+    let next = behind(Time::Secs(f.time), p, after);
+    FixStep {
+        found: record_of(next, fix),
+        next,
     }
 }
 
@@ -217,11 +224,7 @@ fn read_at(file: &[u8], p: Progress) -> FixStep
     let FixFieldsRead::Is(f) = fix::fix_fields(&file[at..end]) else {
         return no_fix(p);
     };
-    let next = behind(Time::Secs(f.time), p, end + 2);
-    FixStep {
-        found: record_of(next, fix_of(f)),
-        next,
-    }
+    passed(&file[at..end], p, f, end + 2)
 }
 
 // Whether a file has at most 16,777,216 bytes, and the lines passed and the day are no more than that.

@@ -11,6 +11,8 @@ use Rattle.rules.specs.Writes.{fixText, isFix, extraText, isExtra, layoutText, 
 use Rattle.rules.specs.Promises.{DigitsGiven, WholeGiven, DigitsPut, DigitTest, CodeTest, ValidTest, InvalidFound, CodesTest, ByteAt, EitherTest, TimeAt, DateAt, LatitudeAt, LongitudeAt, AltitudeAt, TimePut, DatePut, LatitudePut, LongitudePut, AltitudePut, DegreesGiven, ListedAt, AllowedTest, LengthGiven, PresenceGiven, ColumnTest, KindGiven, ColumnsChecked, ShapeChecked, RecorderChecked, DateLineChecked, HeaderChecked, LayoutChecked, HeadChecked, PointChecked, DifferentialChecked, EventChecked, SatellitesChecked, FixChecked, ExtraChecked, ColumnedChecked, FixGiven, ExtraGiven, EventGiven, SatellitesGiven, DateGiven, LayoutGiven, HeadGiven, HeadRest, PointGiven, PointRest, LookGiven, LookTextGiven, LookNumberGiven, FileChecked, FileJudged, LineGiven, LineTextGiven, Written, FixWritten, ExtraWritten, LayoutWritten, HeadWritten, PointWritten}
 use Rattle.rules.specs.declared.Date.{Date}
 use Rattle.rules.specs.declared.Position.{Position}
+use Rattle.rules.specs.declared.FinePosition.{FinePosition}
+use Rattle.rules.specs.declared.AtLimit.{AtLimit}
 use Rattle.rules.specs.declared.Height.{Height}
 use Rattle.rules.specs.declared.Layout.{Layout}
 use Rattle.rules.specs.declared.Extra.{Extra}
@@ -121,7 +123,7 @@ only-longitude-put p at out = same
 pub only-altitude-put : (h : Height) (at : ℕ) (out : List ℕ) → Only (AltitudePut h at out)
 only-altitude-put h at out = same
 
-pub only-degrees-given : (lat lon : Position) → Only (DegreesGiven lat lon)
+pub only-degrees-given : (lat lon : FinePosition) → Only (DegreesGiven lat lon)
 only-degrees-given lat lon = alike degrees-one
 
 -- ---- layouts
@@ -149,8 +151,8 @@ only-kind-given b = same
 pub only-shape-checked : (least most : ℕ) (inH : Bool) (l : List ℕ) → Only (ShapeChecked least most inH l)
 only-shape-checked least most inH l = alike outcome-one
 
-pub only-columns-checked : (l : List ℕ) (layout : Layout) → Only (ColumnsChecked l layout)
-only-columns-checked l layout = alike outcome-one
+pub only-columns-checked : (at : AtLimit) (l : List ℕ) (layout : Layout) → Only (ColumnsChecked at l layout)
+only-columns-checked at l layout = alike outcome-one
 
 pub only-recorder-checked : (l : List ℕ) → Only (RecorderChecked l)
 only-recorder-checked l = alike outcome-one

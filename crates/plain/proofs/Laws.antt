@@ -13,10 +13,10 @@ use lib.Seq.{drop-cons}
 use Rattle.rules.proofs.Inverse.{and-inv}
 use Rattle.rules.specs.Choice.{leads, firstOf}
 use Rattle.rules.specs.Chars.{isValid, firstInvalid, isDigit}
-use Rattle.rules.specs.Listed.{isDigits}
+use Rattle.rules.specs.Listed.{isDigits, isZeros}
 use Rattle.chars.proofs.Laws.{joined, told}
 use Rattle.laws.proofs.Splitting.{Text}
-use Rattle.plain.specs.Plain.{isPlain, isMild, every, everyFrom}
+use Rattle.plain.specs.Plain.{isPlain, isMild, isZero, every, everyFrom}
 
 -- ---- the loops: what was found so far and what is left decide as the whole does
 
@@ -55,6 +55,10 @@ from-first test from t = rw length-drop
 pub digits-first : (from : ℕ) (t : List ℕ) → (true && everyFrom isDigit from t) ≡ isDigits (drop from t)
 unfolding isDigits
 digits-first = from-first isDigit
+
+pub zeros-first : (t : List ℕ) → (true && everyFrom isZero 0 t) ≡ isZeros t
+unfolding isZeros
+zeros-first = all-first isZero
 
 pub told-eq : (m n r : ℕ) → r ≡ m → r ≡ n → true ≡ eqb m n
 told-eq m n r e h = sym (eq-eqb m n (sym e ∙ h))

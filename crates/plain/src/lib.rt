@@ -2,7 +2,7 @@
 ghost use mathlib.Core.Bool.{_&&_};
 ghost use mathlib.Core.Path.{_≡_};
 ghost use Rattle.rules.specs.Chars.{isDigit};
-ghost use Rattle.plain.specs.Plain.{isPlain, isMild, PlainTest, MildTest, DigitsTest, SignTest};
+ghost use Rattle.plain.specs.Plain.{isPlain, isMild, isZero, PlainTest, MildTest, DigitsTest, SignTest, ZerosTest};
 
 // Whether a byte is from the minus to the opening bracket.
 fn is_plain_byte(b: u8) -> bool
@@ -120,4 +120,27 @@ pub fn keeps_sign(sign: bool, text: &[u8]) -> bool
         return false;
     }
     is_digits_from(text, 1)
+}
+
+// Whether all bytes so far were zeros, and this one is.
+fn still_zeros(ok: bool, b: u8) -> bool
+    ensures { λ r. ⌜ r ≡ (isZero b && ok) ⌝ }
+{
+    if b != b'0' {
+        return false;
+    }
+    ok
+}
+
+// Whether every byte of a text is a zero.
+pub fn is_zeros(text: &[u8]) -> bool
+    ensures { λ r. ⌜ ZerosTest (now (text .entry)) r ⌝ }
+{
+    let mut ok = true;
+    let mut i = 0;
+    while i < text.len() {
+        ok = still_zeros(ok, text[i]);
+        i += 1;
+    }
+    ok
 }

@@ -12,13 +12,13 @@ use Rattle.rules.specs.Refusals.{number, Said, says, refuses, andThen, o
 use Rattle.rules.specs.Chars.{isValid, firstInvalid, characters, isDigit, isCode, codesAt}
 use Rattle.rules.specs.Numbers.{spell, numberAt, wholeOf, digitsOf}
 use Rattle.rules.specs.Fields.{isSecond, timeAt, timeText, isLeap, daysOf, yearOf, dateAt, dateText, isEither, positionAt, positionText, altitudeAt, altitudeText}
-use Rattle.rules.specs.Listed.{codeAt, isCodeWord, listed, listedNumber, widthFits, isDigits, keepsSign, keepsRule}
+use Rattle.rules.specs.Listed.{codeAt, isCodeWord, listed, listedNumber, widthFits, isDigits, keepsSign, keepsRule, isZeros, isPast, keepsLimit}
 use Rattle.rules.specs.Layouts.{look, carries, placed, entryAt, entriesFrom, layoutFields, isSpelt, allPlaced, isUnused, allowed, lineLength, badColumn, columns, wordFrom, presenceOf, presenceSaid, lengthSaid}
-use Rattle.rules.specs.Lines.{kindOf, isSized, shaped, aLine, isDateMark, dateLine, hLine, layoutLine, plannedAt, headFields, headLine, pointLine, dLine, eLine, badPair, fLine, fixFields, shapedBy, bLine, extraLine, columnedLine}
+use Rattle.rules.specs.Lines.{kindOf, isSized, shaped, aLine, isDateMark, dateLine, hLine, layoutLine, plannedAt, headFields, headLine, pointLine, dLine, eLine, badPair, fLine, fixFields, atLimit, shapedBy, bLine, extraLine, columnedLine}
 use Rattle.rules.specs.Split.{text, linesOf, offsets, beginsCRLF, firstCRLF, isStart, boundsOf, lineText, stepAt}
 use Rattle.rules.specs.Order.{fitsDeclaration, orderOf, passing, timed, declarationLine, headerLine, ruled, judge}
 use Rattle.rules.specs.Files.{finish, run, verdict, goodLines, tableAfter}
-use Rattle.rules.specs.Fixes.{fixOf, fieldsOf}
+use Rattle.rules.specs.Fixes.{reachOf, finerOf, decimalsOf, digitsAt, refined, finePosition, fixOf, plain, plainPosition, fieldsOf}
 use Rattle.rules.specs.Reads.{fixSaid, extraSaid, reading, eventSaid, satellitesSaid, dateSaid, layoutSaid, headSaid, pointSaid, headRest, pointRest}
 use Rattle.rules.specs.Looks.{twice, isInside, areInside, fitsLine, lookSaid, lookText, lookNumber}
 use Rattle.rules.specs.Writes.{fieldsText, fixText, extraText, entryText, entryTexts, layoutText, plannedText, headText, pointText, sameFix, sameInteger, sameHead, samePoint, isFix, isExtra, isHead, isPoint, written, outAfter}
@@ -26,7 +26,7 @@ use Rattle.rules.specs.Listing.{decimalIn, decimal, refusedText, okText,
 
 -- to unfold this is to unfold all that is computed here
 unfoldable pub everything : Unit {0}
-unfolding on firstOf leads bytes number outcomeTold isValid firstInvalid characters isDigit isCode codesAt spell numberAt wholeOf digitsOf isSecond timeAt timeText isLeap daysOf yearOf dateAt dateText isEither positionAt positionText altitudeAt altitudeText codeAt isCodeWord listed listedNumber widthFits isDigits keepsSign keepsRule look carries placed entryAt entriesFrom layoutFields isSpelt allPlaced isUnused allowed lineLength badColumn columns wordFrom presenceOf presenceSaid lengthSaid kindOf isSized shaped aLine isDateMark dateLine hLine layoutLine plannedAt headFields headLine pointLine dLine eLine badPair fLine fixFields shapedBy bLine extraLine columnedLine familyOf text linesOf offsets beginsCRLF firstCRLF isStart boundsOf lineText stepAt stageAfter fitsDeclaration orderOf passing timed declarationLine headerLine ruled judge finish run verdict goodLines tableAfter fixOf fieldsOf fixSaid extraSaid reading eventSaid satellitesSaid dateSaid layoutSaid headSaid pointSaid headRest pointRest twice isInside areInside fitsLine lookSaid lookText lookNumber fieldsText fixText extraText entryText entryTexts layoutText plannedText headText pointText sameFix sameHead samePoint isFix isExtra isHead isPoint written outAfter decimalIn decimal refusedText okText fixShown columnShown columnsShown lineShown fixesShown listedAs listing
+unfolding on firstOf leads bytes number outcomeTold isValid firstInvalid characters isDigit isCode codesAt spell numberAt wholeOf digitsOf isSecond timeAt timeText isLeap daysOf yearOf dateAt dateText isEither positionAt positionText altitudeAt altitudeText codeAt isCodeWord listed listedNumber widthFits isDigits keepsSign keepsRule isZeros isPast keepsLimit look carries placed entryAt entriesFrom layoutFields isSpelt allPlaced isUnused allowed lineLength badColumn columns wordFrom presenceOf presenceSaid lengthSaid kindOf isSized shaped aLine isDateMark dateLine hLine layoutLine plannedAt headFields headLine pointLine dLine eLine badPair fLine fixFields atLimit shapedBy bLine extraLine columnedLine familyOf text linesOf offsets beginsCRLF firstCRLF isStart boundsOf lineText stepAt stageAfter fitsDeclaration orderOf passing timed declarationLine headerLine ruled judge finish run verdict goodLines tableAfter reachOf finerOf decimalsOf digitsAt refined finePosition fixOf plain plainPosition fieldsOf fixSaid extraSaid reading eventSaid satellitesSaid dateSaid layoutSaid headSaid pointSaid headRest pointRest twice isInside areInside fitsLine lookSaid lookText lookNumber fieldsText fixText extraText entryText entryTexts layoutText plannedText headText pointText sameFix sameHead samePoint isFix isExtra isHead isPoint written outAfter decimalIn decimal refusedText okText fixShown columnShown columnsShown lineShown fixesShown listedAs listing
 everything = tt
 
 -- each line with its CR LF

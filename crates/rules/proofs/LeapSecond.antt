@@ -29,7 +29,7 @@ unfolding bytes
 read said line answer = record { given = bytes line; asked = λ l. told (said l); answer = answer }
 
 unfoldable pub ofFix : List ℕ → Said ℕ
-ofFix l = andThen (fixSaid l emptyLayout) λ f. says (f .time)
+ofFix l = andThen (fixSaid l emptyLayout) λ f. says (f .time .count)
 
 unfoldable pub ofExtra : Extra → List ℕ → Said ℕ
 ofExtra e l = extraSaid e l emptyLayout

@@ -1,9 +1,9 @@
 pub mod Inverse
-pub mod Fixes
 pub mod Times
 pub mod Links
 pub mod Computed
 pub mod Marked
+pub mod FinerExamples
 pub mod Damaged
 pub mod NLines
 pub mod SignedFiles

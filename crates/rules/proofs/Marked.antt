@@ -23,7 +23,7 @@ unfoldable pub longitude : List ℕ → Said ℤ
 longitude l = andThen (fixSaid l emptyLayout) λ f. says (pos (f .lon .count))
 
 unfoldable pub seconds : List ℕ → Said ℤ
-seconds l = andThen (fixSaid l emptyLayout) λ f. says (pos (f .time))
+seconds l = andThen (fixSaid l emptyLayout) λ f. says (pos (f .time .count))
 
 unfoldable pub pressure : List ℕ → Said ℤ
 pressure l = andThen (fixSaid l emptyLayout) λ f. says (f .pressure .metres)

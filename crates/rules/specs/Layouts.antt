@@ -11,8 +11,9 @@ use Rattle.rules.specs.Choice.{given, need, firstOf, leads, part, byte}
 use Rattle.rules.specs.Refusals.{Said, says, refuses, no, refusal, outcomeTold, outcome, valueOr, andThen, breaks}
 use Rattle.rules.specs.Families.{firstStart}
 use Rattle.rules.specs.Numbers.{numberAt}
-use Rattle.rules.specs.Listed.{codeAt, isCodeWord, listed, widthFits, keepsRule, listedNumber}
+use Rattle.rules.specs.Listed.{codeAt, isCodeWord, listed, widthFits, keepsLimit, listedNumber}
 use Rattle.rules.specs.declared.Reason.the-variants.{Tile, Twice, Width, Column, BadValue}
+use Rattle.rules.specs.declared.AtLimit.{AtLimit}
 use Rattle.rules.specs.declared.Listed.{Listed}
 use Rattle.rules.specs.declared.Entry.{Entry}
 use Rattle.rules.specs.declared.Layout.{Layout}
@@ -125,14 +126,14 @@ lineLength start l = cond (eqb (l .count) 0) (start - 1) ((getD (l .entries) (l 
 abbrev pub columnText : List ℕ → Span → List ℕ
 columnText l s = part (byte (s .first)) (s .last) l
 
--- "13 COLUMN: listed column against its rule; line, column's first byte"
-unfoldable pub badColumn : List ℕ → Layout → Option ℕ
-badColumn l layout =
-    firstOf (λ e. not (keepsRule (e .code) (columnText l (spanOf e)))) (λ k e. e .first) (entriesOf layout) 0
+-- "13 COLUMN: listed column against its rule; line, column's first byte"; "13 for digits past a limit" (document 02)
+unfoldable pub badColumn : AtLimit → List ℕ → Layout → Option ℕ
+badColumn at l layout =
+    firstOf (λ e. not (keepsLimit at (e .code) (columnText l (spanOf e)))) (λ k e. e .first) (entriesOf layout) 0
 
 -- every listed column of a line by its rule
-unfoldable pub columns : List ℕ → Layout → Said (Unit {0})
-columns l layout = given (badColumn l layout) (says tt) λ first. no Column first
+unfoldable pub columns : AtLimit → List ℕ → Layout → Said (Unit {0})
+columns at l layout = given (badColumn at l layout) (says tt) λ first. no Column first
 
 -- 1 where the layout carries a listed code, else 0
 abbrev pub bit : Layout → Listed → ℕ

@@ -1,7 +1,7 @@
 -- What a value must keep to, so that some line reads as it: for each field and for each line that is written, a chain of tests that code can make.
 use Prim.Native.Nat.{ℕ, _+_, _-_}
 use Prim.Native.Char.{code}
-use mathlib.Core.Bool.{Bool, true, false, not}
+use mathlib.Core.Bool.{Bool, true, false, not, _&&_}
 use mathlib.Core.List.{List}
 use mathlib.Core.Option.{Option}
 use lib.Dec.{leb, eqb}
@@ -11,15 +11,20 @@ use Rattle.rules.specs.Choice.{given, need, on, firstOf, part}
 use Rattle.rules.specs.Chars.{firstInvalid}
 use Rattle.rules.specs.Fields.{daysOf, isEither}
 use Rattle.rules.specs.Degrees.{isLatitude, isLongitude}
-use Rattle.rules.specs.Listed.{keepsRule}
+use Rattle.rules.specs.Numbers.{numberAt}
+use Rattle.rules.specs.Listed.{offLimit, keepsLimit}
 use Rattle.rules.specs.Layouts.{entriesOf, allowed, lineLength}
-use Rattle.rules.specs.Fixes.{fieldsOf}
+use Rattle.rules.specs.Lines.{atLimit}
+use Rattle.rules.specs.Fixes.{finerOf, decimalsOf, fieldsOf, extraDigits}
 use Rattle.rules.specs.declared.Date.{Date}
 use Rattle.rules.specs.declared.Entry.{Entry}
 use Rattle.rules.specs.declared.Layout.{Layout}
 use Rattle.rules.specs.declared.Height.{Height}
 use Rattle.rules.specs.declared.Planned.{Planned}
 use Rattle.rules.specs.declared.Planned.the-variants as planned
+use Rattle.rules.specs.declared.AtLimit.{AtLimit}
+use Rattle.rules.specs.declared.Reach.{Reach}
+use Rattle.rules.specs.declared.Finer.{Finer}
 use Rattle.rules.specs.declared.FixFields.{FixFields}
 use Rattle.rules.specs.declared.Fix.{Fix}
 use Rattle.rules.specs.declared.Head.{Head}
@@ -86,23 +91,23 @@ goodHead h rest =
     isClean rest
 
 -- "13 COLUMN: listed column against its rule; line, column's first byte", told from the line's tail alone, which begins at the first start
-unfoldable pub badTail : ℕ → List ℕ → Layout → Option ℕ
-badTail start tail layout =
-    firstOf (λ (e : Entry). not (keepsRule (e .code) (part (e .first - start) (e .last + 1 - start) tail))) (λ (k : ℕ) (e : Entry). e .first) (entriesOf layout) 0
+unfoldable pub badTail : AtLimit → ℕ → List ℕ → Layout → Option ℕ
+badTail at start tail layout =
+    firstOf (λ (e : Entry). not (keepsLimit at (e .code) (part (e .first - start) (e .last + 1 - start) tail))) (λ (k : ℕ) (e : Entry). e .first) (entriesOf layout) 0
 
 -- the columns of a B line (36) or a K or N line (8), by a layout that is allowed: "A line of that kind ends at the last FF", valid characters, and no column against its rule
-unfoldable pub goodTail : ℕ → List ℕ → Layout → Bool
-goodTail start tail layout =
+unfoldable pub goodTail : AtLimit → ℕ → List ℕ → Layout → Bool
+goodTail at start tail layout =
     need (allowed start layout) false λ _.
     need (eqb (start - 1 + length tail) (lineLength start layout)) false λ _.
     need (isClean tail) false λ _.
-    given (badTail start tail layout) true λ first. false
+    given (badTail at start tail layout) true λ first. false
 
 -- "K: time 2 to 7, columns from 8."; N as K
 unfoldable pub goodExtra : ℕ → List ℕ → Layout → Bool
 goodExtra t tail layout =
     need (isTime t) false λ _.
-    goodTail 8 tail layout
+    goodTail offLimit 8 tail layout
 
 -- "B: time 2 to 7; latitude DDMMmmm and N or S, 8 to 15; longitude DDDMMmmm and E or W, 16 to 24; A or V, 25; pressure altitude 26 to 30; GNSS altitude 31 to 35"
 unfoldable pub goodFixFields : FixFields → Bool
@@ -114,8 +119,29 @@ goodFixFields f =
     need (isAltitude (f .pressure)) false λ _.
     isAltitude (f .gnss)
 
+-- "up to 4, 4 and 3"
+unfoldable pub isFine : Fix → Bool
+isFine f = leb (f .time .decimals) 3 && leb (f .lat .decimals) 4 && leb (f .lon .decimals) 4
+
+-- the number that a column's digits spell in the tail of a B line; 0 without the column
+unfoldable pub tailDigits : List ℕ → Reach → ℕ
+tailDigits tail r = given (numberAt (part (r .first - 36) (r .last + 1 - 36) tail) 0 (decimalsOf r)) 0 λ v. v
+
+-- "refuses one whose decimals don't match the layout's width or whose digits aren't the column's": one count
+unfoldable pub isSplit : ℕ → ℕ → List ℕ → Reach → Bool
+isSplit count decimals tail r = eqb decimals (decimalsOf r) && eqb (extraDigits count decimals) (tailDigits tail r)
+
+-- and all three
+unfoldable pub areSplit : Fix → List ℕ → Finer → Bool
+areSplit f tail fine =
+    isSplit (f .time .count) (f .time .decimals) tail (fine .time)
+    && isSplit (f .lat .count) (f .lat .decimals) tail (fine .lat)
+    && isSplit (f .lon .count) (f .lon .decimals) tail (fine .lon)
+
 -- "columns from 36"
 unfoldable pub goodFix : Fix → List ℕ → Layout → Bool
 goodFix f tail layout =
+    need (isFine f) false λ _.
     need (goodFixFields (fieldsOf f)) false λ _.
-    goodTail 36 tail layout
+    need (goodTail (atLimit (fieldsOf f)) 36 tail layout) false λ _.
+    areSplit f tail (finerOf layout)

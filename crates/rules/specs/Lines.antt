@@ -11,13 +11,15 @@ use Rattle.rules.specs.Choice.{given, need, on, byte}
 use Rattle.rules.specs.Refusals.{Said, says, no, andThen, breaks}
 use Rattle.rules.specs.Chars.{characters, isCode, codesAt}
 use Rattle.rules.specs.Numbers.{numberAt}
-use Rattle.rules.specs.Fields.{timeAt, dateAt, latitudeAt, longitudeAt, altitudeAt, isEither}
+use Rattle.rules.specs.Fields.{timeAt, dateAt, latitudeAt, longitudeAt, mostLatitude, mostLongitude, altitudeAt, isEither}
+use Rattle.rules.specs.Listed.{offLimit}
 use Rattle.rules.specs.Layouts.{layoutFields, lineLength, columns}
 use Rattle.rules.specs.declared.Reason.the-variants.{Length}
 use Rattle.rules.specs.declared.Date.{Date}
 use Rattle.rules.specs.declared.Layout.{Layout}
 use Rattle.rules.specs.declared.Family.{Family}
 use Rattle.rules.specs.declared.Family.the-variants as family
+use Rattle.rules.specs.declared.AtLimit.{AtLimit}
 use Rattle.rules.specs.declared.FixFields.{FixFields}
 use Rattle.rules.specs.declared.Planned.{Planned}
 use Rattle.rules.specs.declared.Planned.the-variants as planned
@@ -165,20 +167,24 @@ fixFields l =
 unfoldable pub shapedBy : ℕ → Layout → List ℕ → Said (Unit {0})
 shapedBy start layout l = shaped (lineLength start layout) (lineLength start layout) false l
 
+-- "Latitude at most 5,400,000, longitude at most 10,800,000.": "where the plain count is already at its limit" (document 02)
+unfoldable pub atLimit : FixFields → AtLimit
+atLimit f = record { lat = eqb (f .lat .count) mostLatitude; lon = eqb (f .lon .count) mostLongitude }
+
 -- "columns from 36"
 unfoldable pub bLine : Layout → List ℕ → Said FixFields
 bLine layout l =
     andThen (shapedBy (firstStart family.B) layout l) λ _.
     andThen (fixFields l) λ f.
-    andThen (columns l layout) λ _.
+    andThen (columns (atLimit f) l layout) λ _.
     says f
 
--- "K: time 2 to 7, columns from 8."; "N is built as K is: time at 2 to 7, columns from 8, exact length, listed codes checked"
+-- "K: time 2 to 7, columns from 8."; "N is built as K is: time at 2 to 7, columns from 8, exact length, listed codes checked"; they have no coordinates
 unfoldable pub extraLine : Layout → List ℕ → Said ℕ
 extraLine layout l =
     andThen (shapedBy 8 layout l) λ _.
     given (timeAt l (byte 2)) (breaks class.Time 2) λ t.
-    andThen (columns l layout) λ _.
+    andThen (columns offLimit l layout) λ _.
     says t
 
 -- what the bytes of a line of a family before its columns spell: of a B line the fields of its fix, of a K or an N line its time

@@ -2,13 +2,14 @@
 use Prim.Native.Nat.{ℕ, _+_, _*_, _/_, _%_}
 use Prim.Native.Char.{code}
 use Prim.Native.String.{String}
-use mathlib.Core.Bool.{Bool, true, false, _&&_, _||_}
+use mathlib.Core.Bool.{Bool, true, false, not, _&&_, _||_, cond}
 use mathlib.Core.List.{List, [], _∷_}
 use mathlib.Core.Option.{Option, none, some}
 use lib.Dec.{eqb, leb}
 use lib.ListN.{length, getD, drop}
 use Rattle.rules.specs.Choice.{given, need, firstOf, leads, bytes}
 use Rattle.rules.specs.Chars.{isDigit, isCode, codesAt}
+use Rattle.rules.specs.declared.AtLimit.{AtLimit}
 use Rattle.rules.specs.declared.Listed.{Listed}
 
 -- the three characters of a code as one number, the first one highest
@@ -84,3 +85,32 @@ keepsSign sign t = isDigits t || (sign && eqb (getD t 0 0) (code "-") && leb 2 (
 -- the text of a column against the rule of its code
 unfoldable pub keepsRule : ℕ → List ℕ → Bool
 keepsRule x t = given (listedNumber x) true λ n. keepsSign ((getD listed n unlisted) .sign) t
+
+-- the codes of finer digits: of a time, of a latitude, of a longitude
+abbrev pub tds : ℕ
+unfolding bytes
+tds = packedOf (bytes "TDS")
+
+abbrev pub lad : ℕ
+unfolding bytes
+lad = packedOf (bytes "LAD")
+
+abbrev pub lod : ℕ
+unfolding bytes
+lod = packedOf (bytes "LOD")
+
+-- every byte of the text is a zero
+unfoldable pub isZeros : List ℕ → Bool
+isZeros t = leads (λ b. eqb b (code "0")) (length t) t
+
+-- neither coordinate is at its limit, or there is none
+abbrev pub offLimit : AtLimit
+offLimit = record { lat = false; lon = false }
+
+-- Document 02, request 9: "LAD or LOD digits other than zeros break their column's rule where the plain count is already at its limit."
+unfoldable pub isPast : AtLimit → ℕ → List ℕ → Bool
+isPast at x t = (at .lat && (eqb x lad && not (isZeros t))) || (at .lon && (eqb x lod && not (isZeros t)))
+
+-- the text of a column of a line, which has these coordinates at their limits, against the rule of its code
+unfoldable pub keepsLimit : AtLimit → ℕ → List ℕ → Bool
+keepsLimit at x t = cond (isPast at x t) false (keepsRule x t)

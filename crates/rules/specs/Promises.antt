@@ -30,10 +30,12 @@ use Rattle.rules.specs.declared.Time.{Time}
 use Rattle.rules.specs.declared.Date.{Date}
 use Rattle.rules.specs.declared.Day.{Day}
 use Rattle.rules.specs.declared.Position.{Position}
+use Rattle.rules.specs.declared.FinePosition.{FinePosition}
 use Rattle.rules.specs.declared.PositionField.{PositionField}
 use Rattle.rules.specs.declared.Height.{Height}
 use Rattle.rules.specs.declared.Altitude.{Altitude}
 use Rattle.rules.specs.declared.DegreesRead.{DegreesRead}
+use Rattle.rules.specs.declared.AtLimit.{AtLimit}
 use Rattle.rules.specs.declared.Listed.{Listed}
 use Rattle.rules.specs.declared.Layout.{Layout}
 use Rattle.rules.specs.declared.Extra.{Extra}
@@ -131,7 +133,7 @@ LongitudePut p at out after = after ≡ putAt out at (longitudeText p)
 abbrev pub AltitudePut : Height → ℕ → List ℕ → List ℕ → Type 0
 AltitudePut h at out after = after ≡ putAt out at (altitudeText h)
 
-abbrev pub DegreesGiven : Position → Position → DegreesRead → Type 0
+abbrev pub DegreesGiven : FinePosition → FinePosition → DegreesRead → Type 0
 DegreesGiven lat lon r = degreesTold r ≡ degreesOf lat lon
 
 -- ---- layouts
@@ -151,8 +153,8 @@ PresenceGiven l r = presenceTold r ≡ presenceSaid l
 abbrev pub ColumnTest : ℕ → List ℕ → Bool → Type 0
 ColumnTest x t r = r ≡ keepsRule x t
 
-abbrev pub ColumnsChecked : List ℕ → Layout → Outcome → Type 0
-ColumnsChecked l layout r = outcomeTold r ≡ columns l layout
+abbrev pub ColumnsChecked : AtLimit → List ℕ → Layout → Outcome → Type 0
+ColumnsChecked at l layout r = outcomeTold r ≡ columns at l layout
 
 -- ---- lines: the checks of 7 to 13, of which a file's check is made
 

@@ -10,7 +10,7 @@ use Rattle.rules.specs.Refusals.{Said, says, refuses, no, refusal, andTh
 use Rattle.rules.specs.Families.{firstStart, lineLetter, layoutLetter}
 use Rattle.rules.specs.Layouts.{emptyLayout, allowed}
 use Rattle.rules.specs.Lines.{dateLine, layoutLine, headLine, pointLine, eLine, fLine, FieldsIn, familyLine}
-use Rattle.rules.specs.Fixes.{fixOf}
+use Rattle.rules.specs.Fixes.{finerOf, fixOf}
 use Rattle.rules.specs.declared.Reason.the-variants.{BadValue}
 use Rattle.rules.specs.declared.Signed.{Signed}
 use Rattle.rules.specs.declared.Date.{Date}
@@ -57,14 +57,14 @@ abbrev pub ValueOf : Family → Type 0
 ValueOf family.B = Fix
 ValueOf (family.Extra e) = ℕ
 
--- the value, from what the bytes spell
-abbrev pub valueFrom : (f : Family) → FieldsIn f → ValueOf f
-valueFrom family.B v = fixOf v
-valueFrom (family.Extra e) t = t
+-- the value, from what the bytes of a line with its layout spell before the columns: only B lines are refined
+abbrev pub valueFrom : (f : Family) → List ℕ → Layout → FieldsIn f → ValueOf f
+valueFrom family.B l layout v = fixOf l (finerOf layout) v
+valueFrom (family.Extra e) l layout t = t
 
 -- the value of a line of a family with its layout
 abbrev pub saidOf : (f : Family) → List ℕ → Layout → Said (ValueOf f)
-saidOf family.B l layout = andThen (fieldsSaid family.B l layout) λ f. says (fixOf f)
+saidOf family.B l layout = andThen (fieldsSaid family.B l layout) λ f. says (fixOf l (finerOf layout) f)
 saidOf (family.Extra e) l layout = fieldsSaid (family.Extra e) l layout
 
 -- the fix of a B line with its I layout

@@ -24,6 +24,7 @@ use Rattle.rules.specs.declared.Layout.{Layout}
 use Rattle.rules.specs.declared.Extra.{Extra}
 use Rattle.rules.specs.declared.Family.{Family}
 use Rattle.rules.specs.declared.Family.the-variants as family
+use Rattle.rules.specs.declared.FinePosition.{FinePosition}
 use Rattle.rules.specs.declared.FixFields.{FixFields}
 use Rattle.rules.specs.declared.Fix.{Fix}
 use Rattle.rules.specs.declared.Planned.{Planned}
@@ -91,11 +92,15 @@ sameInteger (negsuc m) (negsuc n) = eqb m n
 abbrev pub samePosition : Position → Position → Bool
 samePosition p q = eqb (p .count) (q .count) && eqb (p .letter) (q .letter)
 
+abbrev pub sameFinePosition : FinePosition → FinePosition → Bool
+sameFinePosition p q = eqb (p .count) (q .count) && eqb (p .letter) (q .letter) && eqb (p .decimals) (q .decimals)
+
 unfoldable pub sameFix : Fix → Fix → Bool
 sameFix f g =
-    eqb (f .time) (g .time)
-    && samePosition (f .lat) (g .lat)
-    && samePosition (f .lon) (g .lon)
+    eqb (f .time .count) (g .time .count)
+    && eqb (f .time .decimals) (g .time .decimals)
+    && sameFinePosition (f .lat) (g .lat)
+    && sameFinePosition (f .lon) (g .lon)
     && eqb (f .validity) (g .validity)
     && sameInteger (f .pressure .metres) (g .pressure .metres)
     && sameInteger (f .gnss .metres) (g .gnss .metres)

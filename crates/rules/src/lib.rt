@@ -208,12 +208,46 @@ pub enum FixFieldsRead {
     Refused(Refusal),
 }
 
+// Which coordinates of a B line stand at their limit, 90 or 180 degrees: there finer digits can only be zeros.
+pub struct AtLimit {
+    pub lat: bool,
+    pub lon: bool,
+}
+
+// Where a column of finer digits stands: the places of its first and last byte, counted from 1; 0 and 0 where there is no such column.
+pub struct Reach {
+    pub first: u8,
+    pub last: u8,
+}
+
+// The columns of finer digits of a B line: TDS for its time, LAD for its latitude, LOD for its longitude.
+pub struct Finer {
+    pub time: Reach,
+    pub lat: Reach,
+    pub lon: Reach,
+}
+
+// The time of a fix: a count of seconds of the day, taken ten times for each of its extra decimals.
+#[repr(C)]
+pub struct FineTime {
+    pub count: u32,
+    pub decimals: u8,
+}
+
+// The latitude or the longitude of a fix: a count of thousandths of a minute, taken ten times for each of its extra decimals, with its letter beside it.
+#[repr(C)]
+pub struct FinePosition {
+    pub count: u64,
+    pub letter: u8,
+    pub decimals: u8,
+}
+
 // What the reading of a B line gives before its columns.
 #[repr(C)]
 pub struct Fix {
-    pub time: u32,
-    pub lat: Position,
-    pub lon: Position,
+    pub time: FineTime,
+    pub lat: FinePosition,
+    pub lon: FinePosition,
     pub validity: u8,
     pub pressure: Height,
     pub gnss: Height,

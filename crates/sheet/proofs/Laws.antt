@@ -14,24 +14,24 @@ use Rattle.next_fix.specs.declared.FixStep.{FixStep}
 use Rattle.next_fix.specs.declared.Progress.{Progress}
 use Rattle.pieces.specs.Buffer.{PiecePut}
 use Rattle.pieces.proofs.Laws.{then, nothing}
-use Rattle.sheet.specs.Sheets.{fewOf, lineOf, linesFrom, afterSteps, SheetFilled}
+use Rattle.sheet.specs.Sheets.{sheetOf, lineOf, linesFrom, afterSteps, SheetFilled}
 
 -- ---- how many
 
-pub few-most : (left : ℕ) → 400 < left → 400 ≡ fewOf left
-unfolding fewOf
-few-most left h = rw (lt-ltb 400 left h)
+pub few-most : (left : ℕ) → 380 < left → 380 ≡ sheetOf left
+unfolding sheetOf
+few-most left h = rw (lt-ltb 380 left h)
 
-pub few-all : (left : ℕ) → left ≤ 400 → left ≡ fewOf left
-unfolding fewOf
-few-all left h = rw (le-ltb 400 left h)
+pub few-all : (left : ℕ) → left ≤ 380 → left ≡ sheetOf left
+unfolding sheetOf
+few-all left h = rw (le-ltb 380 left h)
 
-pub few-within : (left n : ℕ) → n ≡ fewOf left → n ≤ left
-unfolding fewOf
-few-within left n e = by (ltb 400 left) refl e
+pub few-within : (left n : ℕ) → n ≡ sheetOf left → n ≤ left
+unfolding sheetOf
+few-within left n e = by (ltb 380 left) refl e
   where
-    by : (t : Bool) → ltb 400 left ≡ t → n ≡ cond t 400 left → n ≤ left
-    by true g h = omega (arith, ltb-true 400 left g)
+    by : (t : Bool) → ltb 380 left ≡ t → n ≡ cond t 380 left → n ≤ left
+    by true g h = omega (arith, ltb-true 380 left g)
     by false g h = omega arith
 
 -- ---- one more
@@ -72,8 +72,8 @@ reached-next file from block now after i used r next s p e q =
     })
 
 -- all are put
-pub sheet-full : (file : List ℕ) (from : Progress) (left : ℕ) (block now : List ℕ) (n i used : ℕ) (next : Progress) → n ≡ fewOf left → i ≤ n → n ≤ i → Reached file from block i used next now
+pub sheet-full : (file : List ℕ) (from : Progress) (left : ℕ) (block now : List ℕ) (n i used : ℕ) (next : Progress) → n ≡ sheetOf left → i ≤ n → n ≤ i → Reached file from block i used next now
     → SheetFilled file from left block (record { used = used; left = left - n; next = next }) now
 sheet-full file from left block now n i used next e g h p =
-    let same : i ≡ fewOf left = omega (arith, e) in
+    let same : i ≡ sheetOf left = omega (arith, e) in
     record { put = rw same at (p .put); rest = rw e; next = rw same at (p .come) }

@@ -23,20 +23,20 @@ use Rattle.track.proofs.Tracking.{found-all}
 use Rattle.pieces.specs.Buffer.{Shown}
 use Rattle.pieces.proofs.Laws.{whole}
 use Rattle.trail.proofs.Room.{record-room}
-use Rattle.sheet.specs.Sheets.{fewOf, lineOf, recordsShown, linesFrom, afterSteps, SheetFilled}
+use Rattle.sheet.specs.Sheets.{sheetOf, lineOf, recordsShown, linesFrom, afterSteps, SheetFilled}
 use Rattle.sheet.specs.declared.Sheet.{Sheet}
 
 -- ---- room
 
-few-room : (left : ℕ) → fewOf left ≤ 400
-unfolding fewOf
-few-room left = by (ltb 400 left) refl
+few-room : (left : ℕ) → sheetOf left ≤ 380
+unfolding sheetOf
+few-room left = by (ltb 380 left) refl
   where
-    by : (t : Bool) → ltb 400 left ≡ t → cond t 400 left ≤ 400
+    by : (t : Bool) → ltb 380 left ≡ t → cond t 380 left ≤ 380
     by true e = omega arith
-    by false e = ltb-false 400 left e
+    by false e = ltb-false 380 left e
 
-lines-room : (file : List ℕ) (from : Progress) (n : ℕ) → length (linesFrom file from n) ≤ 160 * n
+lines-room : (file : List ℕ) (from : Progress) (n : ℕ) → length (linesFrom file from n) ≤ 168 * n
 unfolding linesFrom
 lines-room file from zero = omega arith
 lines-room file from (suc n) =
@@ -45,8 +45,8 @@ lines-room file from (suc n) =
 
 -- the lines stand whole at the front of such a block, and behind them it is as it was
 pub sheet-whole : (file : List ℕ) (from : Progress) (left : ℕ) (block : List ℕ) (r : Sheet) (after : List ℕ) → SheetFilled file from left block r after → 64000 ≤ length block
-    → Shown (linesFrom file from (fewOf left)) block (r .used) after
-sheet-whole file from left block r after s h = whole refl (omega (arith, few-room left, lines-room file from (fewOf left))) (s .put)
+    → Shown (linesFrom file from (sheetOf left)) block (r .used) after
+sheet-whole file from left block r after s h = whole refl (omega (arith, few-room left, lines-room file from (sheetOf left))) (s .put)
 
 -- ---- sheets one after the other
 
@@ -65,5 +65,5 @@ unfolding linesFrom recordsShown fixesFrom
 lines-shown file from zero = refl
 lines-shown file from (suc n) = ap (λ (l : List ℕ). lineOf (stepOf file from .found) ++ l) (lines-shown file (stepOf file from .next) n)
 
-pub track-whole : (file : List ℕ) (f : Flight) → verdict trackSeal file none ≡ says f → linesFrom file (startBy (fixSize f)) (countOf family.B (f .counts)) ≡ recordsShown (trackOf file (f .layouts .b))
-track-whole file f e = lines-shown file (startBy (fixSize f)) (countOf family.B (f .counts)) ∙ ap recordsShown (found-all file f e)
+pub track-whole : (file : List ℕ) (f : Flight) → verdict trackSeal file none ≡ says f → linesFrom file (startBy (fixSize f) (f .layouts .b)) (countOf family.B (f .counts)) ≡ recordsShown (trackOf file (f .layouts .b))
+track-whole file f e = lines-shown file (startBy (fixSize f) (f .layouts .b)) (countOf family.B (f .counts)) ∙ ap recordsShown (found-all file f e)

@@ -12,8 +12,8 @@ use Rattle.trail.specs.Trail.{recordShown}
 use Rattle.sheet.specs.declared.Sheet.{Sheet}
 
 -- how many of the fixes that are left go on one sheet
-unfoldable pub fewOf : ℕ → ℕ
-fewOf left = cond (ltb 400 left) 400 left
+unfoldable pub sheetOf : ℕ → ℕ
+sheetOf left = cond (ltb 380 left) 380 left
 
 -- a record's line
 abbrev pub lineOf : Record → List ℕ
@@ -37,6 +37,6 @@ module _ (file : List ℕ) where
 
 -- the lines of the next fixes, as far as the block has room, stand at its front; how many bytes that are, how many fixes are left, and how far the reading has come
 pub record SheetFilled (file : List ℕ) (from : Progress) (left : ℕ) (block : List ℕ) (r : Sheet) (after : List ℕ) : Type 0 where
-  pub put : PiecePut block 0 (linesFrom file from (fewOf left)) (r .used) after
-  pub rest : r .left ≡ left - fewOf left
-  pub next : r .next ≡ afterSteps file from (fewOf left)
+  pub put : PiecePut block 0 (linesFrom file from (sheetOf left)) (r .used) after
+  pub rest : r .left ≡ left - sheetOf left
+  pub next : r .next ≡ afterSteps file from (sheetOf left)

@@ -1,7 +1,7 @@
 // The lines of a track for people, sheet by sheet: those of the next fixes of a file in a lent block, and where the next sheet goes on.
 ghost use mathlib.Core.Path.{_≡_};
 ghost use Rattle.pieces.specs.Buffer.{PiecePut};
-ghost use Rattle.sheet.specs.Sheets.{fewOf, lineOf, SheetFilled};
+ghost use Rattle.sheet.specs.Sheets.{sheetOf, lineOf, SheetFilled};
 use next_fix::Progress;
 use next_fix::Record;
 
@@ -12,12 +12,12 @@ pub struct Sheet {
     pub next: Progress,
 }
 
-// How many of the fixes that are left go on one sheet: 400 at most.
+// How many of the fixes that are left go on one sheet: 380 at most.
 fn few(left: usize) -> usize
-    ensures { λ r. ⌜ r ≡ fewOf left ⌝ }
+    ensures { λ r. ⌜ r ≡ sheetOf left ⌝ }
 {
-    if 400 < left {
-        return 400;
+    if 380 < left {
+        return 380;
     }
     left
 }
@@ -30,7 +30,7 @@ fn put_line(out: &mut [u8], at: usize, r: Record) -> usize
     trail::put_record(out, at, r.line, r.day, fix)
 }
 
-// Puts the lines of the next fixes of an accepted file into a block, of those that are left at most 400: a block of 65,536 bytes has room for them, and a shorter one takes as much
+// Puts the lines of the next fixes of an accepted file into a block, of those that are left at most 380: a block of 65,536 bytes has room for them, and a shorter one takes as much
 // as it has room for, the lines behind that being lost. The rest of the block stays as it is. A step that finds no fix, as in a file that is not accepted, puts a line of zeros.
 pub fn fill(file: &[u8], from: Progress, left: usize, block: &mut [u8]) -> Sheet
     ensures { λ r. ⌜ SheetFilled (now (file .entry)) from left (now (block .entry)) r (now (block .exit)) ⌝ }

@@ -11,15 +11,17 @@ use lib.ListN.{length, getD, take, drop, replicate, length-append, take-append-d
 use lib.Seq.{drop-drop}
 use Rattle.rules.specs.Choice.{given, firstOf, byte, Each}
 use Rattle.rules.specs.Refusals.{says, no}
-use Rattle.rules.specs.Listed.{keepsRule}
+use Rattle.rules.specs.Listed.{keepsLimit}
 use Rattle.rules.specs.declared.Reason.the-variants.{Column}
 use Rattle.rules.specs.Layouts.{unused, emptyLayout, withEntry, entriesOf, Span, spanOf, look, carries, lineLength, columnText, badColumn, columns}
+use Rattle.rules.specs.declared.AtLimit.{AtLimit}
 use Rattle.rules.specs.declared.Entry.{Entry}
 use Rattle.rules.specs.declared.Layout.{Layout}
 use Rattle.rules.proofs.Inverse.{refuses-says, false-true, given-inv}
 use Rattle.trips.proofs.Texts.{areValid, both-valid}
-use Rattle.sound.proofs.Each.{each-map, nothing-found, none-found, found-one}
-use Rattle.sound.proofs.Entries.{Fits, Tiled}
+use Rattle.trips.proofs.Each.{each-map, nothing-found, none-found, found-one}
+use Rattle.trips.proofs.Placing.{Fits}
+use Rattle.sound.proofs.Entries.{Tiled}
 use Rattle.sound.proofs.Placed.{laid, with-laid, Coded, carries-none, Sound, allowed-there}
 
 -- ---- each column is found by its code
@@ -65,11 +67,11 @@ each-looked start layout s =
 
 -- ---- each listed one keeps its rule exactly where the line's columns pass
 
-module _ (l : List ℕ) (layout : Layout) where
+module _ (at : AtLimit) (l : List ℕ) (layout : Layout) where
   abbrev pub Kept : Type 0
-  Kept = Each (λ (e : Entry). keepsRule (e .code) (columnText l (spanOf e)) ≡ true) (entriesOf layout)
+  Kept = Each (λ (e : Entry). keepsLimit at (e .code) (columnText l (spanOf e)) ≡ true) (entriesOf layout)
 
-  pub ruled-there : columns l layout ≡ says tt → Kept
+  pub ruled-there : columns at l layout ≡ says tt → Kept
   unfolding columns badColumn
   ruled-there h = each-map (entriesOf layout) (λ e. not-false _) (nothing-found _ (λ k e. e .first) (entriesOf layout) 0 (none-there _ h))
     where
@@ -77,7 +79,7 @@ module _ (l : List ℕ) (layout : Layout) where
       none-there none h = refl
       none-there (some i) h = absurd (refuses-says h)
 
-  pub ruled-here : Kept → columns l layout ≡ says tt
+  pub ruled-here : Kept → columns at l layout ≡ says tt
   unfolding columns badColumn
   ruled-here h = rw (none-found _ (λ (k : ℕ) (e : Entry). e .first) (entriesOf layout) 0 (each-map (entriesOf layout) (λ e. ap not) h))
 

@@ -1,19 +1,19 @@
 -- The entries of a layout line both ways: three code characters, one entry, and entries one behind the other, which each keep to the rules. Assumes nothing.
 use Prim.Native.Nat.{ℕ, zero, suc, _+_, _-_, _*_, _/_, _%_, _≤_, _<_}
-use mathlib.Core.Bool.{Bool, true, false, not, _&&_, _||_}
+use mathlib.Core.Bool.{Bool, true, false, _&&_, _||_}
 use mathlib.Core.List.{List, [], _∷_, _++_, append-assoc}
 use mathlib.Core.Option.{none, some}
 use mathlib.Core.Path.{_≡_, refl, sym, ap, _∙_}
 use native.Mathlib.Omega.{arith}
-use borrow.Author.Tests.{le-leb, leb-true, eqb-true, eq-eqb, not-true}
-use lib.Dec.{eqb, leb}
+use borrow.Author.Tests.{le-leb, leb-true}
+use lib.Dec.{leb}
 use lib.ListN.{length, getD, drop, length-append}
 use Rattle.rules.specs.Choice.{leads}
-use Rattle.rules.specs.Refusals.{Said, says, refuses}
+use Rattle.rules.specs.Refusals.{says}
 use Rattle.rules.specs.Chars.{isDigit, isCode, codesAt}
 use Rattle.rules.specs.Numbers.{numberAt, digitsOf}
-use Rattle.rules.specs.Listed.{packed, codeText, codeAt, isCodeWord, widthFits}
-use Rattle.rules.specs.Layouts.{withEntry, carries, placed, entryAt, entriesFrom, isSaid, isSpelt, allPlaced}
+use Rattle.rules.specs.Listed.{packed, codeText, codeAt, isCodeWord}
+use Rattle.rules.specs.Layouts.{withEntry, placed, entryAt, entriesFrom, isSaid, isSpelt, allPlaced}
 use Rattle.rules.specs.Writes.{entryText, entryTexts}
 use Rattle.rules.specs.declared.Entry.{Entry}
 use Rattle.rules.specs.declared.Layout.{Layout}
@@ -21,6 +21,7 @@ use Rattle.rules.proofs.Inverse.{none-some, refuses-says, false-true, given-inv
 use Rattle.trips.proofs.Laws.{past, byte-here}
 use Rattle.trips.proofs.Texts.{digit-range}
 use Rattle.trips.proofs.Digits.{digits-length, number-there, number-here}
+use Rattle.trips.proofs.Placing.{Fits, placed-there, placed-said, fits-there}
 
 -- ---- three code characters
 
@@ -93,34 +94,6 @@ code-here s at x r h e =
     simp (e, q .0, q .1, p .1, a, b, c, packed-back x)
 
 -- ---- one entry
-
--- an entry that keeps to the rules behind those before it
-pub record Fits (start : ℕ) (before : Layout) (e : Entry) : Type 0 where
-  pub starts : e .first ≡ start
-  pub ends : e .first ≤ e .last
-  pub once : carries before (e .code) ≡ false
-  pub wide : widthFits (e .code) (e .last - e .first + 1) ≡ true
-
-pub placed-there : (start : ℕ) (before : Layout) (e x : Entry) (n : ℕ) → placed start before e n ≡ says x → Fits start before e × (e ≡ x)
-unfolding placed
-placed-there start before e x n h =
-    let a = need-inv (eqb (e .first) start) _ (says x) _ refuses-says h in
-    let b = need-inv (leb (e .first) (e .last)) _ (says x) _ refuses-says (a .1) in
-    let c = need-inv (not (carries before (e .code))) _ (says x) _ refuses-says (b .1) in
-    let d = need-inv (widthFits (e .code) (e .last - e .first + 1)) _ (says x) _ refuses-says (c .1) in
-    (record { starts = eqb-true _ _ (a .0); ends = leb-true _ _ (b .0); once = not-true _ (c .0); wide = d .0 }, cc)
-
-pub placed-said : (start : ℕ) (before : Layout) (e : Entry) (n : ℕ) → Fits start before e → placed start before e n ≡ says e
-unfolding placed
-placed-said start before e n w = simp (eq-eqb _ _ (w .starts), le-leb _ _ (w .ends), w .once, w .wide)
-
--- an answer that is a value
-pub said-some : {A : Type 0} (s : Said A) → isSaid s ≡ true → (v : A) × (s ≡ says v)
-said-some (says v) e = (v, refl)
-said-some (refuses n l b) e = absurd (false-true e)
-
-pub fits-there : (start : ℕ) (before : Layout) (e : Entry) → isSaid (placed start before e 0) ≡ true → Fits start before e
-fits-there start before e h = let s = said-some (placed start before e 0) h in placed-there start before e (s .0) 0 (s .1) .0
 
 pub entry-length : (e : Entry) → length (entryText e) ≡ 7
 unfolding entryText

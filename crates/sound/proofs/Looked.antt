@@ -22,8 +22,9 @@ use Rattle.trips.proofs.Texts.{shaped-there}
 use Rattle.trips.proofs.Columned.{Fronted, by-said}
 use Rattle.trips.proofs.Extras.{extra-front}
 use Rattle.trips.proofs.Fixes.{fix-front}
-use Rattle.sound.proofs.Each.{each-map, each-cut, none-found}
-use Rattle.sound.proofs.Entries.{Fits, Tiled}
+use Rattle.trips.proofs.Each.{each-map, each-cut, none-found}
+use Rattle.trips.proofs.Placing.{Fits}
+use Rattle.sound.proofs.Entries.{Tiled}
 use Rattle.sound.proofs.Placed.{laid, with-laid, Coded, carries-none, Sound, allowed-there}
 use Rattle.sound.proofs.Columns.{end-of, line-end}
 use Rattle.rules.specs.Looks.{carriedIn, twice, isInside, areInside, fitsLine, lookSaid}

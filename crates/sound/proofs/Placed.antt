@@ -21,7 +21,7 @@ use Rattle.rules.specs.declared.Layout.{Layout}
 use Rattle.rules.specs.declared.Family.{Family}
 use Rattle.rules.proofs.Inverse.{refuses-says, given-inv, need-inv, then-inv, and-inv}
 use Rattle.trips.proofs.Texts.{shaped-there}
-use Rattle.sound.proofs.Each.{each-map, nothing-found, none-found}
+use Rattle.trips.proofs.Each.{each-map, nothing-found, none-found}
 use Rattle.sound.proofs.Entries.{withAll, Tiled, tiled-there, tiled-said, entries-there}
 
 -- ---- a layout is its entries, and nothing behind them

@@ -5,12 +5,13 @@ use mathlib.Core.List.{List, [], _∷_}
 use mathlib.Core.Option.{Option, none, some}
 use mathlib.Core.Path.{_≡_, refl, sym, ap, _∙_}
 use native.Mathlib.Omega.{arith}
+use borrow.Author.Tests.{ne-eqb}
 use lib.ListN.{length, getD, set, take, drop, replicate, length-take, length-drop, drop-of-length-le}
 use lib.Seq.{sets, drop-cons, getD-take}
 use Rattle.rules.specs.Choice.{given, on, part, byte}
-use Rattle.rules.specs.Fields.{timeAt, timeTold}
+use Rattle.rules.specs.Fields.{mostLatitude, mostLongitude, timeAt, timeTold}
 use Rattle.rules.specs.Layouts.{unused, entriesOf}
-use Rattle.rules.specs.Lines.{fixFields}
+use Rattle.rules.specs.Lines.{fixFields, atLimit}
 use Rattle.rules.specs.Reads.{fixFieldsTold}
 use Rattle.rules.specs.Refusals.{Said, breaks}
 use Rattle.rules.specs.declared.Entry.{Entry}
@@ -24,7 +25,7 @@ use Rattle.plain.specs.Plain.{isPlain, isMild, every}
 use Rattle.plain.proofs.Laws.{plain-is-mild}
 use Rattle.front.specs.Front.{isFront}
 use Rattle.front.proofs.There.{front-there}
-use Rattle.sure.specs.Sure.{ruleOf, keepsAs, patternOf, keepsPattern, timeOf}
+use Rattle.sure.specs.Sure.{ruleOf, keepsAs, patternOf, keepsPattern, belowTime, timeOf}
 use Rattle.rules.specs.declared.Class.the-variants as class
 
 -- ---- the pattern of a layout
@@ -86,9 +87,9 @@ module _ (l p : List ℕ) (i : ℕ) where
 pub clean-plain : (l : List ℕ) (r : Bool) → r ≡ every isPlain l → r ≡ true → true ≡ every isMild l
 clean-plain l r e t = sym (plain-is-mild l (sym e ∙ t))
 
-pub time-is : (l : List ℕ) (r : FixFieldsRead) (f : FixFields) → fixFieldsTold r ≡ fixFields l → r ≡ fixFieldsRead.Is f → some (f .time) ≡ timeOf (fixFields l)
+pub time-is : (l : List ℕ) (r : FixFieldsRead) (f : FixFields) (t : Time) → fixFieldsTold r ≡ fixFields l → r ≡ fixFieldsRead.Is f → timeTold t ≡ belowTime f → timeTold t ≡ timeOf (fixFields l)
 unfolding fixFieldsTold
-time-is l r f e g = rw (← e, g)
+time-is l r f t e g h = rw (← e, g) h
 
 pub time-not : (l : List ℕ) (r : FixFieldsRead) (w : Refusal) → fixFieldsTold r ≡ fixFields l → r ≡ fixFieldsRead.Refused w → none ≡ timeOf (fixFields l)
 unfolding fixFieldsTold
@@ -101,10 +102,12 @@ timed none f e = refl
 timed (some t) f e = e t
 
 pub front-time : (l : List ℕ) → isFront l ≡ true → timeOf (fixFields l) ≡ timeAt l 1
-unfolding fixFields on
+unfolding fixFields on belowTime atLimit
 front-time l e =
     let p = front-there l e in
-    timed (timeAt l 1) _ (λ t. rw (p .lat .read, p .lon .read, p .valid, p .pressure .read, p .gnss .read))
+    let lat = ne-eqb (p .lat .value .count) mostLatitude (λ z. omega (arith, p .lat .below)) in
+    let lon = ne-eqb (p .lon .value .count) mostLongitude (λ z. omega (arith, p .lon .below)) in
+    timed (timeAt l 1) _ (λ t. rw (p .lat .read, p .lon .read, p .valid, p .pressure .read, p .gnss .read, lat, lon))
 
 pub quick-time : (l : List ℕ) (t : Bool) (r : Time) → t ≡ isFront l → t ≡ true → timeTold r ≡ timeAt l 1 → timeTold r ≡ timeOf (fixFields l)
 quick-time l t r e h q = q ∙ sym (front-time l (sym e ∙ h))

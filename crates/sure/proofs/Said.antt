@@ -14,9 +14,10 @@ use Rattle.rules.specs.Choice.{leads, firstOf, given, need, part, byte}
 use Rattle.rules.specs.Chars.{isDigit, characters}
 use Rattle.rules.specs.Fields.{timeAt}
 use Rattle.rules.specs.Layouts.{entriesOf, spanOf, columnText, badColumn, columns, lineLength, withEntry, isSaid, isSpelt, placed, allPlaced, allowed}
-use Rattle.rules.specs.Lines.{isSized, shaped, shapedBy, bLine, extraLine, columnedLine, fixFields}
-use Rattle.rules.specs.Listed.{listedNumber, listed, unlisted, isDigits, keepsSign, keepsRule}
+use Rattle.rules.specs.Lines.{isSized, shaped, shapedBy, bLine, extraLine, columnedLine, fixFields, atLimit}
+use Rattle.rules.specs.Listed.{listedNumber, listed, unlisted, isDigits, keepsSign, keepsRule, offLimit, isPast, keepsLimit}
 use Rattle.rules.specs.Refusals.{Said, says, refuses, no}
+use Rattle.rules.specs.declared.AtLimit.{AtLimit}
 use Rattle.rules.specs.declared.Entry.{Entry}
 use Rattle.rules.specs.declared.Family.{Family}
 use Rattle.rules.specs.declared.Family.the-variants as family
@@ -25,7 +26,7 @@ use Rattle.rules.specs.declared.Layout.{Layout}
 use Rattle.plain.specs.Plain.{isMild, every}
 use Rattle.rules.proofs.Inverse.{and-inv}
 use Rattle.plain.proofs.Laws.{mild-valid}
-use Rattle.sure.specs.Sure.{ruleOf, keepsAs, patternOf, keepsPattern, timeOf, fieldsTime, sureTime}
+use Rattle.sure.specs.Sure.{ruleOf, keepsAs, patternOf, keepsPattern, belowTime, timeOf, fieldsTime, sureTime}
 
 -- ---- the shape
 
@@ -58,6 +59,7 @@ as-rule : (x : ℕ) (t : List ℕ) → keepsAs (ruleOf x) t ≡ keepsRule x t
 unfolding keepsAs ruleOf keepsRule
 as-rule x t = held-rule (listedNumber x) t
 
+-- a column that breaks its code's own rule: away from the limits there is no other
 abbrev bad : List ℕ → Entry → Bool
 bad l e = not (keepsRule (e .code) (columnText l (spanOf e)))
 
@@ -118,10 +120,10 @@ or-inv : {P : Type 0} (p q : Bool) → (p || q) ≡ true → (p ≡ true → P) 
 or-inv true q e f g = f refl
 or-inv false q e f g = g e
 
--- the columns of a line keep their rules
+-- the columns of a line with no coordinate at its limit keep their rules
 columns-said : (f : Family) (l : List ℕ) (layout : Layout) → allowed (firstStart f) layout ≡ true → (isDigits (drop (byte (firstStart f)) l) || keepsPattern l (patternOf (entriesOf layout))) ≡ true
-    → columns l layout ≡ says tt
-unfolding columns badColumn allowed
+    → columns offLimit l layout ≡ says tt
+unfolding columns badColumn keepsLimit isPast allowed
 columns-said f l layout a e =
     let p = and-inv (leb (layout .count) 13) _ (and-inv _ _ a .0) .1 in
     let none : firstOf (bad l) (λ k x. x .first) (entriesOf layout) 0 ≡ none =
@@ -158,19 +160,32 @@ parts f l size pattern t e =
     let c = given-parts (fieldsTime f l) _ t (b .1) in
     record { long = eqb-true (length l) size (a .0); mild = b .0; fields = c .0; columns = c .1 }
 
--- a fix of this time is read
+-- a fix of this time is read, with no coordinate at its limit
 record FieldsTimed (s : Said FixFields) (t : ℕ) : Type 0 where
   fix : FixFields
   read : s ≡ says fix
   time : fix .time ≡ t
+  off : atLimit fix ≡ offLimit
+
+is-not : (t : Bool) → not t ≡ true → t ≡ false
+is-not true e = sym e
+is-not false e = refl
+
+limits : (a b : AtLimit) → a .lat ≡ b .lat → a .lon ≡ b .lon → a ≡ b
+limits a b e f = ap (λ (x : Bool). record { lat = x; lon = a .lon }) e ∙ ap (λ (y : Bool). record { lat = b .lat; lon = y }) f
 
 fields-timed : (s : Said FixFields) (t : ℕ) → timeOf s ≡ some t → FieldsTimed s t
-fields-timed (says f) t e = record { fix = f; read = refl; time = cc }
+unfolding belowTime
+fields-timed (says f) t e =
+    let a = need-some (not (atLimit f .lat)) _ t e in
+    let b = need-some (not (atLimit f .lon)) _ t (a .1) in
+    let same : some (f .time) ≡ some t = b .1 in
+    record { fix = f; read = refl; time = cc; off = limits (atLimit f) offLimit (is-not (atLimit f .lat) (a .0)) (is-not (atLimit f .lon) (b .0)) }
 fields-timed (refuses n l b) t e = let z : _≡_ {A = ℕ} 0 1 = cc in absurd (omega arith)
 
-fix-said : (layout : Layout) (l : List ℕ) (f : FixFields) → shapedBy (firstStart family.B) layout l ≡ says tt → fixFields l ≡ says f → columns l layout ≡ says tt → bLine layout l ≡ says f
+fix-said : (layout : Layout) (l : List ℕ) (f : FixFields) → shapedBy (firstStart family.B) layout l ≡ says tt → fixFields l ≡ says f → atLimit f ≡ offLimit → columns offLimit l layout ≡ says tt → bLine layout l ≡ says f
 unfolding bLine
-fix-said layout l f s r c = rw (s, r, c)
+fix-said layout l f s r o c = rw (s, r, o, c)
 
 -- a line of a family is read with its time
 pub sure-columned : (f : Family) (layout : Layout) (l : List ℕ) (t : ℕ) → allowed (firstStart f) layout ≡ true → SureParts f l (lineLength (firstStart f) layout) (patternOf (entriesOf layout)) t
@@ -178,5 +193,5 @@ pub sure-columned : (f : Family) (layout : Layout) (l : List ℕ) (t : ℕ) → 
 unfolding columnedLine extraLine fieldsTime
 sure-columned family.B layout l t a p =
     let f = fields-timed (fixFields l) t (p .fields) in
-    rw (fix-said layout l (f .fix) (mild-shaped (firstStart family.B) layout l (p .long) (p .mild)) (f .read) (columns-said family.B l layout a (p .columns)), f .time)
+    rw (fix-said layout l (f .fix) (mild-shaped (firstStart family.B) layout l (p .long) (p .mild)) (f .read) (f .off) (columns-said family.B l layout a (p .columns)), f .time)
 sure-columned (family.Extra e) layout l t a p = rw (mild-shaped 8 layout l (p .long) (p .mild), p .fields, columns-said (family.Extra e) l layout a (p .columns))

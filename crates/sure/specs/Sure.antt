@@ -1,6 +1,7 @@
--- A line with columns that is surely good: its bytes are mild, and so valid in every line, its fields keep their rules, and its columns hold what the pattern of their layout says.
+-- A line with columns that is surely good: its bytes are mild, and so valid in every line, its fields keep their rules, its position is below the limits, and its columns hold what the
+-- pattern of their layout says.
 use Prim.Native.Nat.{ℕ}
-use mathlib.Core.Bool.{Bool, true, cond, _&&_, _||_}
+use mathlib.Core.Bool.{Bool, true, not, cond, _&&_, _||_}
 use mathlib.Core.List.{List, [], _∷_}
 use mathlib.Core.Option.{Option, none, some}
 use mathlib.Core.Path.{_≡_}
@@ -11,7 +12,7 @@ use Rattle.rules.specs.Families.{firstStart}
 use Rattle.rules.specs.Choice.{given, need, part, byte, bytes}
 use Rattle.rules.specs.Fields.{timeAt, timeTold}
 use Rattle.rules.specs.Layouts.{entriesOf}
-use Rattle.rules.specs.Lines.{fixFields}
+use Rattle.rules.specs.Lines.{fixFields, atLimit}
 use Rattle.rules.specs.Listed.{isDigits, keepsSign, keepsRule}
 use Rattle.rules.specs.Refusals.{Said, says, refuses}
 use Rattle.rules.specs.declared.Entry.{Entry}
@@ -43,11 +44,18 @@ keepsPattern l (a ∷ []) = true
 keepsPattern l (a ∷ e ∷ []) = true
 keepsPattern l (a ∷ e ∷ rule ∷ rest) = keepsAs rule (part (byte a) e l) && keepsPattern l rest
 
+-- the time of a fix with both coordinates below their limits: at a limit the digits of LAD and LOD would have to be looked at
+unfoldable pub belowTime : FixFields → Option ℕ
+belowTime f =
+    need (not (atLimit f .lat)) none λ _.
+    need (not (atLimit f .lon)) none λ _.
+    some (f .time)
+
 abbrev pub timeOf : Said FixFields → Option ℕ
-timeOf (says f) = some (f .time)
+timeOf (says f) = belowTime f
 timeOf (refuses n l b) = none
 
--- the time of a line whose fields before the columns keep their rules
+-- the time of a line whose fields before the columns keep their rules, below the limits
 unfoldable pub fieldsTime : Family → List ℕ → Option ℕ
 fieldsTime family.B l = timeOf (fixFields l)
 fieldsTime (family.Extra e) l = timeAt l 1

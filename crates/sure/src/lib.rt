@@ -7,8 +7,9 @@ ghost use Rattle.rules.specs.Choice.{byte, part};
 ghost use Rattle.rules.specs.Fields.{timeTold};
 ghost use Rattle.rules.specs.Lines.{fixFields};
 ghost use Rattle.plain.specs.Plain.{isMild, every};
-ghost use Rattle.sure.specs.Sure.{ruleOf, keepsAs, keepsPattern, timeOf, fieldsTime, isOpen, isEasy, cleanTime, patternTime, PatternGiven, SureTold};
+ghost use Rattle.sure.specs.Sure.{ruleOf, keepsAs, keepsPattern, belowTime, timeOf, fieldsTime, isOpen, isEasy, cleanTime, patternTime, PatternGiven, SureTold};
 use rules::Family;
+use rules::FixFields;
 use rules::FixFieldsRead;
 use rules::Layout;
 use rules::Time;
@@ -86,7 +87,21 @@ fn is_clean(line: &[u8]) -> bool
     plain::is_mild_from(line, 0)
 }
 
-// The time of a B line whose fields before its columns keep their rules. Where its bytes tell that the other fields do, none of them is read.
+// The time of a fix with both coordinates below their limits.
+fn below_time(f: FixFields) -> Time
+    ensures { λ r. ⌜ timeTold r ≡ belowTime f ⌝ }
+{
+    let at = fix::at_limit(f);
+    if at.lat {
+        return Time::NoTime;
+    }
+    if at.lon {
+        return Time::NoTime;
+    }
+    Time::Secs(f.time)
+}
+
+// The time of a B line whose fields before its columns keep their rules, with its position below the limits. Where its bytes tell that the other fields do, none of them is read.
 fn fix_time(line: &[u8]) -> Time
     ensures { λ r. ⌜ timeTold r ≡ timeOf (fixFields (now (line .entry))) ⌝ }
 {
@@ -94,7 +109,7 @@ fn fix_time(line: &[u8]) -> Time
         return field::time_at(line, 1);
     }
     match fix::fix_fields(line) {
-        FixFieldsRead::Is(f) => Time::Secs(f.time),
+        FixFieldsRead::Is(f) => below_time(f),
         FixFieldsRead::Refused(_) => Time::NoTime,
     }
 }
@@ -178,7 +193,8 @@ fn pattern_time(family: Family, line: &[u8], pattern: &[u8]) -> Time
     tail_time(family, line)
 }
 
-// The time of a line of this many bytes, all mild, whose fields keep their rules and whose columns are digits alone or hold what the pattern says. NoTime for any other line.
+// The time of a line of this many bytes, all mild, whose fields keep their rules, with a position below the limits, and whose columns are digits alone or hold what the pattern
+// says. NoTime for any other line.
 pub fn sure_line(family: Family, line: &[u8], size: usize, pattern: &[u8]) -> Time
     ensures { λ r. ⌜ SureTold family (now (line .entry)) size (now (pattern .entry)) r ⌝ }
 {

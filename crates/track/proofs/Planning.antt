@@ -10,7 +10,7 @@ use lib.Dec.{leb}
 use Rattle.rules.specs.Choice.{need}
 use Rattle.rules.specs.Families.{countOf}
 use Rattle.rules.specs.Files.{verdict, CheckedTold}
-use Rattle.rules.specs.Layouts.{lengthTold}
+use Rattle.rules.specs.Layouts.{emptyLayout, lengthTold}
 use Rattle.rules.specs.Order.{noFlight}
 use Rattle.rules.specs.Refusals.{Said, says, refuses, no, refusal, andThen, outcome, outcomeTold, valueOr}
 use Rattle.rules.specs.declared.Checked.{Checked}
@@ -42,7 +42,7 @@ module _ (s : Said ℕ) (r : LengthRead) (e : lengthTold r ≡ s) where
 
 -- ---- the plan
 
-pub refused-told : (w : Refusal) (start : Progress) → start ≡ startBy 0 → CourseTold (refusal w) (record { answer = tracked.Refused w; count = 0; start = start })
+pub refused-told : (w : Refusal) (start : Progress) → start ≡ startBy 0 emptyLayout → CourseTold (refusal w) (record { answer = tracked.Refused w; count = 0; start = start })
 unfolding trackedTold
 refused-told w start e = record { told = refl; count = refl; start = e }
 
@@ -50,10 +50,10 @@ module _ (f : Flight) (room : ℕ) where
   pub flight-short : (w : Refusal) (r : Course) → room < countOf family.B (f .counts) → w ≡ unplaced reason.NoRoom → CourseTold (refusal w) r → FlightPlanned f room r
   flight-short w r h e t = rw (lt-leb (countOf family.B (f .counts)) room h) (rw e at t)
 
-  pub flight-fits : (size : ℕ) (start : Progress) → countOf family.B (f .counts) ≤ room → size ≡ fixSize f → start ≡ startBy size
+  pub flight-fits : (size : ℕ) (start : Progress) → countOf family.B (f .counts) ≤ room → size ≡ fixSize f → start ≡ startBy size (f .layouts .b)
       → FlightPlanned f room (record { answer = tracked.Count (countOf family.B (f .counts)); count = countOf family.B (f .counts); start = start })
   unfolding trackedTold
-  flight-fits size start h e g = rw (le-leb (countOf family.B (f .counts)) room h) (record { told = refl; count = refl; start = g ∙ ap startBy e })
+  flight-fits size start h e g = rw (le-leb (countOf family.B (f .counts)) room h) (record { told = refl; count = refl; start = g ∙ ap (λ (n : ℕ). startBy n (f .layouts .b)) e })
 
 -- a refusal with no value, as one of a flight
 flightless : Said (Unit {0}) → Said Flight

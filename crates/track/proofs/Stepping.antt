@@ -11,7 +11,7 @@ use lib.Dec.{eqb, leb}
 use lib.ListN.{length, getD, drop}
 use lib.Seq.{getD-take, getD-drop}
 use Rattle.rules.specs.Choice.{on, part}
-use Rattle.rules.specs.Fixes.{fieldsOf}
+use Rattle.rules.specs.Fixes.{finerOf, fieldsOf}
 use Rattle.rules.specs.Layouts.{lineLength}
 use Rattle.rules.specs.Lines.{kindOf, isSized, shaped, shapedBy, fixFields}
 use Rattle.rules.specs.Order.{Passing, onward, nextDay, back, passing}
@@ -20,14 +20,16 @@ use Rattle.rules.specs.Refusals.{says}
 use Rattle.rules.specs.Split.{Lines, end, broken, line, linesOf}
 use Rattle.rules.specs.Walk.{Walk, timeOn, dayAfter, walkedBy, walked}
 use Rattle.rules.specs.declared.Family.the-variants as family
+use Rattle.rules.specs.declared.Finer.{Finer}
 use Rattle.rules.specs.declared.Fix.{Fix}
 use Rattle.rules.specs.declared.Layout.{Layout}
-use Rattle.rules.proofs.Fixes.{fix-of-fields}
 use Rattle.rules.proofs.Inverse.{refuses-says, need-inv, and-inv}
 use Rattle.laws.proofs.Splitting.{textsOf, line-at}
 use Rattle.trips.proofs.Columned.{by-said}
 use Rattle.trips.proofs.Fixes.{fields-said, fix-front, fix-fields}
 use Rattle.demands.specs.Grammar.{beginning}
+use Rattle.finer.specs.Within.{fixWithin}
+use Rattle.finer.proofs.Read.{fix-made}
 use Rattle.next_fix.specs.Steps.{walkOf, behind, skipped, passedBy, readAt, isFew, stepOf}
 use Rattle.next_fix.specs.Track.{recordOf, recordsOf, trackFrom}
 use Rattle.next_fix.specs.declared.FixStep.{FixStep}
@@ -50,6 +52,7 @@ pub record Fixed (layout : Layout) (t : List ℕ) (f : Fix) : Type 0 where
   pub long : length t ≡ lineLength 36 layout
   pub fields : fixFields t ≡ says (fieldsOf f)
   pub time : timeOn t ≡ some (fieldsOf f .time)
+  pub made : fixWithin t (finerOf layout) (fieldsOf f) ≡ f
 
 pub fixed : (layout : Layout) (t : List ℕ) (f : Fix) → fixSaid t layout ≡ says f → Fixed layout t f
 unfolding kindOf
@@ -58,7 +61,7 @@ fixed layout t f e =
     let said = fix-fields t layout f e in
     let w = by-said family.B t layout v said in
     let c = fix-front .passes layout t v .0 (w .2) in
-    record { letter = w .0; long = sized 36 layout t (c .shape); fields = fields-said t v (c .fields); time = rw (w .0) (c .fields .at-time) }
+    record { letter = w .0; long = sized 36 layout t (c .shape); fields = fields-said t v (c .fields); time = rw (w .0) (c .fields .at-time); made = fix-made t layout f e }
 
 -- ---- the walk of a progress
 
@@ -122,6 +125,7 @@ module _ (file : List ℕ) (short : length file ≤ 16777216) (layout : Layout) 
     pub passed : p .lines ≤ p .at
     pub days : p .day ≤ p .lines
     pub size : p .size ≡ lineLength 36 layout
+    pub finer : p .finer ≡ finerOf layout
 
   few : (p : Progress) (k : Lines) → Here p k → isFew (length file) p ≡ true
   unfolding isFew
@@ -137,10 +141,11 @@ module _ (file : List ℕ) (short : length file ≤ 16777216) (layout : Layout) 
         passed = omega (arith, walk-lines o (walkOf p), h .passed, e);
         days = walk-within o (walkOf p) (h .days);
         size = h .size;
+        finer = h .finer;
       }
 
   -- a step from a B line, and over another line
-  step-fix : (p : Progress) (t : List ℕ) (ls : Lines) (f : Fix) → Here p (line t ls) → Fixed layout t f → stepOf file p ≡ passedBy p (fieldsOf f)
+  step-fix : (p : Progress) (t : List ℕ) (ls : Lines) (f : Fix) → Here p (line t ls) → Fixed layout t f → stepOf file p ≡ passedBy t p (p .at + p .size + 2) (fieldsOf f)
   unfolding stepOf skipped readAt on
   step-fix p t ls f h w =
       let l = line-at file (p .at) t ls (h .lines) in
@@ -181,7 +186,8 @@ module _ (file : List ℕ) (short : length file ≤ 16777216) (layout : Layout) 
           let next = behind (some (v .time)) p (p .at + p .size + 2) in
           let n : p .at + p .size + 2 ≡ p .at + length t + 2 = omega (arith, h .size, w .long) in
           let more = later next (here-next p t ls (some (v .time)) (p .at + p .size + 2) h n) in
-          rw (w .time, q .1, step-fix p t ls (q .0) h w, fix-of-fields (q .0)) (ap (λ (x : List Record). recordOf (walkedBy (some (v .time)) (walkOf p)) (q .0) ∷ x) more)
+          let made : fixWithin t (p .finer) v ≡ q .0 = ap (λ (fine : Finer). fixWithin t fine v) (h .finer) ∙ w .made in
+          rw (w .time, q .1, step-fix p t ls (q .0) h w, made) (ap (λ (x : List Record). recordOf (walkedBy (some (v .time)) (walkOf p)) (q .0) ∷ x) more)
       by false e later =
           let d = eqb-false (getD t 0 0) (code "B") e in
           let next = behind (timeOn t) p (p .at + length t + 2) in

@@ -51,11 +51,11 @@ module _ (file : List ℕ) (f : Flight) (accepted : verdict trackSeal file none 
   pub counted-all : length (trackOf file layout) ≡ countOf family.B (f .counts)
   counted-all = as-many layout (linesOf file) setOut read ∙ sym (letters-counted trackSeal file f accepted family.B)
 
-  pub found-all : fixesFrom (stepOf file) (startBy (fixSize f)) (countOf family.B (f .counts)) ≡ trackOf file layout
-  found-all = rw (← counted-all) (steps-find file short layout (linesOf file) (startBy (fixSize f)) here read)
+  pub found-all : fixesFrom (stepOf file) (startBy (fixSize f) layout) (countOf family.B (f .counts)) ≡ trackOf file layout
+  found-all = rw (← counted-all) (steps-find file short layout (linesOf file) (startBy (fixSize f) layout) here read)
     where
-      here : Here file short layout (startBy (fixSize f)) (linesOf file)
-      here = record { lines = refl; inside = omega arith; passed = omega arith; days = omega arith; size = length-told trackSeal file f accepted family.B }
+      here : Here file short layout (startBy (fixSize f) layout) (linesOf file)
+      here = record { lines = refl; inside = omega arith; passed = omega arith; days = omega arith; size = length-told trackSeal file f accepted family.B; finer = refl }
 
 -- ---- the whole track
 

@@ -6,10 +6,12 @@ use lib.Dec.{leb}
 use lib.ListN.{length}
 use Rattle.rules.specs.Choice.{need}
 use Rattle.rules.specs.Families.{countOf}
-use Rattle.rules.specs.Layouts.{lengthSaid}
+use Rattle.rules.specs.Fixes.{finerOf}
+use Rattle.rules.specs.Layouts.{emptyLayout, lengthSaid}
 use Rattle.rules.specs.Refusals.{Said, says, refuses, no, refusal, andThen, valueOr}
 use Rattle.rules.specs.declared.Family.the-variants as family
 use Rattle.rules.specs.declared.Flight.{Flight}
+use Rattle.rules.specs.declared.Layout.{Layout}
 use Rattle.rules.specs.declared.Reason.the-variants.{NoRoom}
 use Rattle.rules.specs.declared.Refusal.{Refusal}
 use Rattle.next_fix.specs.Track.{flightTracked, trackSaid, listAfter}
@@ -24,12 +26,12 @@ unfoldable pub trackedTold : Tracked → Said ℕ
 trackedTold (tracked.Count n) = says n
 trackedTold (tracked.Refused r) = refusal r
 
--- before the first line
-abbrev pub startBy : ℕ → Progress
-startBy size = record { at = 0; lines = 0; clock = 0; day = 0; size = size }
+-- before the first line, by the length of B lines and their layout
+abbrev pub startBy : ℕ → Layout → Progress
+startBy size layout = record { at = 0; lines = 0; clock = 0; day = 0; size = size; finer = finerOf layout }
 
-abbrev pub StartGiven : ℕ → Progress → Type 0
-StartGiven size r = r ≡ startBy size
+abbrev pub StartGiven : ℕ → Layout → Progress → Type 0
+StartGiven size layout r = r ≡ startBy size layout
 
 -- how many bytes a B line has by the file's layout
 abbrev pub fixSize : Flight → ℕ
@@ -41,8 +43,8 @@ countIn (says f) = countOf family.B (f .counts)
 countIn (refuses n l b) = 0
 
 abbrev pub startIn : Said Flight → Progress
-startIn (says f) = startBy (fixSize f)
-startIn (refuses n l b) = startBy 0
+startIn (says f) = startBy (fixSize f) (f .layouts .b)
+startIn (refuses n l b) = startBy 0 emptyLayout
 
 -- the plan for what is said of a file
 pub record CourseTold (s : Said Flight) (r : Course) : Type 0 where

@@ -6,6 +6,7 @@ use next_fix::Progress;
 use next_fix::Record;
 use rules::Family;
 use rules::Flight;
+use rules::Layout;
 use rules::LengthRead;
 use rules::Outcome;
 use rules::Reason;
@@ -25,9 +26,9 @@ pub struct Course {
     pub start: Progress,
 }
 
-// Before the first line of a file whose B lines have so many bytes.
-fn set_out(size: usize) -> Progress
-    ensures { λ r. ⌜ StartGiven size r ⌝ }
+// Before the first line of a file whose B lines have so many bytes and this layout.
+fn set_out(size: usize, layout: Layout) -> Progress
+    ensures { λ r. ⌜ StartGiven size layout r ⌝ }
 {
     Progress {
         at: 0,
@@ -35,6 +36,7 @@ fn set_out(size: usize) -> Progress
         clock: 0,
         day: 0,
         size,
+        finer: finer::finer_of(layout),
     }
 }
 
@@ -45,7 +47,7 @@ fn refused(why: Refusal) -> Course
     Course {
         answer: Tracked::Refused(why),
         count: 0,
-        start: set_out(0),
+        start: set_out(0, layout::empty_layout()),
     }
 }
 
@@ -66,6 +68,7 @@ fn for_flight(flight: Flight, room: usize) -> Course
     ensures { λ r. ⌜ FlightPlanned flight room r ⌝ }
 {
     let counts = flight.counts;
+    let layouts = flight.layouts;
     let count = counts.b as usize;
     if room < count {
         return refused(cut::unplaced(Reason::NoRoom));
@@ -73,7 +76,7 @@ fn for_flight(flight: Flight, room: usize) -> Course
     Course {
         answer: Tracked::Count(count),
         count,
-        start: set_out(fix_size(flight)),
+        start: set_out(fix_size(flight), layouts.b),
     }
 }
 

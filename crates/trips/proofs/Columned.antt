@@ -14,8 +14,10 @@ use Rattle.rules.specs.Choice.{need}
 use Rattle.rules.specs.Families.{firstStart, lineLetter}
 use Rattle.rules.specs.Refusals.{says}
 use Rattle.rules.specs.Layouts.{allowed, columns}
-use Rattle.rules.specs.Lines.{shapedBy, bLine, FieldsIn, timeIn, familyLine, columnedLine}
+use Rattle.rules.specs.Listed.{offLimit}
+use Rattle.rules.specs.Lines.{shapedBy, bLine, atLimit, FieldsIn, timeIn, familyLine, columnedLine}
 use Rattle.rules.specs.Reads.{fieldsSaid, valueFrom, saidOf, reading}
+use Rattle.rules.specs.declared.AtLimit.{AtLimit}
 use Rattle.rules.specs.declared.Layout.{Layout}
 use Rattle.rules.specs.declared.Family.{Family}
 use Rattle.rules.specs.declared.Family.the-variants as family
@@ -38,7 +40,7 @@ timed-line family.B layout l t e = let r = then-inv (bLine layout l) t _ e in (r
 timed-line (family.Extra x) layout l t e = (t, e, refl)
 
 -- the value that its reader gives
-pub value-said : (f : Family) (l : List ℕ) (layout : Layout) (v : FieldsIn f) → fieldsSaid f l layout ≡ says v → saidOf f l layout ≡ says (valueFrom f v)
+pub value-said : (f : Family) (l : List ℕ) (layout : Layout) (v : FieldsIn f) → fieldsSaid f l layout ≡ says v → saidOf f l layout ≡ says (valueFrom f l layout v)
 value-said family.B l layout v e = rw e
 value-said (family.Extra x) l layout t e = e
 
@@ -54,17 +56,22 @@ module _ (f : Family) (l : List ℕ) (layout : Layout) (v : FieldsIn f) where
       (eqb-true _ _ (k .0), g .0, g .1)
 
   -- the whole reading
-  pub reading-said : fieldsSaid f l layout ≡ says v → reading f l layout ≡ says (record { value = valueFrom f v; entries = layout })
+  pub reading-said : fieldsSaid f l layout ≡ says v → reading f l layout ≡ says (record { value = valueFrom f l layout v; entries = layout })
   unfolding reading
   reading-said e = rw (value-said f l layout v e)
 
 -- ---- the fields before the columns, and the columns
 
+-- which coordinates stand at their limit: of a B line those of its fields; K and N lines have none
+abbrev pub limitIn : (f : Family) → FieldsIn f → AtLimit
+limitIn family.B v = atLimit v
+limitIn (family.Extra e) t = offLimit
+
 -- what a line's checks by its layout say, where its fields are read: `At l v` is that they stand there
 pub record Passed (f : Family) (At : List ℕ → FieldsIn f → Type 0) (layout : Layout) (l : List ℕ) (v : FieldsIn f) : Type 0 where
   pub shape : shapedBy (firstStart f) layout l ≡ says tt
   pub fields : At l v
-  pub ruled : columns l layout ≡ says tt
+  pub ruled : columns (limitIn f v) l layout ≡ says tt
 
 -- The fields of a family's lines: they are read exactly where their text stands, up to the first start, of valid characters, and they are within their limits.
 pub record Fronted (f : Family) (At : List ℕ → FieldsIn f → Type 0) (text : FieldsIn f → List ℕ → List ℕ) (within : FieldsIn f → Bool) : Type 0 where
@@ -78,7 +85,7 @@ pub record Fronted (f : Family) (At : List ℕ → FieldsIn f → Type 0) (text 
   pub here : (v : FieldsIn f) (tail : List ℕ) → within v ≡ true → At (text v tail) v
 
 module _ {f : Family} {At : List ℕ → FieldsIn f → Type 0} {text : FieldsIn f → List ℕ → List ℕ} {within : FieldsIn f → Bool} (front : Fronted f At text within) (layout : Layout) where
-  pub fields-trip : LineTrip (λ l. fieldsSaid f l layout) text (firstStart f - 1) (λ v tail. need (within v) false λ _. goodTail (firstStart f) tail layout)
+  pub fields-trip : LineTrip (λ l. fieldsSaid f l layout) text (firstStart f - 1) (λ v tail. need (within v) false λ _. goodTail (limitIn f v) (firstStart f) tail layout)
   fields-trip = record {
     there = λ l v e.
         let w = by-said f l layout v e in
@@ -88,10 +95,10 @@ module _ {f : Family} {At : List ℕ → FieldsIn f → Type 0} {text : FieldsIn
         let w = by-said f (text v tail) layout v e in
         let p = front .passes layout (text v tail) v .0 (w .2) in
         let s = front .splits v tail in
-        simp (front .limits (text v tail) v (p .fields), tail-there (firstStart f) layout (text v []) tail (front .long v) tt tt (w .1) (rw s at (p .shape)) (rw s at (p .ruled)));
+        simp (front .limits (text v tail) v (p .fields), tail-there (firstStart f) (text v []) tail (front .long v) (limitIn f v) layout tt tt (w .1) (rw s at (p .shape)) (rw s at (p .ruled)));
     here = λ v tail g.
         let h = need-inv (within v) false true _ false-true g in
-        let t = tail-here (firstStart f) layout (text v []) tail (front .long v) (front .clean v (h .0)) (h .1) in
+        let t = tail-here (firstStart f) (text v []) tail (front .long v) (limitIn f v) layout (front .clean v (h .0)) (h .1) in
         let s = front .splits v tail in
         let p : Passed f At layout (text v tail) v = record { shape = rw s (t .1); fields = front .here v tail (h .0); ruled = rw s (t .2) } in
         said-by f (text v tail) layout v (front .begins v tail) (t .0) (front .passes layout (text v tail) v .1 p);

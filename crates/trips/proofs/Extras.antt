@@ -10,6 +10,7 @@ use Rattle.rules.specs.Families.{lineLetter}
 use Rattle.rules.specs.Refusals.{says}
 use Rattle.rules.specs.Chars.{isValid}
 use Rattle.rules.specs.Fields.{timeAt, timeText}
+use Rattle.rules.specs.Listed.{offLimit}
 use Rattle.rules.specs.Layouts.{columns}
 use Rattle.rules.specs.Lines.{shapedBy, extraLine}
 use Rattle.rules.specs.Reads.{extraSaid}
@@ -48,7 +49,7 @@ module _ (x : Extra) where
   passed-there layout l t e =
       let s = then-inv (shapedBy 8 layout l) t _ e in
       let y = given-inv (timeAt l 1) _ (says t) _ refuses-says (s .2) in
-      let c = then-inv (columns l layout) t _ (y .2) in
+      let c = then-inv (columns offLimit l layout) t _ (y .2) in
       let i : y .0 ≡ t = cc in
       record { shape = s .1; fields = y .1 ∙ ap some i; ruled = c .1 }
 

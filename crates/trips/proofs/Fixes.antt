@@ -1,30 +1,29 @@
--- A B line both ways: with its layout it reads as a fix exactly when it is that fix's own line, the fix's fields within their limits and its tail what the layout gives.
--- Assumes nothing.
+-- A B line both ways: with its layout it reads as a fix exactly when it is that fix's own line, the fix's fields within their limits, its tail what the layout gives, and its counts
+-- split as the columns of finer digits have them. Assumes nothing.
 use Prim.Native.Nat.{ℕ}
 use Prim.Native.Char.{code}
-use mathlib.Core.Bool.{true, false}
+use mathlib.Core.Bool.{Bool, true, false}
 use mathlib.Core.List.{List, [], _∷_, _++_, append-assoc, append-nil}
 use mathlib.Core.Option.{some}
-use mathlib.Core.Path.{_≡_, refl, _∙_, ap}
+use mathlib.Core.Path.{_≡_, refl, sym, _∙_, ap, subst}
 use native.Mathlib.Omega.{arith}
 use lib.ListN.{getD, drop, length-append}
-use Rattle.rules.specs.Choice.{on}
+use Rattle.rules.specs.Choice.{on, need}
 use Rattle.rules.specs.Refusals.{says}
 use Rattle.rules.specs.Chars.{isValid}
 use Rattle.rules.specs.Fields.{timeAt, timeText, isEither, latitudeAt, longitudeAt, latitudeText, longitudeText, altitudeAt, altitudeText}
 use Rattle.rules.specs.Degrees.{isLatitude, isLongitude}
-use Rattle.rules.specs.Layouts.{columns}
-use Rattle.rules.specs.Lines.{shapedBy, fixFields, bLine}
-use Rattle.rules.specs.Fixes.{fixOf, fieldsOf}
+use Rattle.rules.specs.Layouts.{allowed, columns}
+use Rattle.rules.specs.Lines.{shapedBy, fixFields, atLimit, bLine}
+use Rattle.rules.specs.Fixes.{finerOf, fixOf, fieldsOf}
 use Rattle.rules.specs.Reads.{fieldsSaid, fixSaid}
 use Rattle.rules.specs.Writes.{fieldsText, fixText, sameFix, isFix}
 use Rattle.rules.specs.declared.FixFields.{FixFields}
 use Rattle.rules.specs.declared.Fix.{Fix}
 use Rattle.rules.specs.declared.Family.the-variants as family
 use Rattle.rules.specs.declared.Layout.{Layout}
-use Rattle.rules.specs.Limits.{isTime, isAltitude, goodFixFields, goodFix}
+use Rattle.rules.specs.Limits.{isTime, isAltitude, goodTail, goodFixFields, isFine, goodFix}
 use Rattle.rules.proofs.Inverse.{false-true, refuses-says, given-inv, need-inv, then-inv}
-use Rattle.rules.proofs.Fixes.{fields-of-fix, fix-of-fields}
 use Rattle.trips.proofs.Laws.{past, byte-there, byte-here}
 use Rattle.trips.proofs.Texts.{areValid, both-valid, valid-low}
 use Rattle.trips.proofs.Times.{time-trip}
@@ -33,6 +32,7 @@ use Rattle.trips.proofs.Altitudes.{altitude-trip}
 use Rattle.trips.proofs.Same.{fix-tells}
 use Rattle.trips.proofs.LineTrip.{LineTrip, is-good, said-from, through}
 use Rattle.trips.proofs.Columned.{Passed, Fronted, fields-trip}
+use Rattle.trips.proofs.Refined.{AreSplit, fields-of-fix, fix-of-fields, fix-split, splits-there, splits-here, split-fine}
 
 -- ---- the fields
 
@@ -105,9 +105,9 @@ unfolding bLine
 passed-there layout l f e =
     let s = then-inv (shapedBy 36 layout l) f _ e in
     let x = then-inv (fixFields l) f _ (s .2) in
-    let c = then-inv (columns l layout) f _ (x .2) in
+    let c = then-inv (columns (atLimit (x .0)) l layout) f _ (x .2) in
     let i : x .0 ≡ f = cc in
-    record { shape = s .1; fields = fields-there l f (x .1 ∙ ap says i); ruled = c .1 }
+    record { shape = s .1; fields = fields-there l f (x .1 ∙ ap says i); ruled = ap (λ v. columns (atLimit v) l layout) (sym i) ∙ c .1 }
 
 passed-said : (layout : Layout) (l : List ℕ) (f : FixFields) → Passed family.B FieldsThere layout l f → bLine layout l ≡ says f
 unfolding bLine
@@ -167,11 +167,47 @@ fix-front = record {
 -- a line that reads as a fix has its fields
 pub fix-fields : (l : List ℕ) (layout : Layout) (f : Fix) → fixSaid l layout ≡ says f → fieldsSaid family.B l layout ≡ says (fieldsOf f)
 unfolding fixSaid
-fix-fields l layout f e = said-from fixOf fieldsOf fields-of-fix (fieldsSaid family.B l layout) f e
+fix-fields l layout f e = said-from (λ l. fixOf l (finerOf layout)) fieldsOf (λ l. fields-of-fix l (finerOf layout)) l (fieldsSaid family.B l layout) f e .0
+
+-- what the writer tests of a fix and a tail: the fields and the tail are good, and the line that they make has the fix's decimals and last digits
+module _ (layout : Layout) (f : Fix) (tail : List ℕ) where
+  text : List ℕ
+  text = fieldsText (fieldsOf f) tail
+
+  whole : text ≡ fieldsText (fieldsOf f) [] ++ tail
+  unfolding text
+  whole = fix-front .splits (fieldsOf f) tail
+
+  plain-good : Bool
+  plain-good = need (goodFixFields (fieldsOf f)) false λ _. goodTail (atLimit (fieldsOf f)) 36 tail layout
+
+  split-there : goodFix f tail layout ≡ true → (plain-good ≡ true) × (fixOf text (finerOf layout) (fieldsOf f) ≡ f)
+  unfolding goodFix goodTail plain-good
+  split-there e =
+      let n = need-inv (isFine f) false true _ false-true e in
+      let g = need-inv (goodFixFields (fieldsOf f)) false true _ false-true (n .1) in
+      let t = need-inv (goodTail (atLimit (fieldsOf f)) 36 tail layout) false true _ false-true (g .1) in
+      let a = need-inv (allowed 36 layout) false true _ false-true (t .0) in
+      let w = splits-there layout (a .0) (fieldsText (fieldsOf f) []) tail (fix-front .long (fieldsOf f)) f (t .1) in
+      (rw (g .0) (t .0), fix-of-fields text (finerOf layout) f (rw whole w))
+
+  split-here : plain-good ≡ true → fixOf text (finerOf layout) (fieldsOf f) ≡ f → goodFix f tail layout ≡ true
+  unfolding goodFix goodTail plain-good
+  split-here e i =
+      let g = need-inv (goodFixFields (fieldsOf f)) false true _ false-true e in
+      let a = need-inv (allowed 36 layout) false true _ false-true (g .1) in
+      let s : AreSplit text (finerOf layout) f = subst (AreSplit text (finerOf layout)) i (fix-split text (finerOf layout) (fieldsOf f)) in
+      let w = rw whole at s in
+      let front = fieldsText (fieldsOf f) [] in
+      let long = fix-front .long (fieldsOf f) in
+      rw (split-fine layout (a .0) front tail long f w, g .0, g .1) (splits-here layout (a .0) front tail long f w)
 
 pub fix-trip : (layout : Layout) → LineTrip (λ l. fixSaid l layout) fixText 35 (λ f tail. goodFix f tail layout)
-unfolding fixSaid fixText goodFix
-fix-trip layout = through fixOf fieldsOf fields-of-fix fix-of-fields (fields-trip fix-front layout)
+unfolding fixSaid fixText text plain-good
+fix-trip layout =
+    through (λ l. fixOf l (finerOf layout)) fieldsOf (λ l. fields-of-fix l (finerOf layout)) (λ f tail. goodFix f tail layout)
+    (λ f tail. (split-there layout f tail, λ h. split-here layout f tail (h .0) (h .1)))
+    (fields-trip fix-front layout)
 
 -- a fix and a tail can be written exactly when they keep to their limits
 pub fix-good : (f : Fix) (tail : List ℕ) (layout : Layout) → isFix f tail layout ≡ goodFix f tail layout

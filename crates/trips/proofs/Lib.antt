@@ -1,4 +1,5 @@
 pub mod Laws
+pub mod Each
 pub mod Texts
 pub mod Trip
 pub mod Digits
@@ -10,7 +11,10 @@ pub mod Plans
 pub mod Same
 pub mod LineTrip
 pub mod Points
+pub mod Placing
 pub mod Tails
+pub mod Refined
+pub mod AtLimits
 pub mod Columned
 pub mod Extras
 pub mod Heads

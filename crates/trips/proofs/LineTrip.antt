@@ -31,22 +31,25 @@ module _ {A : Type 0} {said : List ℕ → Said A} {text : A → List ℕ → Li
     pub is-good : reads same (said (text v rest)) v ≡ good v rest
     is-good = bool-eq _ _ (λ e. trip .limits v rest (own .0 e)) (λ g. own .1 (trip .here v rest g))
 
--- ---- values that others stand for, one to one
+-- ---- values that others are made of, with the line
 
-module _ {A B : Type 0} (to : A → B) (from : B → A) (back : (v : A) → from (to v) ≡ v) where
-  -- what is said as w is said of the value that w stands for
-  pub said-from : (s : Said A) (w : B) → (andThen s λ v. says (to v)) ≡ says w → s ≡ says (from w)
-  said-from s w e =
+module _ {A B : Type 0} (to : List ℕ → A → B) (from : B → A) (back : (l : List ℕ) (v : A) → from (to l v) ≡ v) where
+  -- what is said as w is said of the value that w is made of, and the line makes w of it
+  pub said-from : (l : List ℕ) (s : Said A) (w : B) → (andThen s λ v. says (to l v)) ≡ says w → (s ≡ says (from w)) × (to l (from w) ≡ w)
+  said-from l s w e =
       let r = then-inv s w _ e in
-      let i : to (r .0) ≡ w = cc in
-      r .1 ∙ ap says (sym (back (r .0)) ∙ ap from i)
+      let i : to l (r .0) ≡ w = cc in
+      let j : r .0 ≡ from w = sym (back l (r .0)) ∙ ap from i in
+      (r .1 ∙ ap says j, ap (to l) (sym j) ∙ i)
 
-  -- and the trip is the same
-  pub through : {said : List ℕ → Said A} {text : A → List ℕ → List ℕ} {head : ℕ} {good : A → List ℕ → Bool} → ((w : B) → to (from w) ≡ w) → LineTrip said text head good
-      → LineTrip (λ l. andThen (said l) λ v. says (to v)) (λ w. text (from w)) head (λ w. good (from w))
-  through forth trip = record {
-    there = λ l w e. trip .there l (from w) (said-from _ w e);
+  -- and the trip is one where the good are those that their own lines make
+  pub through : {said : List ℕ → Said A} {text : A → List ℕ → List ℕ} {head : ℕ} {good : A → List ℕ → Bool} (fine : B → List ℕ → Bool)
+      → ((w : B) (rest : List ℕ) → (fine w rest ≡ true) ↔ ((good (from w) rest ≡ true) × (to (text (from w) rest) (from w) ≡ w)))
+      → LineTrip said text head good
+      → LineTrip (λ l. andThen (said l) λ v. says (to l v)) (λ w. text (from w)) head fine
+  through fine exactly trip = record {
+    there = λ l w e. trip .there l (from w) (said-from l _ w e .0);
     behind = λ w rest. trip .behind (from w) rest;
-    limits = λ w rest e. trip .limits (from w) rest (said-from _ w e);
-    here = λ w rest g. rw (trip .here (from w) rest g, forth w);
+    limits = λ w rest e. let s = said-from _ _ w e in exactly w rest .1 (trip .limits (from w) rest (s .0), s .1);
+    here = λ w rest g. let h = exactly w rest .0 g in rw (trip .here (from w) rest (h .0), h .1);
   }

@@ -6,7 +6,7 @@ use borrow.Author.Tests.{eqb-true, eq-eqb}
 use lib.Dec.{eqb}
 use lib.IntN.{ℤ, pos, negsuc}
 use Rattle.rules.specs.Refusals.{Said, says, refuses}
-use Rattle.rules.specs.Writes.{sameInteger, samePosition, sameFix, sameDate, samePlanned, sameHead, samePoint, reads}
+use Rattle.rules.specs.Writes.{sameInteger, samePosition, sameFinePosition, sameFix, sameDate, samePlanned, sameHead, samePoint, reads}
 use Rattle.rules.specs.declared.Planned.{Planned}
 use Rattle.rules.specs.declared.Planned.the-variants as planned
 use Rattle.rules.proofs.Inverse.{false-true, and-inv}
@@ -98,30 +98,45 @@ head-tells = record {
       λ i. record { declared = d i; time = t i; flight = f i; task = n i; turns = p i };
 }
 
+pub fine-tells : Tells sameFinePosition
+fine-tells = record {
+  itself = λ p. simp (eq-eqb (p .count) (p .count) refl, eq-eqb (p .letter) (p .letter) refl, eq-eqb (p .decimals) (p .decimals) refl);
+  one = λ p q e.
+      let d = and-inv (eqb (p .count) (q .count) && eqb (p .letter) (q .letter)) _ e in
+      let t = and-inv (eqb (p .count) (q .count)) _ (d .0) in
+      let c = eqb-true _ _ (t .0) in
+      let l = eqb-true _ _ (t .1) in
+      let n = eqb-true _ _ (d .1) in
+      λ i. record { count = c i; letter = l i; decimals = n i };
+}
+
 pub fix-tells : Tells sameFix
 unfolding sameFix
 fix-tells = record {
   itself = λ f. simp (
-    eq-eqb (f .time) (f .time) refl,
-    position-tells .itself (f .lat),
-    position-tells .itself (f .lon),
+    eq-eqb (f .time .count) (f .time .count) refl,
+    eq-eqb (f .time .decimals) (f .time .decimals) refl,
+    fine-tells .itself (f .lat),
+    fine-tells .itself (f .lon),
     eq-eqb (f .validity) (f .validity) refl,
     integer-tells .itself (f .pressure .metres),
     integer-tells .itself (f .gnss .metres),
   );
   one = λ f g e.
-      let t₆ = and-inv (eqb (f .time) (g .time) && samePosition (f .lat) (g .lat) && samePosition (f .lon) (g .lon) && eqb (f .validity) (g .validity) && sameInteger (f .pressure .metres) (g .pressure .metres)) _ e in
-      let t₅ = and-inv (eqb (f .time) (g .time) && samePosition (f .lat) (g .lat) && samePosition (f .lon) (g .lon) && eqb (f .validity) (g .validity)) _ (t₆ .0) in
-      let t₄ = and-inv (eqb (f .time) (g .time) && samePosition (f .lat) (g .lat) && samePosition (f .lon) (g .lon)) _ (t₅ .0) in
-      let t₃ = and-inv (eqb (f .time) (g .time) && samePosition (f .lat) (g .lat)) _ (t₄ .0) in
-      let t₂ = and-inv (eqb (f .time) (g .time)) _ (t₃ .0) in
+      let t₇ = and-inv (eqb (f .time .count) (g .time .count) && eqb (f .time .decimals) (g .time .decimals) && sameFinePosition (f .lat) (g .lat) && sameFinePosition (f .lon) (g .lon) && eqb (f .validity) (g .validity) && sameInteger (f .pressure .metres) (g .pressure .metres)) _ e in
+      let t₆ = and-inv (eqb (f .time .count) (g .time .count) && eqb (f .time .decimals) (g .time .decimals) && sameFinePosition (f .lat) (g .lat) && sameFinePosition (f .lon) (g .lon) && eqb (f .validity) (g .validity)) _ (t₇ .0) in
+      let t₅ = and-inv (eqb (f .time .count) (g .time .count) && eqb (f .time .decimals) (g .time .decimals) && sameFinePosition (f .lat) (g .lat) && sameFinePosition (f .lon) (g .lon)) _ (t₆ .0) in
+      let t₄ = and-inv (eqb (f .time .count) (g .time .count) && eqb (f .time .decimals) (g .time .decimals) && sameFinePosition (f .lat) (g .lat)) _ (t₅ .0) in
+      let t₃ = and-inv (eqb (f .time .count) (g .time .count) && eqb (f .time .decimals) (g .time .decimals)) _ (t₄ .0) in
+      let t₂ = and-inv (eqb (f .time .count) (g .time .count)) _ (t₃ .0) in
       let t = eqb-true _ _ (t₂ .0) in
-      let a = position-tells .one _ _ (t₂ .1) in
-      let o = position-tells .one _ _ (t₃ .1) in
-      let v = eqb-true _ _ (t₄ .1) in
-      let p = integer-tells .one _ _ (t₅ .1) in
-      let n = integer-tells .one _ _ (t₆ .1) in
-      λ i. record { time = t i; lat = a i; lon = o i; validity = v i; pressure = record { metres = p i }; gnss = record { metres = n i } };
+      let d = eqb-true _ _ (t₂ .1) in
+      let a = fine-tells .one _ _ (t₃ .1) in
+      let o = fine-tells .one _ _ (t₄ .1) in
+      let v = eqb-true _ _ (t₅ .1) in
+      let p = integer-tells .one _ _ (t₆ .1) in
+      let n = integer-tells .one _ _ (t₇ .1) in
+      λ i. record { time = record { count = t i; decimals = d i }; lat = a i; lon = o i; validity = v i; pressure = record { metres = p i }; gnss = record { metres = n i } };
 }
 
 -- a reading says a value exactly when the test says so

@@ -3,10 +3,11 @@ use libc::STDOUT_FILENO;
 use rules::Entry;
 use rules::Extra;
 use rules::Family;
+use rules::FinePosition;
+use rules::FineTime;
 use rules::Fix;
 use rules::Height;
 use rules::Layout;
-use rules::Position;
 use rules::Wrote;
 
 fn one(first: u8, last: u8) -> Layout {
@@ -59,14 +60,19 @@ fn extra() {
 // A B line by the layout of a J line.
 fn fix() {
     let f = Fix {
-        time: 43200,
-        lat: Position {
+        time: FineTime {
+            count: 43200,
+            decimals: 0,
+        },
+        lat: FinePosition {
             count: 0,
             letter: b'S',
+            decimals: 0,
         },
-        lon: Position {
+        lon: FinePosition {
             count: 10800000,
             letter: b'E',
+            decimals: 0,
         },
         validity: b'A',
         pressure: Height { metres: 100 },

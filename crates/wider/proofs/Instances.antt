@@ -7,10 +7,11 @@ use mathlib.Core.Path.{_≡_, refl}
 use Rattle.rules.specs.Choice.{bytes}
 use Rattle.rules.specs.Refusals.{says, valueOr}
 use Rattle.rules.specs.Chars.{characters}
-use Rattle.rules.specs.Listed.{keepsRule}
+use Rattle.rules.specs.Listed.{keepsLimit}
 use Rattle.rules.specs.Layouts.{emptyLayout}
 use Rattle.rules.specs.Split.{Lines}
 use Rattle.rules.specs.Reads.{layoutSaid}
+use Rattle.rules.specs.declared.AtLimit.{AtLimit}
 use Rattle.rules.specs.declared.Layout.{Layout}
 use Rattle.rules.specs.declared.Layouts.{Layouts}
 use Rattle.rules.specs.declared.Extra.the-variants as extra
@@ -19,23 +20,23 @@ use Rattle.rules.specs.declared.Family.the-variants as family
 use Rattle.rules.proofs.Computed.{everything, fileOf}
 use Rattle.rules.proofs.Damaged.{fiveLines}
 use Rattle.rules.proofs.SignedFiles.{fourLines, twoLines}
-use Rattle.wider.specs.Wider.{widthIn, textIn, KeepsRules, AfterLayouts, done, same, columned, LayoutLines, all, without, changed, put, noLayouts, front, from, WiderFile}
+use Rattle.wider.specs.Wider.{widthIn, textIn, limitsOf, KeepsRules, AfterLayouts, done, same, columned, LayoutLines, all, without, changed, put, noLayouts, front, from, WiderFile}
 use Rattle.wider.specs.Before.{putIn}
 
 -- the layout that a line tells, the empty one where it tells none; and the layouts that an I line, a J line and an M line tell
 unfoldable pub told : Family → String → Layout
 told f l = valueOr emptyLayout (layoutSaid f (bytes l))
 
-abbrev laid : String → String → String → Layouts
+abbrev pub laid : String → String → String → Layouts
 laid i j m = record { b = told family.B i; k = told (family.Extra extra.K) j; n = told (family.Extra extra.N) m }
 
 -- the lines after the layout lines, where no further family has one
-abbrev rest : {fs : List Family} {old new : Layouts} {ls ls′ : Lines} → AfterLayouts old new ls ls′ → LayoutLines fs old new ls ls′
+abbrev pub rest : {fs : List Family} {old new : Layouts} {ls ls′ : Lines} → AfterLayouts old new ls ls′ → LayoutLines fs old new ls ls′
 rest {fs = []} b = all b
 rest {fs = f ∷ fs} b = without (rest b)
 
 -- the text of a column keeps the rules, whether the column is an added one or not
-fit : {x : ℕ} {text : List ℕ} {A : Type 0} → characters false text ≡ says tt → keepsRule x text ≡ true → A → KeepsRules x text
+pub fit : {at : AtLimit} {x : ℕ} {text : List ℕ} {A : Type 0} → characters false text ≡ says tt → keepsLimit at x text ≡ true → A → KeepsRules at x text
 fit v r h = record { valid = v; rule = r }
 
 -- ENL put between FXA and SIU of document 01's file of five lines
@@ -44,7 +45,7 @@ unfolding fileOf
 enlBetween = fileOf ("AXYZ001" ∷ "HFDTE150724" ∷ "I033638FXA3941ENL4243SIU" ∷ "B1200005130000N00015000WA001000012001234508" ∷ "GABC" ∷ [])
 
 pub between : WiderFile fiveLines enlBetween
-unfolding everything fileOf widthIn textIn told
+unfolding everything fileOf widthIn textIn limitsOf told
 between =
     front refl (front refl (from (changed {i = told family.B "I023638FXA3940SIU"} {i′ = told family.B "I033638FXA3941ENL4243SIU"} refl refl (refl, (refl, tt))
     (rest {old = laid "I023638FXA3940SIU" "" ""} {new = laid "I033638FXA3941ENL4243SIU" "" ""}
@@ -57,7 +58,7 @@ unfolding fileOf
 enlBetweenFour = fileOf ("AXYZ001" ∷ "HFDTE150724" ∷ "I033638FXA3941ENL4243SIU" ∷ "B1200005130000N00015000WA001000012001234508" ∷ [])
 
 pub between-four : WiderFile fourLines enlBetweenFour
-unfolding everything fileOf widthIn textIn told
+unfolding everything fileOf widthIn textIn limitsOf told
 between-four =
     front refl (front refl (from (changed {i = told family.B "I023638FXA3940SIU"} {i′ = told family.B "I033638FXA3941ENL4243SIU"} refl refl (refl, (refl, tt))
     (rest {old = laid "I023638FXA3940SIU" "" ""} {new = laid "I033638FXA3941ENL4243SIU" "" ""}
@@ -79,7 +80,7 @@ unfolding fileOf
 othersMoved = fileOf ("AXYZ001" ∷ "HFDTE150724" ∷ "I033637ZZZ3839SIU4042FXA" ∷ "B1200005130000N00015000WA0010000120X-08012" ∷ "GABC" ∷ [])
 
 pub before-and-moved : WiderFile fiveLines othersMoved
-unfolding everything fileOf widthIn textIn told
+unfolding everything fileOf widthIn textIn limitsOf told
 before-and-moved =
     front refl (front refl (from (changed {i = told family.B "I023638FXA3940SIU"} {i′ = told family.B "I033637ZZZ3839SIU4042FXA"} refl refl (refl, (refl, tt))
     (rest {old = laid "I023638FXA3940SIU" "" ""} {new = laid "I033637ZZZ3839SIU4042FXA" "" ""}
@@ -96,7 +97,7 @@ unfolding fileOf
 withI = fileOf ("AXYZ001" ∷ "HFDTE150724" ∷ "HFPLTPILOT" ∷ "I013638ENL" ∷ "B1200005130000N00015000WA0010000120345" ∷ "K120004" ∷ "N120004" ∷ "E120005PEV" ∷ "B1200055130000N00015000WA0010000120999" ∷ "GABC" ∷ [])
 
 pub put-i : WiderFile noColumns withI
-unfolding everything fileOf widthIn textIn told
+unfolding everything fileOf widthIn textIn limitsOf told
 put-i =
     front refl (front refl (front refl (from (put {i′ = told family.B "I013638ENL"} refl
     (rest {old = noLayouts} {new = laid "I013638ENL" "" ""}
@@ -111,7 +112,7 @@ unfolding fileOf
 withJ = fileOf ("AXYZ001" ∷ "HFDTE150724" ∷ "HFPLTPILOT" ∷ "J010810HDT" ∷ "B1200005130000N00015000WA0010000120" ∷ "K120004270" ∷ "N120004" ∷ "E120005PEV" ∷ "B1200055130000N00015000WA0010000120" ∷ "GABC" ∷ [])
 
 pub put-j : WiderFile noColumns withJ
-unfolding everything fileOf widthIn textIn told
+unfolding everything fileOf widthIn textIn limitsOf told
 put-j =
     front refl (front refl (front refl (from (without (put {i′ = told (family.Extra extra.K) "J010810HDT"} refl
     (rest {old = noLayouts} {new = laid "" "J010810HDT" ""}
@@ -126,7 +127,7 @@ unfolding fileOf
 withM = fileOf ("AXYZ001" ∷ "HFDTE150724" ∷ "HFPLTPILOT" ∷ "M010810HRT" ∷ "B1200005130000N00015000WA0010000120" ∷ "K120004" ∷ "N120004112" ∷ "E120005PEV" ∷ "B1200055130000N00015000WA0010000120" ∷ "GABC" ∷ [])
 
 pub put-m : WiderFile noColumns withM
-unfolding everything fileOf widthIn textIn told
+unfolding everything fileOf widthIn textIn limitsOf told
 put-m =
     front refl (front refl (front refl (from (without (without (put {i′ = told (family.Extra extra.N) "M010810HRT"} refl
     (rest {old = noLayouts} {new = laid "" "" "M010810HRT"}
@@ -141,7 +142,7 @@ unfolding fileOf
 withJAndM = fileOf ("AXYZ001" ∷ "HFDTE150724" ∷ "HFPLTPILOT" ∷ "J010810HDT" ∷ "M010810HRT" ∷ "B1200005130000N00015000WA0010000120" ∷ "K120004270" ∷ "N120004112" ∷ "E120005PEV" ∷ "B1200055130000N00015000WA0010000120" ∷ "GABC" ∷ [])
 
 pub put-m-behind : WiderFile withJ withJAndM
-unfolding everything fileOf widthIn textIn told
+unfolding everything fileOf widthIn textIn limitsOf told
 put-m-behind =
     front refl (front refl (front refl (from (without (changed {i = told (family.Extra extra.K) "J010810HDT"} {i′ = told (family.Extra extra.K) "J010810HDT"} refl refl (refl, tt)
     (put {i′ = told (family.Extra extra.N) "M010810HRT"} refl
@@ -157,7 +158,7 @@ unfolding fileOf
 withAll = fileOf ("AXYZ001" ∷ "HFDTE150724" ∷ "HFPLTPILOT" ∷ "I013638ENL" ∷ "J010810HDT" ∷ "M010810HRT" ∷ "B1200005130000N00015000WA0010000120345" ∷ "K120004270" ∷ "N120004112" ∷ "E120005PEV" ∷ "B1200055130000N00015000WA0010000120999" ∷ "GABC" ∷ [])
 
 pub put-all : WiderFile noColumns withAll
-unfolding everything fileOf widthIn textIn told
+unfolding everything fileOf widthIn textIn limitsOf told
 put-all =
     front refl (front refl (front refl (from (put {i′ = told family.B "I013638ENL"} refl (put {i′ = told (family.Extra extra.K) "J010810HDT"} refl
     (put {i′ = told (family.Extra extra.N) "M010810HRT"} refl
@@ -178,7 +179,7 @@ unfolding fileOf
 allWidened = fileOf ("AXYZ001" ∷ "HFDTE150724" ∷ "I023639DAE4040ZZZ" ∷ "J020810HDT1111TDS" ∷ "M020810OXY1113HRT" ∷ "C150724093000150724000100" ∷ "C5130000N00015000W" ∷ "C5130000N00015000W" ∷ "C5130000N00015000W" ∷ "C5130000N00015000W" ∷ "D20331" ∷ "F115959" ∷ "B1200005130000N00015000WA0010000120-012:" ∷ "K1200042707" ∷ "N120004098112" ∷ "E120005PEV" ∷ "LPILOT" ∷ "Z" ∷ "GABC" ∷ [])
 
 pub all-widened : WiderFile everyKind allWidened
-unfolding everything fileOf widthIn textIn told
+unfolding everything fileOf widthIn textIn limitsOf told
 all-widened =
     front refl (front refl (from (changed {i = emptyLayout} {i′ = told family.B "I023639DAE4040ZZZ"} refl refl tt
     (changed {i = told (family.Extra extra.K) "J010808TDS"} {i′ = told (family.Extra extra.K) "J020810HDT1111TDS"} refl refl (refl, tt)
@@ -196,7 +197,7 @@ unfolding fileOf
 someWidened = fileOf ("AXYZ001" ∷ "HFDTE150724" ∷ "I023639DAE4040ZZZ" ∷ "J010808TDS" ∷ "M020810HRT1113OXY" ∷ "C150724093000150724000100" ∷ "C5130000N00015000W" ∷ "C5130000N00015000W" ∷ "C5130000N00015000W" ∷ "C5130000N00015000W" ∷ "D20331" ∷ "F115959" ∷ "B1200005130000N00015000WA0010000120-012:" ∷ "K1200047" ∷ "N120004112098" ∷ "E120005PEV" ∷ "LPILOT" ∷ "Z" ∷ "GABC" ∷ [])
 
 pub some-widened : WiderFile everyKind someWidened
-unfolding everything fileOf widthIn textIn told
+unfolding everything fileOf widthIn textIn limitsOf told
 some-widened =
     front refl (front refl (from (changed {i = emptyLayout} {i′ = told family.B "I023639DAE4040ZZZ"} refl refl tt
     (changed {i = told (family.Extra extra.K) "J010808TDS"} {i′ = told (family.Extra extra.K) "J010808TDS"} refl refl (refl, tt)

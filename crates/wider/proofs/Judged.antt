@@ -3,7 +3,7 @@ use Prim.Native.Nat.{ℕ, _+_, _-_, _≤_}
 use mathlib.Core.Bool.{true, false, cond}
 use mathlib.Core.List.{List, [], _∷_}
 use mathlib.Core.Option.{none, some}
-use mathlib.Core.Path.{_≡_, refl, sym, ap, _∙_}
+use mathlib.Core.Path.{_≡_, refl, ap, _∙_}
 use native.Mathlib.Omega.{arith}
 use lib.ListN.{length, getD}
 use Rattle.rules.specs.Families.{firstStart, lineLetter, layoutOf}
@@ -22,7 +22,7 @@ use Rattle.laws.proofs.Passing.{roleIn, Leaves, opens, date, header, layout, co
 use Rattle.trips.proofs.Columned.{line-timed, timed-line, said-by, by-said}
 use Rattle.sound.proofs.Families.{line-role, Beside, one, apart, beside}
 use Rattle.sound.proofs.Placed.{Sound}
-use Rattle.wider.specs.Wider.{WiderLine}
+use Rattle.wider.specs.Wider.{Extends, WiderLine}
 use Rattle.wider.specs.Before.{AsBefore}
 use Rattle.wider.proofs.Lists.{Pairs}
 use Rattle.wider.proofs.OneLine.{says-same, as-before}
@@ -111,7 +111,7 @@ bare-step old new n t st after p h =
 -- ---- lines with columns
 
 module _ (f : Family) (old new : Layouts) (t t′ : List ℕ) (so : Sound (firstStart f) (layoutOf f old)) (so′ : Sound (firstStart f) (layoutOf f new))
-    (k : getD t 0 0 ≡ lineLetter f) (w : WiderLine (firstStart f) (layoutOf f old) (layoutOf f new) t t′) where
+    (ext : Extends (layoutOf f old) (layoutOf f new)) (k : getD t 0 0 ≡ lineLetter f) (w : WiderLine f (layoutOf f old) (layoutOf f new) t t′) where
   columned-left : (n : ℕ) (m after : State) → m .flight .layouts ≡ old → Leaves t m (role.Columned f) after
       → Leaves t′ (wide new n m) (role.Columned f) (wide new n after) × (after .flight .layouts ≡ m .flight .layouts) × (getD t′ 0 0 ≡ lineLetter f)
       × AsBefore f (layoutOf f old) (layoutOf f new) t t′
@@ -120,7 +120,7 @@ module _ (f : Family) (old new : Layouts) (t t′ : List ℕ) (so : Sound (first
       let said = said-by g t (layoutOf g old) (v .0) k (so .right) (v .1) in
       let again = by-said g t′ (layoutOf g new) (v .0) (says-same g (layoutOf g old) (layoutOf g new) t t′ (v .0) so′ w said) in
       let e′ : columnedLine g (layoutOf g new) t′ ≡ says x = line-timed g (layoutOf g new) t′ (v .0) (again .2) ∙ ap says (v .2) in
-      (columned g x e′ o, refl, again .0, as-before g (layoutOf g old) (layoutOf g new) t t′ (v .0) so′ w said (so .full))
+      (columned g x e′ o, refl, again .0, as-before g (layoutOf g old) (layoutOf g new) t t′ (v .0) so′ w said (so .full) ext)
 
   pairs-with : AsBefore f (layoutOf f old) (layoutOf f new) t t′ → (g : Family) → Beside f g → (xs ys : List (List ℕ)) → Paired old new g xs ys
       → Paired old new g (cond (sameFamily g f) (t ∷ xs) xs) (cond (sameFamily g f) (t′ ∷ ys) ys)

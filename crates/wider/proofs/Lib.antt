@@ -1,5 +1,6 @@
 pub mod Lists
 pub mod Families
+pub mod Counts
 pub mod OneLine
 pub mod Judged
 pub mod Changing
@@ -7,5 +8,6 @@ pub mod Simulated
 pub mod Kept
 pub mod WholeFile
 pub mod Instances
+pub mod FinerInstances
 pub mod NotWider
 pub mod Demand

@@ -76,14 +76,14 @@ unfolding fileOf
 valueChanged = fileWith "I033638FXA3941ENL4243SIU" "B1200015130000N00015000WA001000012001234508"
 
 abbrev seconds : Said (Reading Fix) → ℕ
-seconds (says r) = r .value .time
+seconds (says r) = r .value .time .count
 seconds (refuses n l b) = 0
 
 pub value-changed : WiderFile fiveLines valueChanged → ⊥
 unfolding everything fileOf told
 value-changed w =
     let e = first-fix valueChanged (lit≤ tt) w (five (told family.B "I033638FXA3941ENL4243SIU")) refl in
-    let z : _≡_ {A = ℕ} 43201 43200 = ap seconds (e .after) ∙ sym (ap seconds (e .before)) in
+    let z : _≡_ {A = ℕ} 43201 43200 = ap seconds (e .after) ∙ e .same .time .missing refl .0 ∙ sym (ap seconds (e .before)) in
     omega arith
 
 -- FXA is left out

@@ -84,7 +84,7 @@ module _ (seal : Seal) (f : Flight) where
       before-line (line t ls) t (d .judges) (body fi b (u .after) (n + 1) (d .layouts ∙ p) (u .runs)) (λ g. d .pairs g _ _)
   body {old = old} {new = new} fi (columned {t = t} {t′ = t′} {ls = ls} g k w b) st n p h =
       let u = ran seal none st t ls f h in
-      let d = columned-step g old new t t′ (fi g .0) (fi g .1) k w n st (u .after) p (u .judges) in
+      let d = columned-step g old new t t′ (fi g .0) (fi g .1) (fi g .2) k w n st (u .after) p (u .judges) in
       before-line (line t ls) t′ (d .judges) (body fi b (u .after) (n + 1) (d .layouts ∙ p) (u .runs)) (λ g. d .pairs g _ _)
 
 -- ---- behind the part `low`: the end, or a line that comes only behind the front

@@ -6,9 +6,10 @@ use mathlib.Core.Path.{_≡_}
 use lib.ListN.{getD}
 use Rattle.rules.specs.Refusals.{Said, says, andThen}
 use Rattle.rules.specs.Families.{layoutOf, countOf}
-use Rattle.rules.specs.Listed.{packedOf, listed}
+use Rattle.rules.specs.Listed.{packedOf, listed, tds, lad, lod}
 use Rattle.rules.specs.Layouts.{carries, columnText, presenceSaid}
 use Rattle.rules.specs.Lines.{kindOf}
+use Rattle.rules.specs.Fixes.{plain}
 use Rattle.rules.specs.Roles.{roleOf, isOf, isDeclaring, isEvent}
 use Rattle.rules.specs.Split.{Lines, end, broken, line, linesOf}
 use Rattle.rules.specs.Reads.{ValueOf, reading}
@@ -17,6 +18,8 @@ use Rattle.rules.specs.declared.Layout.{Layout}
 use Rattle.rules.specs.declared.Listed.{Listed}
 use Rattle.rules.specs.declared.Presence.{Presence}
 use Rattle.rules.specs.declared.Family.{Family}
+use Rattle.rules.specs.declared.Family.the-variants as family
+use Rattle.rules.specs.declared.Fix.{Fix}
 use Rattle.rules.specs.declared.Kind.{Kind}
 use Rattle.rules.specs.declared.Layouts.{Layouts}
 use Rattle.rules.specs.declared.Role.the-variants as role
@@ -44,12 +47,39 @@ lineOf f file n = getD (linesOfFamily f (linesOf file)) n []
 unfoldable pub textSaid : List ℕ → Layout → List ℕ → Said (List ℕ)
 textSaid l es name = andThen (lookSaid l es name) λ s. says (columnText l s)
 
--- Line l read by the old layout, and l′ by the new one: both say one value, each with the entries of its layout; and "an old column reads as before when the look for its
+-- One count of a fix, with its decimals, before and after (′), by the code of its finer digits. Where their column was there, both are as before. Where it was not there, there were no
+-- decimals, and the count is as before without those that are added: "where LAD, LOD or TDS is added, 'reads as before' means the count without the extra digits" (document 02).
+-- Where it is still not there, both are as before.
+pub record CountAsBefore (old new : Layout) (x count decimals count′ decimals′ : ℕ) : Type 0 where
+  pub kept : carries old x ≡ true → (count′ ≡ count) × (decimals′ ≡ decimals)
+  pub added : carries old x ≡ false → (decimals ≡ 0) × (plain count′ decimals′ ≡ count)
+  pub missing : carries new x ≡ false → (count′ ≡ count) × (decimals′ ≡ decimals)
+
+-- The fix of a B line: its time, latitude and longitude each as a count by its column, and all else as it was. "the map's degrees of a coordinate so refined may differ", since they
+-- are those of the finer count; where count and decimals are as before, so are they.
+pub record FixAsBefore (old new : Layout) (f f′ : Fix) : Type 0 where
+  pub time : CountAsBefore old new tds (f .time .count) (f .time .decimals) (f′ .time .count) (f′ .time .decimals)
+  pub lat : CountAsBefore old new lad (f .lat .count) (f .lat .decimals) (f′ .lat .count) (f′ .lat .decimals)
+  pub lat-letter : f′ .lat .letter ≡ f .lat .letter
+  pub lon : CountAsBefore old new lod (f .lon .count) (f .lon .decimals) (f′ .lon .count) (f′ .lon .decimals)
+  pub lon-letter : f′ .lon .letter ≡ f .lon .letter
+  pub validity : f′ .validity ≡ f .validity
+  pub pressure : f′ .pressure ≡ f .pressure
+  pub gnss : f′ .gnss ≡ f .gnss
+
+-- the value of a line of a family: of a B line its fix, of a K or an N line its time, which stays
+abbrev pub ValueAsBefore : (f : Family) → Layout → Layout → ValueOf f → ValueOf f → Type 0
+ValueAsBefore family.B old new v v′ = FixAsBefore old new v v′
+ValueAsBefore (family.Extra x) old new t t′ = t′ ≡ t
+
+-- Line l read by the old layout, and l′ by the new one: each says a value with the entries of its layout, the value as before; and "an old column reads as before when the look for its
 -- code gives the same text, and the same number or 20, wherever its bytes now stand".
 pub record AsBefore (f : Family) (old new : Layout) (l l′ : List ℕ) : Type 0 where
   pub value : ValueOf f
+  pub value′ : ValueOf f
   pub before : reading f l old ≡ says (record { value = value; entries = old })
-  pub after : reading f l′ new ≡ says (record { value = value; entries = new })
+  pub after : reading f l′ new ≡ says (record { value = value′; entries = new })
+  pub same : ValueAsBefore f old new value value′
   pub text : (name : List ℕ) → carries old (packedOf name) ≡ true → (t : List ℕ) × (textSaid l old name ≡ says t) × (textSaid l′ new name ≡ says t)
   pub number : (name : List ℕ) → carries old (packedOf name) ≡ true → lookNumber l′ new name ≡ lookNumber l old name
 

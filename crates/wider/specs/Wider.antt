@@ -7,15 +7,16 @@ use mathlib.Core.Path.{_≡_}
 use lib.ListN.{length, getD, take}
 use Rattle.rules.specs.Families.{firstStart, lineLetter, layoutOf, withLayout}
 use Rattle.rules.specs.Choice.{given, byte, Each}
-use Rattle.rules.specs.Refusals.{says}
+use Rattle.rules.specs.Refusals.{says, valueOr, andThen}
 use Rattle.rules.specs.Chars.{characters}
-use Rattle.rules.specs.Listed.{keepsRule}
+use Rattle.rules.specs.Listed.{offLimit, keepsLimit}
 use Rattle.rules.specs.Layouts.{entriesOf, spanOf, look, carries, columnText, lineLength}
-use Rattle.rules.specs.Lines.{kindOf}
+use Rattle.rules.specs.Lines.{kindOf, fixFields, atLimit}
 use Rattle.rules.specs.Roles.{roleOf, isFront, isBare}
 use Rattle.rules.specs.Order.{noFlight}
 use Rattle.rules.specs.Split.{Lines, end, line, linesOf}
 use Rattle.rules.specs.Reads.{layoutSaid}
+use Rattle.rules.specs.declared.AtLimit.{AtLimit}
 use Rattle.rules.specs.declared.Entry.{Entry}
 use Rattle.rules.specs.declared.Layout.{Layout}
 use Rattle.rules.specs.declared.Extra.the-variants as extra
@@ -34,24 +35,30 @@ widthIn layout x = given (look layout x) none λ s. some (s .last + 1 - s .first
 abbrev pub Extends : Layout → Layout → Type 0
 Extends old new = Each (λ (e : Entry). widthIn new (e .code) ≡ widthIn old (e .code)) (entriesOf old)
 
--- ---- a B line, a K line or an N line, over the place where its first column starts
+-- ---- a B line, a K line or an N line
 
 -- the text of the column of a code in a line, where the layout has one
 unfoldable pub textIn : Layout → List ℕ → ℕ → Option (List ℕ)
 textIn layout l x = given (look layout x) none λ s. some (columnText l s)
 
--- Demand 3: the text of an added column has characters that are valid in that line (8), and keeps the rule of a listed code (13)
-pub record KeepsRules (x : ℕ) (text : List ℕ) : Type 0 where
-  pub valid : characters false text ≡ says tt
-  pub rule : keepsRule x text ≡ true
+-- which coordinates of a line of the family are at their limits: of a B line by its fields; K and N lines have none
+unfoldable pub limitsOf : Family → List ℕ → AtLimit
+limitsOf family.B l = valueOr offLimit (andThen (fixFields l) λ f. says (atLimit f))
+limitsOf (family.Extra x) l = offLimit
 
--- Line l by the old layout, and l′ by the new one: the fields before the columns are as they were, l′ is as long as the new layout gives, every old column has its
+-- Demand 3: the text of an added column has characters that are valid in that line (8), and keeps the rule of a listed code (13); "LAD or LOD digits other than zeros break their
+-- column's rule where the plain count is already at its limit" (document 02)
+pub record KeepsRules (at : AtLimit) (x : ℕ) (text : List ℕ) : Type 0 where
+  pub valid : characters false text ≡ says tt
+  pub rule : keepsLimit at x text ≡ true
+
+-- Line l of the family by the old layout, and l′ by the new one: the fields before the columns are as they were, l′ is as long as the new layout gives, every old column has its
 -- old text, and every added one keeps the rules.
-pub record WiderLine (start : ℕ) (old new : Layout) (l l′ : List ℕ) : Type 0 where
-  pub fields : take (byte start) l′ ≡ take (byte start) l
-  pub long : length l′ ≡ lineLength start new
+pub record WiderLine (f : Family) (old new : Layout) (l l′ : List ℕ) : Type 0 where
+  pub fields : take (byte (firstStart f)) l′ ≡ take (byte (firstStart f)) l
+  pub long : length l′ ≡ lineLength (firstStart f) new
   pub kept : Each (λ (e : Entry). textIn new l′ (e .code) ≡ textIn old l (e .code)) (entriesOf old)
-  pub added : Each (λ (e : Entry). carries old (e .code) ≡ false → KeepsRules (e .code) (columnText l′ (spanOf e))) (entriesOf new)
+  pub added : Each (λ (e : Entry). carries old (e .code) ≡ false → KeepsRules (limitsOf f l) (e .code) (columnText l′ (spanOf e))) (entriesOf new)
 
 -- ---- the lines of a file, in the order of their kinds
 
@@ -59,7 +66,7 @@ pub record WiderLine (start : ℕ) (old new : Layout) (l l′ : List ℕ) : Type
 pub data AfterLayouts (old new : Layouts) : Lines → Lines → Type 0 where
   done : AfterLayouts old new end end
   same : {t : List ℕ} {ls ls′ : Lines} → isBare (roleOf (kindOf (getD t 0 0))) ≡ true → AfterLayouts old new ls ls′ → AfterLayouts old new (line t ls) (line t ls′)
-  columned : {t t′ : List ℕ} {ls ls′ : Lines} (f : Family) → getD t 0 0 ≡ lineLetter f → WiderLine (firstStart f) (layoutOf f old) (layoutOf f new) t t′
+  columned : {t t′ : List ℕ} {ls ls′ : Lines} (f : Family) → getD t 0 0 ≡ lineLetter f → WiderLine f (layoutOf f old) (layoutOf f new) t t′
       → AfterLayouts old new ls ls′ → AfterLayouts old new (line t ls) (line t′ ls′)
 
 -- At the places of the lines that tell the layouts of these families, in this order, behind the layouts told so far. At each place there is none before and after; or it

@@ -16,7 +16,7 @@ use Rattle.rules.specs.Chars.{isDigit}
 use Rattle.rules.specs.Listed.{packedOf, codeText, listed, unlisted, listedNumber, widthFits, isDigits, keepsSign, keepsRule}
 use Rattle.rules.specs.declared.Listed.{Listed}
 use Rattle.rules.proofs.Inverse.{false-true, and-inv}
-use Rattle.sound.proofs.Each.{each-map}
+use Rattle.trips.proofs.Each.{each-map}
 use Rattle.sound.proofs.Entries.{packed-back}
 use Rattle.words.specs.Characters.{IsDigit}
 use Rattle.words.specs.Codes.{Row, rows, MayHaveMinus, flp, dae, dan, RowSays, Holds, digits, minus, Same, SameRows}

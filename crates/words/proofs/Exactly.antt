@@ -1,35 +1,41 @@
--- What is claimed of the rules' table of listed codes, characters, limits and degrees: they are those of document 01, whose words stand in specs/. The grammar of `demands` has
--- these words. Its checks of a refusal have the rules' own tests, as isValid, isCode, codesAt, widthFits, keepsRule, isEither and timeAt; what these mean, in the same words,
+-- What is claimed of the rules' table of listed codes, characters, limits and degrees: they are those of documents 01 and 02, whose words stand in specs/. The grammar of `demands` has
+-- these words. Its checks of a refusal have the rules' own tests, as isValid, isCode, codesAt, widthFits, keepsLimit, isEither and timeAt; what these mean, in the same words,
 -- is said beside `refused-first` by the `..-meant` lines and `fields-told`. Assumes nothing.
 use Prim.Native.Nat.{ℕ, _≤_}
 use Prim.Native.Char.{code}
 use mathlib.Core.Bool.{Bool, true}
 use mathlib.Core.List.{List}
 use mathlib.Core.Logic.{_↔_, _⊎_}
+use mathlib.Core.Option.{some}
 use mathlib.Core.Path.{_≡_, refl}
 use lib.Ieee.{Float}
-use Rattle.rules.specs.Choice.{Each}
+use Rattle.rules.specs.Choice.{firstOf, bytes, Each}
 use Rattle.rules.specs.Chars.{isValid, isDigit, isCode, codesAt}
-use Rattle.rules.specs.Listed.{codeText, isCodeWord, listed, widthFits, keepsRule}
+use Rattle.rules.specs.Listed.{codeText, isCodeWord, listed, listedNumber, widthFits, keepsRule, tds, lad, lod, offLimit, keepsLimit}
 use Rattle.rules.specs.Fields.{isEither}
-use Rattle.rules.specs.Degrees.{angle, isLatitude, isLongitude}
+use Rattle.rules.specs.Degrees.{angle, isLatitude, isLongitude, isFineLatitude, isFineLongitude}
+use Rattle.rules.specs.Lines.{atLimit}
 use Rattle.rules.specs.Limits.{isTime, isAltitude, goodFixFields}
-use Rattle.rules.specs.Fixes.{fieldsOf}
+use Rattle.rules.specs.Fixes.{plain, plainPosition, fieldsOf}
 use Rattle.rules.specs.Families.{firstStart, lineLetter, layoutLetter}
 use Rattle.rules.specs.Layouts.{emptyLayout, lineLength}
 use Rattle.rules.specs.declared.Extra.{Extra}
 use Rattle.rules.specs.declared.Extra.the-variants as extra
 use Rattle.rules.specs.declared.Family.the-variants as family
+use Rattle.rules.specs.declared.AtLimit.{AtLimit}
 use Rattle.rules.specs.declared.Position.{Position}
+use Rattle.rules.specs.declared.FinePosition.{FinePosition}
 use Rattle.rules.specs.declared.Height.{Height}
 use Rattle.rules.specs.declared.FixFields.{FixFields}
 use Rattle.rules.specs.declared.Fix.{Fix}
 use Rattle.words.specs.Characters.{IsValid, IsDigit, IsCode, CodesAt}
 use Rattle.words.specs.Codes.{rows, RowSays, Holds, SameRows}
-use Rattle.words.specs.Values.{IsTime, IsLatitude, IsLongitude, IsAngle, IsAltitude, IsFixFields}
+use Rattle.words.specs.Finer.{IsPlain, IsFineLatitude, IsFineLongitude, IsAngle, OnlyZeros, Zeros, AtLatitude, AtLongitude}
+use Rattle.words.specs.Values.{IsTime, IsLatitude, IsLongitude, IsAltitude, IsFixFields}
 use Rattle.words.proofs.Characters as characters
 use Rattle.words.proofs.Codes as codes
 use Rattle.words.proofs.Values as values
+use Rattle.words.proofs.Finer as finer
 
 -- ---- characters
 
@@ -62,6 +68,27 @@ width-exactly = codes.width-exactly
 pub rule-exactly : (x : ℕ) (t : List ℕ) → (keepsRule x t ≡ true) ↔ RowSays x (λ p. Holds (p .name) t)
 rule-exactly = codes.rule-exactly
 
+-- "LAD or LOD digits other than zeros break their column's rule where the plain count is already at its limit."
+pub limit-exactly : (at : AtLimit) (AtLat AtLon : Type 0) → (at .lat ≡ true) ↔ AtLat → (at .lon ≡ true) ↔ AtLon → (x : ℕ) (t : List ℕ)
+    → (keepsLimit at x t ≡ true) ↔ (RowSays x (λ p. Holds (p .name) t) × (OnlyZeros AtLat AtLon (codeText x) → Zeros t))
+limit-exactly = finer.limit-exactly
+
+-- of a B line by its fields; a K or an N line has no coordinates
+pub at-limit-exactly : (f : FixFields) → ((atLimit f .lat ≡ true) ↔ AtLatitude f) × ((atLimit f .lon ≡ true) ↔ AtLongitude f)
+at-limit-exactly = finer.at-limit-exactly
+
+pub off-limit-exactly : ((offLimit .lat ≡ true) ↔ ⊥) × ((offLimit .lon ≡ true) ↔ ⊥)
+off-limit-exactly = finer.off-limit-exactly
+
+-- the codes of finer digits: of a time, a latitude and a longitude, and their numbers in the table
+pub finer-exactly : (codeText tds ≡ bytes "TDS") × (codeText lad ≡ bytes "LAD") × (codeText lod ≡ bytes "LOD")
+unfolding bytes
+finer-exactly = (refl, refl, refl)
+
+pub finer-numbered : (listedNumber tds ≡ some 10) × (listedNumber lad ≡ some 11) × (listedNumber lod ≡ some 12)
+unfolding listedNumber firstOf listed bytes
+finer-numbered = (refl, refl, refl)
+
 -- ---- how far a value goes
 
 pub time-exactly : (t : ℕ) → (isTime t ≡ true) ↔ IsTime t
@@ -82,21 +109,33 @@ either-exactly = values.either-exactly
 pub fix-exactly : (f : FixFields) → (goodFixFields f ≡ true) ↔ IsFixFields f
 fix-exactly = values.fix-exactly
 
--- a fix has what its line spells, field by field
+-- "the count without the extra digits"
+pub plain-exactly : (count decimals old : ℕ) → (plain count decimals ≡ old) ↔ IsPlain count decimals old
+plain-exactly = finer.plain-exactly
+
+-- a fix has what its line spells, field by field: its counts plain, and the rest as it is
 pub fix-fields-exactly : (f : Fix)
-    → (fieldsOf f .time ≡ f .time)
-    × (fieldsOf f .lat ≡ f .lat)
-    × (fieldsOf f .lon ≡ f .lon)
+    → (fieldsOf f .time ≡ plain (f .time .count) (f .time .decimals))
+    × (fieldsOf f .lat .count ≡ plain (f .lat .count) (f .lat .decimals))
+    × (fieldsOf f .lat .letter ≡ f .lat .letter)
+    × (fieldsOf f .lon .count ≡ plain (f .lon .count) (f .lon .decimals))
+    × (fieldsOf f .lon .letter ≡ f .lon .letter)
     × (fieldsOf f .validity ≡ f .validity)
     × (fieldsOf f .pressure ≡ f .pressure)
     × (fieldsOf f .gnss ≡ f .gnss)
-unfolding fieldsOf
-fix-fields-exactly f = (refl, refl, refl, refl, refl, refl)
+unfolding fieldsOf plainPosition
+fix-fields-exactly f = (refl, refl, refl, refl, refl, refl, refl, refl)
 
 -- ---- degrees for the map
 
-pub angle-exactly : (p : Position) (x : Float) → (angle p ≡ x) ↔ IsAngle p x
-angle-exactly = values.angle-exactly
+pub fine-latitude-exactly : (p : FinePosition) → (isFineLatitude p ≡ true) ↔ IsFineLatitude p
+fine-latitude-exactly = finer.fine-latitude-exactly
+
+pub fine-longitude-exactly : (p : FinePosition) → (isFineLongitude p ≡ true) ↔ IsFineLongitude p
+fine-longitude-exactly = finer.fine-longitude-exactly
+
+pub angle-exactly : (p : FinePosition) (x : Float) → (angle p ≡ x) ↔ IsAngle p x
+angle-exactly = finer.angle-exactly
 
 -- ---- the three families of lines with columns
 

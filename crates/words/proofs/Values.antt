@@ -1,22 +1,20 @@
--- The limits of a time, a position, an altitude and so of a fix, and the degrees of a position, in document 01's words. Assumes nothing.
+-- The limits of a time, a position, an altitude and so of a fix, in document 01's words. Assumes nothing.
 use Prim.Native.Nat.{ℕ, zero, suc, _+_, _/_, _%_, _≤_}
-use Prim.Native.Char.{code}
-use mathlib.Core.Bool.{Bool, true, false, not, _&&_, _||_, cond, or-true}
+use mathlib.Core.Bool.{Bool, true, false, _||_, or-true}
 use mathlib.Core.Logic.{_↔_, _⊎_, inl, inr}
-use mathlib.Core.Path.{_≡_, refl, sym, ap, _∙_, subst}
+use mathlib.Core.Path.{_≡_, refl, ap, _∙_}
 use native.Mathlib.Omega.{arith}
 use borrow.Author.Tests.{le-leb, leb-true, eqb-true, eqb-false, eq-eqb}
 use lib.Dec.{eqb, leb}
 use lib.IntN.{ℤ, pos, negsuc, negℤ}
-use lib.Ieee.{Float, fin, round, units, odd, size, neg}
 use Rattle.rules.specs.Fields.{isEither}
-use Rattle.rules.specs.Degrees.{quotient, isNegated, angle, isPosition, isLatitude, isLongitude}
+use Rattle.rules.specs.Degrees.{isPosition, isLatitude, isLongitude}
 use Rattle.rules.specs.Limits.{isTime, isMetres, isAltitude, goodFixFields}
 use Rattle.rules.specs.declared.Position.{Position}
 use Rattle.rules.specs.declared.Height.{Height}
 use Rattle.rules.specs.declared.FixFields.{FixFields}
 use Rattle.rules.proofs.Inverse.{false-true, and-inv, need-inv}
-use Rattle.words.specs.Values.{IsTime, usual, leap, IsLatitude, IsLongitude, IsAngle, nought, negated, as-it-is, over60000, IsAltitude, plain, minus, IsFixFields}
+use Rattle.words.specs.Values.{IsTime, usual, leap, IsLatitude, IsLongitude, IsAltitude, plain, minus, IsFixFields}
 
 -- ---- one of two letters
 
@@ -60,44 +58,6 @@ latitude-exactly p = let x = position-exactly _ _ _ p in (λ e. let h = x .0 e i
 
 pub longitude-exactly : (p : Position) → (isLongitude p ≡ true) ↔ IsLongitude p
 longitude-exactly p = let x = position-exactly _ _ _ p in (λ e. let h = x .0 e in record { most = h .0; letter = h .1 }, λ w. x .1 (w .most, w .letter))
-
--- ---- degrees
-
--- 0 over 60,000 is plain zero
-zero-over : over60000 0 ≡ fin false 0 (pos 0)
-unfolding round units odd size
-zero-over = refl
-
-angle-is : (p : Position) → IsAngle p (angle p)
-unfolding angle isNegated quotient
-angle-is p = go (eqb (p .count) 0) refl (isEither (p .letter) (code "S") (code "W")) refl
-  where
-    least : eqb (p .count) 0 ≡ false → 1 ≤ p .count
-    least e = let n = eqb-false (p .count) 0 e in omega (arith, n)
-
-    go : (z : Bool) → eqb (p .count) 0 ≡ z → (b : Bool) → isEither (p .letter) (code "S") (code "W") ≡ b → IsAngle p (cond (not z && b) (neg (over60000 (p .count))) (over60000 (p .count)))
-    go true e b h = let z = eqb-true (p .count) 0 e in subst (IsAngle p) (sym (ap over60000 z ∙ zero-over)) (nought z)
-    go false e true h = negated (least e) (either-exactly _ _ _ .0 h)
-    go false e false h =
-        let no : ((p .letter ≡ code "S") ⊎ (p .letter ≡ code "W")) → ⊥ = λ w. false-true (sym h ∙ either-exactly _ _ _ .1 w) in
-        as-it-is (least e) (λ s. no (inl s)) (λ w. no (inr w))
-
--- there is one such number
-angle-once : (p : Position) {x y : Float} → IsAngle p x → IsAngle p y → x ≡ y
-angle-once p (nought a) (nought b) = refl
-angle-once p (nought a) (negated b w) = absurd (omega arith)
-angle-once p (nought a) (as-it-is b s w) = absurd (omega arith)
-angle-once p (negated a w) (nought b) = absurd (omega arith)
-angle-once p (negated a w) (negated b v) = refl
-angle-once p (negated a (inl w)) (as-it-is b s v) = absurd (s w)
-angle-once p (negated a (inr w)) (as-it-is b s v) = absurd (v w)
-angle-once p (as-it-is a s w) (nought b) = absurd (omega arith)
-angle-once p (as-it-is a s v) (negated b (inl w)) = absurd (s w)
-angle-once p (as-it-is a s v) (negated b (inr w)) = absurd (v w)
-angle-once p (as-it-is a s w) (as-it-is b t v) = refl
-
-pub angle-exactly : (p : Position) (x : Float) → (angle p ≡ x) ↔ IsAngle p x
-angle-exactly p x = (λ e. subst (IsAngle p) e (angle-is p), angle-once p (angle-is p))
 
 -- ---- altitudes
 

@@ -2,3 +2,4 @@
 pub mod Characters
 pub mod Codes
 pub mod Values
+pub mod Finer

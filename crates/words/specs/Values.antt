@@ -1,11 +1,9 @@
--- Document 01, 'Fields': how far a time, a position and an altitude go, and so the fields of a fix; and 'I and J layouts': the degrees of a position.
+-- Document 01, 'Fields': how far a time, a position and an altitude go, and so the fields of a fix.
 use Prim.Native.Nat.{ℕ, _+_, _*_, _≤_}
 use Prim.Native.Char.{code}
-use mathlib.Core.Bool.{false}
 use mathlib.Core.Logic.{_⊎_}
 use mathlib.Core.Path.{_≡_}
 use lib.IntN.{pos, negℤ}
-use lib.Ieee.{Float, fin, binary64, round, neg}
 use Rattle.rules.specs.declared.Position.{Position}
 use Rattle.rules.specs.declared.Height.{Height}
 use Rattle.rules.specs.declared.FixFields.{FixFields}
@@ -24,16 +22,6 @@ pub record IsLatitude (p : Position) : Type 0 where
 pub record IsLongitude (p : Position) : Type 0 where
   pub most : p .count ≤ 180 * 60 * 1000
   pub letter : (p .letter ≡ code "E") ⊎ (p .letter ≡ code "W")
-
--- "the count over 60,000, one rounded division": the f64 nearest to that fraction
-abbrev pub over60000 : ℕ → Float
-over60000 count = round binary64 false count 60000
-
--- "negated for S and W, and plain zero for count 0 under either letter"
-pub data IsAngle (p : Position) : Float → Type 0 where
-  nought : p .count ≡ 0 → IsAngle p (fin false 0 (pos 0))
-  negated : 1 ≤ p .count → (p .letter ≡ code "S") ⊎ (p .letter ≡ code "W") → IsAngle p (neg (over60000 (p .count)))
-  as-it-is : 1 ≤ p .count → (p .letter ≡ code "S" → ⊥) → (p .letter ≡ code "W" → ⊥) → IsAngle p (over60000 (p .count))
 
 -- "Altitude in metres: five digits, or a minus and four digits that are not all zero. So -9,999 to 99,999."
 pub data IsAltitude (h : Height) : Type 0 where

@@ -30,8 +30,8 @@ fn left<T, const N: usize>(answer: &Answer<T>, values: impl Fn(&T) -> [u64; N]) 
 
 /// A B line: its fix, its heights and its columns; then looks.
 pub fn fix(tally: &mut Tally, random: &mut Random, line: &[u8], given: &[u8], answer: &Answer<WithColumns<Fix>>) -> Held<()> {
-    let heights = answer.as_ref().map_or(vec![0, 0], |read| vec![read.said.pressure, read.said.gnss]);
-    let expected = Lent { heights, entries: columns(answer), ..left(answer, |read| fix_values(&read.said)) };
+    let heights = answer.as_ref().map_or(vec![0, 0], |read| fix_values(&read.said).heights().to_vec());
+    let expected = Lent { heights, entries: columns(answer), ..left(answer, |read| fix_values(&read.said).answered()) };
     let raw = library::fix(line, given, Lent::of(ANSWER, 2, ENTRIES, 0));
     tally.same("hive_fix", &(line, given), raw.number, raw, expected)?;
     if random.once_in(20) {

@@ -4,9 +4,11 @@ use std::collections::BTreeMap;
 use std::fmt::Debug;
 
 use crate::columns;
-use crate::library::{self, ANSWER, FixValues, HeadValues, Told};
+use crate::library::{self, ANSWER, FixValues, HeadValues, PositionValues, TimeValues, Told};
 use outside::files::random::Random;
-use outside::files::reached_looks;
+use outside::files::values::{spoil_position, spoil_text, to_write};
+use outside::files::{reached_finer, reached_looks};
+use outside::reading::fields::{EAST_WEST, NORTH_SOUTH};
 use outside::reading::layouts::FAMILIES;
 use outside::reading::refusals::{BAD_VALUE, NO_ROOM};
 use outside::reading::{self, Answer, Date, Family, Fix, Head, Layout, Point, Position, Refusal};
@@ -19,6 +21,7 @@ pub struct Tally {
     pub answers: BTreeMap<&'static str, u64>,
     pub refusals: BTreeMap<(&'static str, u32), u64>,
     pub looks: reached_looks::Reached,
+    pub finer: reached_finer::Reached,
 }
 
 impl Tally {
@@ -50,15 +53,35 @@ fn date_values(d: &Date) -> [u64; 3] {
     [d.day.into(), d.month.into(), d.year.into()]
 }
 
-pub fn fix_values(f: &Fix) -> [u64; 6] {
-    let (a, o) = (f.latitude, f.longitude);
-    [f.time.into(), a.count, a.letter.into(), o.count, o.letter.into(), f.validity.into()]
+/// A position as C has it.
+fn position_values(p: Position) -> PositionValues {
+    PositionValues { count: p.count.count, letter: p.letter, decimals: p.count.decimals }
+}
+
+/// A fix as C has it.
+pub fn fix_values(f: &Fix) -> FixValues {
+    FixValues {
+        time: TimeValues { count: f.time.count as u32, decimals: f.time.decimals },
+        latitude: position_values(f.latitude),
+        longitude: position_values(f.longitude),
+        validity: f.validity,
+        pressure: f.pressure,
+        gnss: f.gnss,
+    }
 }
 
 fn head_values(h: &Head) -> [u64; 9] {
     let [d, m, y] = date_values(&h.declared);
     let [fd, fm, fy] = date_values(&h.flight.unwrap_or_default());
     [d, m, y, h.time.into(), fd, fm, fy, h.task.into(), h.turns.into()]
+}
+
+fn point_values(p: &Point) -> [u64; ANSWER - 2] {
+    let mut answer = [0; ANSWER];
+    for (place, position) in [(library::POINT_LATITUDE, p.latitude), (library::POINT_LONGITUDE, p.longitude)] {
+        (answer[place], answer[place + 1]) = (position.count.count, position.letter.into());
+    }
+    answer[2..].try_into().unwrap()
 }
 
 /// What hive_check and hive_check_strict answer from answer[2] on.
@@ -285,6 +308,9 @@ fn fix(tally: &mut Tally, random: &mut Random, line: &[u8], given: &[u8]) -> Hel
     let layout = reading::layout_given(given, Family::Fixes);
     let answer = by_layout(&layout, |y| reading::read_fix(line, y));
     columns::fix(tally, random, line, given, &answer)?;
+    if let Some(layout) = &layout {
+        tally.finer.add_line(line, layout, &answer);
+    }
     if let (Ok(read), Some(layout)) = (answer, &layout) {
         degrees(tally, random, &read.said)?;
         write_fix(tally, random, read.said, &line[35..], given, layout)?;
@@ -331,28 +357,30 @@ fn layout(tally: &mut Tally, random: &mut Random, line: &[u8]) -> Held<()> {
 /// A fix's position for the map, and one that is spoiled.
 fn degrees(tally: &mut Tally, random: &mut Random, fix: &Fix) -> Held<()> {
     let mut hold = |a: Position, o: Position| {
-        let raw = library::degrees((a.count, a.letter), (o.count, o.letter));
+        let raw = library::degrees(position_values(a), position_values(o));
         let expected = match reading::degrees(a, o) {
             Ok((x, y)) => (0, [x.to_bits(), y.to_bits()]),
             Err(r) => (r.number, [0, 0]),
         };
+        tally.finer.add_degrees(a, o, expected.0);
         tally.same("hive_degrees", &(a, o), raw.0, raw, expected)
     };
     hold(fix.latitude, fix.longitude)?;
     if random.once_in(4) {
         let (mut a, mut o) = (fix.latitude, fix.longitude);
-        let spoiled = if random.once_in(2) { &mut a } else { &mut o };
-        spoil_position(random, spoiled);
+        let (spoiled, axis) = if random.once_in(2) { (&mut a, NORTH_SOUTH) } else { (&mut o, EAST_WEST) };
+        spoil_position(random, spoiled, axis.most);
         hold(a, o)?;
     }
     Ok(())
 }
 
-fn spoil_position(random: &mut Random, p: &mut Position) {
+/// A coordinate of a C point, which has no decimals, with its letter or its count changed.
+fn spoil_point(random: &mut Random, p: &mut Position) {
     match random.below(3) {
         0 => p.letter = *random.pick(b"NSEWn\0\xFF"),
-        1 => p.count = *random.pick(&[0, 5_400_000, 5_400_001, 10_800_000, 10_800_001, 1 << 32, u64::MAX]),
-        _ => p.count = random.below(12_000_000) as u64,
+        1 => p.count.count = *random.pick(&[0, 5_400_000, 5_400_001, 10_800_000, 10_800_001, 1 << 32, u64::MAX]),
+        _ => p.count.count = random.below(12_000_000) as u64,
     }
 }
 
@@ -370,45 +398,15 @@ fn output(random: &mut Random, length: usize) -> (Vec<u8>, usize) {
 }
 
 fn write_fix(tally: &mut Tally, random: &mut Random, fix: Fix, columns: &[u8], given: &[u8], layout: &Layout) -> Held<()> {
-    let (mut fix, mut columns) = (fix, columns.to_vec());
-    match random.below(14) {
-        0 => fix.time = *random.pick(&[86_399, 86_400, 86_401, 360_000, u32::MAX]),
-        1 => spoil_position(random, &mut fix.latitude),
-        2 => spoil_position(random, &mut fix.longitude),
-        3 => fix.validity = *random.pick(b"AVB\0"),
-        4 => fix.pressure = *random.pick(&[-9_999, -10_000, 99_999, 100_000, 0, -1, i32::MIN, i32::MAX]),
-        5 => fix.gnss = *random.pick(&[-9_999, -10_000, 99_999, 100_000, 0, -1, i32::MIN, i32::MAX]),
-        6 | 7 => spoil_text(random, &mut columns),
-        _ => {}
-    }
-    let values = FixValues {
-        seconds: fix.time,
-        latitude: (fix.latitude.count, fix.latitude.letter),
-        longitude: (fix.longitude.count, fix.longitude.letter),
-        validity: fix.validity,
-        pressure: fix.pressure,
-        gnss: fix.gnss,
-    };
+    let (fix, columns) = to_write(random, &fix, columns, layout);
+    let values = fix_values(&fix);
     let (out, place) = output(random, 35 + columns.len());
     let (mut ours, mut theirs) = (out.clone(), out);
     let raw = library::write_fix(&values, &columns, given, place, &mut ours);
     let answer = reading::write_fix(&fix, &columns, layout, place, &mut theirs);
+    tally.finer.add_write(&fix, &columns, layout, answer.map_or_else(|r| r.number, |_| 0));
     let expected = (told(&answer, |&after| [after as u64]), theirs);
     tally.same("hive_write_fix", &(values, columns, given, place), raw.number, (raw, ours), expected)
-}
-
-/// A byte changed, put in or taken out.
-fn spoil_text(random: &mut Random, text: &mut Vec<u8>) {
-    match random.below(4) {
-        0 => text.push(b'0'),
-        1 => drop(text.pop()),
-        _ if text.is_empty() => {}
-        2 => {
-            let at = random.below(text.len());
-            text[at] = *random.pick(b"-,A0 \r\n\xFF!");
-        }
-        _ => text.extend(vec![b'x'; random.below(300)]),
-    }
 }
 
 /// A K or an N line written by its own layout's text; now and then of the other letter, or of one that is neither, which is 17.
@@ -435,8 +433,7 @@ fn declaration(tally: &mut Tally, random: &mut Random, line: &[u8]) -> Held<()> 
     tally.same("hive_head", &line, raw.number, raw, told(&head, head_values))?;
     let point = reading::read_point(line);
     let raw = library::point(line);
-    let values = told(&point, |p| [0, p.latitude.count, p.latitude.letter.into(), p.longitude.count, p.longitude.letter.into()]);
-    tally.same("hive_point", &line, raw.number, raw, values)?;
+    tally.same("hive_point", &line, raw.number, raw, told(&point, point_values))?;
     if let Ok(head) = head {
         write_head(tally, random, head, &line[25..])?;
     }
@@ -486,12 +483,12 @@ fn write_head(tally: &mut Tally, random: &mut Random, head: Head, text: &[u8]) -
 fn write_point(tally: &mut Tally, random: &mut Random, point: Point, text: &[u8]) -> Held<()> {
     let (mut point, mut text) = (point, text.to_vec());
     match random.below(8) {
-        0 => spoil_position(random, &mut point.latitude),
-        1 => spoil_position(random, &mut point.longitude),
+        0 => spoil_point(random, &mut point.latitude),
+        1 => spoil_point(random, &mut point.longitude),
         2 => spoil_text(random, &mut text),
         _ => {}
     }
-    let (latitude, longitude) = ((point.latitude.count, point.latitude.letter), (point.longitude.count, point.longitude.letter));
+    let [latitude, longitude] = [point.latitude, point.longitude].map(|p| (p.count.count, p.letter));
     let (out, place) = output(random, 18 + text.len());
     let (mut ours, mut theirs) = (out.clone(), out);
     let raw = library::write_point(latitude, longitude, &text, place, &mut ours);

@@ -44,6 +44,7 @@ fn hold_file(met: &mut Met, random: &mut Random, file: &[u8], entries: usize, kn
     met.ends.add(file, &answer, &strict)?;
     met.aimed += u64::from(matches!(known, Known::Refused(_)));
     met.reached.add(file, &answer);
+    met.tally.finer.add_file(file, &answer);
     hold::in_words(&mut met.tally, random, file, &answer)?;
     hold::by_number(&mut met.tally, random, file, &table)?;
     track::file(&mut met.tally, &mut met.tracks, random, file)?;
@@ -160,6 +161,7 @@ fn summary(met: &Met, options: &Options) {
     println!("outside: where files end: {}", met.ends.told());
     println!("outside: tracks: {}", met.tracks.told());
     println!("outside: looks: {}", met.tally.looks.told());
+    println!("outside: refined fixes: {}", met.tally.finer.told());
     println!("outside: {} pairs of copies brought together, {} refused: {}", met.pairs.merged, met.pairs.refused, met.pairs.told());
     for (operation, count) in &met.tally.answers {
         let numbers: Vec<String> =
@@ -170,6 +172,7 @@ fn summary(met: &Met, options: &Options) {
     let (mut never, strange) = (met.reached.never(&[]), met.reached.strange());
     never.extend(met.pairs.never(true).into_iter().chain(met.tracks.never()).chain(met.ends.never()).map(str::to_string));
     never.extend(met.tally.looks.never());
+    never.extend(met.tally.finer.never());
     if !never.is_empty() || !strange.is_empty() || !unasked.is_empty() || accepted == 0 {
         println!("outside: FAILED: accepted {accepted} files, never met {never:?}, met {strange:?}, never asked {unasked:?}");
         std::process::exit(1);

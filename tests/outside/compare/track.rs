@@ -1,24 +1,21 @@
 //! A file's track held: every record of the library is the reading's, and those past the count, and all of a refused call, are as lent.
 
-use crate::hold::{Held, Tally};
-use crate::library::{self, ANSWER, Record, RecordFix, RecordPosition, Told};
+use crate::hold::{Held, Tally, fix_values};
+use crate::library::{self, ANSWER, Record, Told};
 use outside::files::random::Random;
 use outside::files::reached_track::{Reached, rooms};
-use outside::reading::{self, Answer, Fix, Position, track, track_into};
+use outside::reading::{self, Answer, Finer, Fix, Position, track, track_into};
 
 /// A record of the reading as the library stores it.
 fn stored(r: &reading::Record) -> Record {
-    let place = |p: Position| RecordPosition { count: p.count, letter: p.letter };
-    let Fix { time, latitude, longitude, validity, pressure, gnss } = r.fix;
-    let fix = RecordFix { time, latitude: place(latitude), longitude: place(longitude), validity, pressure, gnss };
-    Record { line: r.line as u32, day: r.day as u32, fix }
+    Record { line: r.line as u32, day: r.day as u32, fix: fix_values(&r.fix) }
 }
 
 /// What a list holds at a place before a call: no record of a file, and at each place another.
 fn lent(n: usize) -> reading::Record {
-    let place = |letter| Position { count: 0xABCD_EF01_2345_6789 ^ n as u64, letter };
+    let place = |letter| Position { count: Finer { count: 0xABCD_EF01_2345_6789 ^ n as u64, decimals: 0xDD ^ n as u8 }, letter };
     let fix = Fix {
-        time: 0xDEAD_0000 ^ n as u32,
+        time: Finer { count: 0xDEAD_0000 ^ n as u64, decimals: 0xCC ^ n as u8 },
         latitude: place(b'?'),
         longitude: place(b'!'),
         validity: 0xEE,

@@ -2,7 +2,7 @@
 
 use outside::reading::refusals::BAD_VALUE;
 use outside::reading::{
-    Answer, Date, Entry, Family, Fix, Head, Layout, Point, Position, Refusal, listing, write_extra, write_extra_given, write_fix,
+    Answer, Date, Entry, Family, Finer, Fix, Head, Layout, Point, Position, Refusal, listing, write_extra, write_extra_given, write_fix,
     write_head, write_layout, write_layout_given, write_point,
 };
 
@@ -14,7 +14,7 @@ fn told(size: usize, write: impl Fn(&mut [u8]) -> Answer<usize>) -> Vec<u8> {
 }
 
 const fn at(count: u64, letter: u8) -> Position {
-    Position { count, letter }
+    Position::whole(count, letter)
 }
 
 /// The writes of c/written.c, in its order.
@@ -169,11 +169,12 @@ fn fix(fix: Fix, tail: &[u8], layout: &Layout, place: usize) -> Vec<u8> {
     told(44, |out| write_fix(&fix, tail, layout, place, out))
 }
 
-const USUAL: Fix = Fix { time: 43_200, latitude: at(0, b'S'), longitude: at(10_800_000, b'E'), validity: b'A', pressure: 100, gnss: 120 };
+const USUAL: Fix =
+    Fix { time: Finer::whole(43_200), latitude: at(0, b'S'), longitude: at(10_800_000, b'E'), validity: b'A', pressure: 100, gnss: 120 };
 
 fn fixes() -> Vec<Vec<u8>> {
     let with = |f| fix(f, b"012", &of_i(), 0);
-    let timed = |time, place| fix(Fix { time, ..USUAL }, b"012", &of_i(), place);
+    let timed = |time, place| fix(Fix { time: Finer::whole(time), ..USUAL }, b"012", &of_i(), place);
     let placed = |latitude, longitude| with(Fix { latitude, longitude, ..USUAL });
     let marked = |validity| with(Fix { validity, ..USUAL });
     let heights = |pressure, gnss| with(Fix { pressure, gnss, ..USUAL });

@@ -6,7 +6,7 @@ use super::rules::{Field, fields};
 use crate::reading::characters::is_valid;
 use crate::reading::file::HALF_DAY;
 use crate::reading::layouts::{FAMILIES, listed};
-use crate::reading::{Family, LISTED, Layout, Refusal, Role};
+use crate::reading::{Entry, Family, LISTED, Layout, Refusal, Role};
 
 /// Bytes that rules turn on, to be put where they do not belong.
 const SHARP: &[u8] = b"\r\n\0 !$*\\^,-~0123456789:AZ@[`az{}\x7F\x80\xFF/BCGHIJKLMNOSEWAV";
@@ -100,6 +100,7 @@ pub fn aimed(random: &mut Random, sample: &Sample, number: u32) -> Option<Aimed>
         8 => character(random, sample),
         9 | 22..=25 => form(random, sample, number),
         10..=12 => entry(random, sample, number),
+        13 if random.once_in(3) => past_limit(random, sample),
         13 => column(random, sample),
         14 => back(random, sample),
         16 => Some(early(random, sample)),
@@ -327,6 +328,27 @@ fn wrong_for(random: &mut Random, layout: &Layout, n: usize) -> Option<[u8; 3]> 
     let wrong = LISTED.iter().filter(|l| width < l.least || l.most < width).map(|l| *l.code);
     let choices: Vec<[u8; 3]> = wrong.filter(fresh).collect();
     (!choices.is_empty()).then(|| *random.pick(&choices))
+}
+
+/// LAD or LOD with a digit other than 0, in a line that is put at 90 or at 180 degrees.
+fn past_limit(random: &mut Random, sample: &Sample) -> Option<Aimed> {
+    let full = |e: &Entry| match &e.code {
+        b"LAD" => Some((*e, 7, b"9000000".as_slice())),
+        b"LOD" => Some((*e, 15, b"18000000".as_slice())),
+        _ => None,
+    };
+    let choices: Vec<_> = sample.layouts.fixes.entries.iter().filter_map(full).collect();
+    if choices.is_empty() {
+        return None;
+    }
+    let at = find(random, sample, |l| l.role == Role::Fix)?;
+    let (entry, from, degrees) = *random.pick(&choices);
+    let mut text = sample.lines[at].text.clone();
+    text[from..from + degrees.len()].copy_from_slice(degrees);
+    let field = &mut text[entry.first - 1..entry.last];
+    field.fill(b'0');
+    field[random.below(entry.width())] = *random.pick(b"123456789");
+    Some(changed(sample, at, text, 13, entry.first))
 }
 
 /// A listed column with something else than its digits.

@@ -1,4 +1,4 @@
-//! Valid files, made at random from a seed: every kind of line, layouts of listed and unlisted codes in any order and width,
+//! Valid files, made at random from a seed: every kind of line, layouts of listed and unlisted codes in any order and width, LAD, LOD and TDS among them more often,
 //! declarations, midnight, the leap second, texts at their limits; with G lines and without.
 
 use super::random::Random;
@@ -102,7 +102,7 @@ fn position(random: &mut Random, axis: Axis) -> Vec<u8> {
         3 => random.below(degrees) * 60_000 + 59_999,
         _ => random.below(most),
     };
-    axis.text(&Position { count: count as u64, letter: *random.pick(&axis.letters) })
+    axis.text(&Position::whole(count as u64, *random.pick(&axis.letters)))
 }
 
 fn altitude(random: &mut Random) -> Vec<u8> {
@@ -117,11 +117,28 @@ fn altitude(random: &mut Random) -> Vec<u8> {
     altitude_text(metres).into_bytes()
 }
 
+/// The codes whose columns refine a fix.
+const REFINING: [[u8; 3]; 3] = [*b"LAD", *b"LOD", *b"TDS"];
+
+/// Which codes a layout has: so many of four are listed, and so many of four are those that refine a fix.
+#[derive(Clone, Copy)]
+struct Mixture {
+    listed: usize,
+    refining: usize,
+}
+
 /// A code that is not among the entries, and a width that it may have within `room` bytes.
-fn column(random: &mut Random, layout: &Layout, room: usize, listed_of_four: usize) -> Option<([u8; 3], usize)> {
-    let (code, width) = if random.below(4) < listed_of_four {
-        let l = random.pick(&LISTED);
-        (*l.code, random.within(l.least, l.most))
+fn column(random: &mut Random, layout: &Layout, room: usize, of_four: Mixture) -> Option<([u8; 3], usize)> {
+    let of = |random: &mut Random, code: [u8; 3]| {
+        let l = listed(&code).unwrap();
+        (code, random.within(l.least, l.most))
+    };
+    let (code, width) = if random.below(4) < of_four.refining {
+        let code = *random.pick(&REFINING);
+        of(random, code)
+    } else if random.below(4) < of_four.listed {
+        let code = *random.pick(&LISTED).code;
+        of(random, code)
     } else {
         let width = match random.below(20) {
             0 => room,
@@ -134,21 +151,21 @@ fn column(random: &mut Random, layout: &Layout, room: usize, listed_of_four: usi
     (fits && width <= room && layout.look_up(&code).is_none()).then_some((code, width))
 }
 
-/// A layout of listed and unlisted codes in any order.
+/// A layout of listed and unlisted codes in any order; in a third of them the codes that refine a fix come up often.
 pub fn layout(random: &mut Random, family: Family) -> Layout {
     let count = match random.below(8) {
         0 => 0,
         1 => 13,
         _ => random.within(1, 8),
     };
-    let listed_of_four = random.below(5);
+    let of_four = Mixture { listed: random.below(5), refining: if random.once_in(3) { random.within(1, 4) } else { 0 } };
     let mut layout = Layout::default();
     for _ in 0..2 * count {
         let end = layout.length(family);
         if layout.entries.len() == count || end == 99 {
             break;
         }
-        if let Some((code, width)) = column(random, &layout, 99 - end, listed_of_four) {
+        if let Some((code, width)) = column(random, &layout, 99 - end, of_four) {
             layout.entries.push(Entry { first: end + 1, last: end + width, code });
         }
     }
@@ -175,6 +192,12 @@ fn column_text(random: &mut Random, e: &Entry) -> Vec<u8> {
 
 fn columns(random: &mut Random, layout: &Layout) -> Vec<u8> {
     layout.entries.iter().flat_map(|e| column_text(random, e)).collect()
+}
+
+/// The columns of a B line at this latitude and longitude. At 90 degrees LAD has zeros alone, at 180 degrees LOD.
+fn fix_columns(random: &mut Random, layout: &Layout, latitude: &[u8], longitude: &[u8]) -> Vec<u8> {
+    let is_full = |e: &Entry| e.code == *b"LAD" && latitude.starts_with(b"90") || e.code == *b"LOD" && longitude.starts_with(b"180");
+    layout.entries.iter().flat_map(|e| if is_full(e) { vec![b'0'; e.width()] } else { column_text(random, e) }).collect()
 }
 
 /// The time of the next timed line: the same, a little later, much later, the leap second, or past midnight, often by the least fall that is one. All of these come after any
@@ -256,9 +279,10 @@ impl<'a> Maker<'a> {
                 [timed(b'F'), codes(random, 2 * pairs)].concat()
             }
             Role::Fix => {
-                let place = [position(random, NORTH_SOUTH), position(random, EAST_WEST), vec![*random.pick(b"AAAV")]].concat();
+                let [latitude, longitude] = [NORTH_SOUTH, EAST_WEST].map(|axis| position(random, axis));
+                let columns = fix_columns(random, &self.sample.layouts.fixes, &latitude, &longitude);
                 let heights = [altitude(random), altitude(random)].concat();
-                [timed(b'B'), place, heights, columns(random, &self.sample.layouts.fixes)].concat()
+                [timed(b'B'), latitude, longitude, vec![*random.pick(b"AAAV")], heights, columns].concat()
             }
             Role::Extra => [timed(b'K'), columns(random, &self.sample.layouts.extras)].concat(),
             Role::Unsigned => [timed(b'N'), columns(random, &self.sample.layouts.unsigned)].concat(),

@@ -5,21 +5,25 @@ mod characters;
 pub mod damage;
 pub mod examples;
 pub mod filled;
+pub mod finer;
 pub mod generate;
 pub mod limits;
 pub mod looks;
 pub mod pairs;
 pub mod random;
 pub mod reached;
+pub mod reached_finer;
 pub mod reached_looks;
 pub mod reached_pairs;
 pub mod reached_signed;
 pub mod reached_track;
 mod rules;
+pub mod values;
 
 use crate::reading::layouts::FAMILIES;
 use crate::reading::refusals::{ENDS_EARLY, TABLE_FULL};
 use crate::reading::{Accepted, Answer, Refusal, Role};
+use finer::Case;
 use generate::Sample;
 use limits::Limit;
 use random::Random;
@@ -78,17 +82,18 @@ pub struct Made {
     pub known: Known,
 }
 
-/// The files of a run: valid ones, ones damaged anywhere or at an aim, and each limit in turn.
+/// The files of a run: valid ones, ones damaged anywhere or at an aim, and each limit in turn, with each case of a refined B line among them.
 pub struct Run {
     seed: u64,
     limits: Vec<Limit>,
+    finer: Vec<Case>,
     most_lines: usize,
 }
 
 impl Run {
     /// Files of up to about so many body lines, now and then more.
     pub fn new(seed: u64, most_lines: usize) -> Run {
-        Run { seed, limits: limits::all(), most_lines }
+        Run { seed, limits: limits::all(), finer: finer::all(), most_lines }
     }
 
     /// The source of numbers for a file of the run, and for whatever is then asked of it.
@@ -142,8 +147,12 @@ impl Run {
 
     /// A file at one limit after the other, in an order that the seed shifts; neighbours in the list come far apart.
     fn at_limit(&self, random: &mut Random, turn: u64) -> (Vec<u8>, Known) {
-        let at = turn.wrapping_mul(7_919).wrapping_add(self.seed) % self.limits.len() as u64;
-        (limits::file(random, &self.limits[at as usize]), Known::Nothing)
+        let count = self.limits.len() + self.finer.len();
+        let at = (turn.wrapping_mul(7_919).wrapping_add(self.seed) % count as u64) as usize;
+        match self.limits.get(at) {
+            Some(limit) => (limits::file(random, limit), Known::Nothing),
+            None => finer::file(random, &self.finer[at - self.limits.len()]),
+        }
     }
 }
 

@@ -103,6 +103,11 @@ fn of_list(count: usize, room: usize) -> Vec<&'static str> {
     ])
 }
 
+/// The seconds of a fix, without the digits of a TDS column.
+fn seconds(r: &Record) -> u32 {
+    r.fix.time.plain() as u32
+}
+
 /// What the days of a track reach: between two fixes that are neighbours, and before the first.
 fn of_days(file: &[u8], track: &[Record]) -> Vec<&'static str> {
     let Some(last) = track.last() else { return Vec::new() };
@@ -110,12 +115,12 @@ fn of_days(file: &[u8], track: &[Record]) -> Vec<&'static str> {
     let mut reached = those([
         ("a midnight before the first fix", track[0].day > 0),
         ("fixes on three days", track.windows(3).any(|three| three[0].day < three[1].day && three[1].day < three[2].day)),
-        ("a fix at the leap second", track.iter().any(|r| r.fix.time == LEAP)),
+        ("a fix at the leap second", track.iter().any(|r| seconds(r) == LEAP)),
     ]);
     for two in track.windows(2) {
         let between: Vec<u8> =
             timed.iter().filter(|(number, ..)| two[0].line < *number && *number < two[1].line).map(|(_, kind, _)| *kind).collect();
-        let (days, falls) = (two[1].day - two[0].day, two[1].fix.time < two[0].fix.time);
+        let (days, falls) = (two[1].day - two[0].day, seconds(&two[1]) < seconds(&two[0]));
         let only = |kind: u8| days == 1 && !falls && between == [kind];
         reached.extend(those([
             ("a midnight between two fixes with nothing timed between", days == 1 && between.is_empty()),
@@ -124,7 +129,7 @@ fn of_days(file: &[u8], track: &[Record]) -> Vec<&'static str> {
             ("a midnight that only a K line shows", only(b'K')),
             ("a midnight that only an N line shows", only(b'N')),
             ("two midnights between two fixes", days == 2),
-            ("a fix on the day after one at the leap second", days == 1 && two[0].fix.time == LEAP),
+            ("a fix on the day after one at the leap second", days == 1 && seconds(&two[0]) == LEAP),
         ]));
     }
     reached

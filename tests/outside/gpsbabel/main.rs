@@ -39,7 +39,7 @@ struct Point {
 }
 
 /// A valid file that gpsbabel reads too: it wants a letter after the A, lines of three bytes or more, no kind past L, no second date line, and takes the years 70 to 79 for 1970 to 1979.
-/// An N line becomes an event of the same time, so that the time order stays.
+/// An N line becomes an event of the same time, so that the time order stays. Columns that refine a fix get other codes, since the points are held by the plain counts.
 fn tamed(random: &mut Random) -> Sample {
     let body = random.within(5, 120);
     let mut sample = generate::sample(random, body);
@@ -52,11 +52,25 @@ fn tamed(random: &mut Random) -> Sample {
             Role::Head => move_day(&mut line.text[1..7]),
             Role::Header if &line.text[2..5] == b"DTE" => line.text[2] = b'G',
             Role::Seal if line.text.len() < 3 => line.text.push(b'x'),
+            Role::Layout(Family::Fixes) => line.text = unrefined(&line.text),
             Role::Unsigned => *line = Line { role: Role::Event, text: [b"E", &line.text[1..7], b"PEV"].concat() },
             _ => {}
         }
     }
     sample
+}
+
+/// An I line in which LAD, LOD and TDS have other codes, which no listed code and no other column has.
+fn unrefined(line: &[u8]) -> Vec<u8> {
+    let mut line = line.to_vec();
+    for at in (7..line.len()).step_by(7) {
+        let [a, b, c] = [line[at], line[at + 1], line[at + 2]];
+        if [b"LAD", b"LOD", b"TDS"].contains(&&[a, b, c]) {
+            let free = (b'0'..=b'9').map(|n| [n, a, b]).find(|code| line[3..].chunks(7).all(|entry| entry[4..] != *code)).unwrap();
+            line[at..at + 3].copy_from_slice(&free);
+        }
+    }
+    line
 }
 
 /// A date of the seventies moved to the sixties; the year may have lost its 29 February.
@@ -67,18 +81,25 @@ fn move_day(day: &mut [u8]) {
     }
 }
 
-/// The degrees of a position that stands at 3 to 6 of an answer.
-fn degrees_of(told: &library::Told) -> [f64; 2] {
-    let v = told.answer;
-    let (number, degrees) = library::degrees((v[3], v[4] as u8), (v[5], v[6] as u8));
-    assert_eq!((told.number, number), (0, 0));
+/// The degrees of a position.
+fn degrees_of(latitude: library::PositionValues, longitude: library::PositionValues) -> [f64; 2] {
+    let (number, degrees) = library::degrees(latitude, longitude);
+    assert_eq!(number, 0);
     degrees.map(f64::from_bits)
+}
+
+/// The degrees of a declaration's point.
+fn degrees_of_point(told: &library::Told) -> [f64; 2] {
+    assert_eq!(told.number, 0);
+    let at = |place: usize| library::PositionValues { count: told.answer[place], letter: told.answer[place + 1] as u8, decimals: 0 };
+    degrees_of(at(library::POINT_LATITUDE), at(library::POINT_LONGITUDE))
 }
 
 /// The library's track of a file that has so many fixes.
 fn track_of(file: &[u8], count: u64) -> Vec<library::Record> {
-    let place = library::RecordPosition { count: 0, letter: 0 };
-    let fix = library::RecordFix { time: 0, latitude: place, longitude: place, validity: 0, pressure: 0, gnss: 0 };
+    let place = library::PositionValues { count: 0, letter: 0, decimals: 0 };
+    let time = library::TimeValues { count: 0, decimals: 0 };
+    let fix = library::FixValues { time, latitude: place, longitude: place, validity: 0, pressure: 0, gnss: 0 };
     let mut list = vec![library::Record { line: 0, day: 0, fix }; count as usize];
     let told = library::track(file, &mut list);
     assert_eq!((told.number, told.answer[library::TRACK_COUNT]), (0, count), "the track's count");
@@ -88,16 +109,14 @@ fn track_of(file: &[u8], count: u64) -> Vec<library::Record> {
 /// A fix of the track, which is what the single reading of its line gives.
 fn fix_of(record: &library::Record, line: &[u8], layout: &[u8], follows: bool) -> Fix {
     let read = library::fix(line, layout, library::Lent::of(library::ANSWER, 2, library::ENTRIES, 0));
-    let told = library::Told { number: read.number, answer: read.answer.try_into().unwrap() };
-    let heights = [read.heights[0], read.heights[1]];
-    let (v, r) = (told.answer, record.fix);
-    let places = [r.latitude.count, r.latitude.letter.into(), r.longitude.count, r.longitude.letter.into()];
+    let (values, heights) = (record.fix.answered(), record.fix.heights());
     assert_eq!(
-        (v[2], &v[3..7], v[7], heights),
-        (r.time.into(), &places[..], r.validity.into(), [r.pressure, r.gnss]),
+        (read.number, &read.answer[2..2 + values.len()], &read.heights[..]),
+        (0, &values[..], &heights[..]),
         "a record of the track"
     );
-    Fix { day: record.day.into(), seconds: v[2], degrees: degrees_of(&told), heights, follows }
+    let degrees = degrees_of(record.fix.latitude, record.fix.longitude);
+    Fix { day: record.day.into(), seconds: record.fix.time.count.into(), degrees, heights, follows }
 }
 
 /// A file by the library: checked, stepped through, each B and C line read, the B lines also as its track.
@@ -127,7 +146,7 @@ fn flight(file: &[u8]) -> Flight {
             }
             b'E' | b'F' | b'K' | b'N' => follows = false,
             b'C' if flight.head.is_none() => flight.head = Some(library::head(line).answer),
-            b'C' => flight.points.push(degrees_of(&library::point(line))),
+            b'C' => flight.points.push(degrees_of_point(&library::point(line))),
             _ => {}
         }
     }

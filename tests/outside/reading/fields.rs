@@ -1,6 +1,7 @@
 //! The fields of a line, each both ways: the value that a text tells, and the text that tells a value.
 
 use super::characters::is_code;
+use super::finer::Finer;
 use super::refusals::{self, FORM, Fault, Read};
 
 /// A kind of field: the refusal where its rule is broken, its width, and the value of its text.
@@ -106,11 +107,18 @@ pub fn date_or_none_text(d: &Option<Date>) -> String {
     d.map_or("000000".to_string(), |d| date_text(&d))
 }
 
-/// "A count of thousandths of a minute with its letter kept beside it."
+/// "A count of thousandths of a minute with its letter kept beside it." In a fix the count may have extra decimals; in a C point it has none.
 #[derive(Clone, Copy, PartialEq, Eq, Debug)]
 pub struct Position {
-    pub count: u64,
+    pub count: Finer,
     pub letter: u8,
+}
+
+impl Position {
+    /// A position whose count has no extra decimals.
+    pub const fn whole(count: u64, letter: u8) -> Position {
+        Position { count: Finer::whole(count), letter }
+    }
 }
 
 /// What latitude and longitude differ in: the digits of the degrees, the greatest count, and the letters, the one that the map negates last.
@@ -125,21 +133,24 @@ pub const NORTH_SOUTH: Axis = Axis { wide: 2, most: 5_400_000, letters: *b"NS" }
 pub const EAST_WEST: Axis = Axis { wide: 3, most: 10_800_000, letters: *b"EW" };
 
 impl Axis {
+    /// "Latitude at most 5,400,000, longitude at most 10,800,000", and as much with extra decimals, "up to 4".
     pub fn allows(&self, p: &Position) -> bool {
-        p.count <= self.most && self.letters.contains(&p.letter)
+        let Finer { count, decimals } = p.count;
+        decimals <= 4 && count <= self.most * 10u64.pow(decimals.into()) && self.letters.contains(&p.letter)
     }
 
     /// Degrees, MMmmm and a letter. "Minutes are 00 to 59."
     fn position(&self, text: &[u8]) -> Option<Position> {
         let wide = self.wide;
         let (degrees, minutes, thousandths) = (digits(&text[..wide])?, digits(&text[wide..wide + 2])?, digits(&text[wide + 2..wide + 5])?);
-        let p = Position { count: (degrees * 60 + minutes) * 1000 + thousandths, letter: text[wide + 5] };
+        let p = Position::whole((degrees * 60 + minutes) * 1000 + thousandths, text[wide + 5]);
         (minutes <= 59 && self.allows(&p)).then_some(p)
     }
 
+    /// The field of a position's plain count.
     pub fn text(&self, p: &Position) -> Vec<u8> {
-        let wide = self.wide;
-        let mut text = format!("{:0wide$}{:02}{:03}", p.count / 60_000, p.count / 1000 % 60, p.count % 1000).into_bytes();
+        let (wide, plain) = (self.wide, p.count.plain());
+        let mut text = format!("{:0wide$}{:02}{:03}", plain / 60_000, plain / 1000 % 60, plain % 1000).into_bytes();
         text.push(p.letter);
         text
     }

@@ -110,7 +110,8 @@ impl Course {
     fn read(&mut self, line: &[u8], role: Role) -> Read<Option<u32>> {
         let said = &mut self.said;
         match role {
-            Role::Fix => return fix_line(line, &said.layouts.fixes).map(|f| Some(f.time)),
+            // "Time order, day number and the listing still use the plain counts."
+            Role::Fix => return fix_line(line, &said.layouts.fixes).map(|f| Some(f.time.plain() as u32)),
             Role::Extra => return extra_line(line, Family::Extras, &said.layouts.extras).map(Some),
             Role::Unsigned => return extra_line(line, Family::Unsigned, &said.layouts.unsigned).map(Some),
             Role::Event => return event_line(line).map(Some),

@@ -227,9 +227,9 @@ pub fn layout_line(line: &[u8], family: Family) -> Read<Layout> {
     Ok(layout)
 }
 
-/// The columns of a line whose length is the layout's.
-pub fn columns(line: &[u8], layout: &Layout) -> Read<()> {
-    match layout.entries.iter().find(|e| !e.keeps_its_rule(line)) {
+/// The columns of a line whose length is the layout's, from the left. `besides` is what breaks a column's rule for what else its line says.
+pub fn columns(line: &[u8], layout: &Layout, besides: impl Fn(&Entry) -> bool) -> Read<()> {
+    match layout.entries.iter().find(|e| !e.keeps_its_rule(line) || besides(e)) {
         Some(e) => refuse(COLUMN, e.first),
         None => Ok(()),
     }

@@ -2,6 +2,7 @@
 
 use super::characters::is_valid;
 use super::fields::{ALTITUDE, DATE, DATE_OR_NONE, Date, FDTE, LATITUDE, LONGITUDE, Position, TIME, codes_of, digits_of, one_of};
+use super::finer::{Finer, passes_a_limit, refined};
 use super::layouts::{Family, Layout, columns};
 use super::refusals::{CHARACTER, FORM, LENGTH, Read, refuse};
 
@@ -63,9 +64,10 @@ impl Role {
     }
 }
 
+/// A fix. Its time and its position have the extra decimals that its columns tell.
 #[derive(Clone, Copy, PartialEq, Eq, Debug)]
 pub struct Fix {
-    pub time: u32,
+    pub time: Finer,
     pub latitude: Position,
     pub longitude: Position,
     pub validity: u8,
@@ -125,16 +127,16 @@ pub fn header(line: &[u8]) -> Read<()> {
 pub fn fix_line(line: &[u8], layout: &Layout) -> Read<Fix> {
     let length = layout.length(Family::Fixes);
     shape(line, (length, length))?;
-    let fix = Fix {
-        time: TIME.at(line, 2)?,
+    let plain = Fix {
+        time: Finer::whole(TIME.at(line, 2)?.into()),
         latitude: LATITUDE.at(line, 8)?,
         longitude: LONGITUDE.at(line, 16)?,
         validity: one_of(b"AV", line, 25)?,
         pressure: ALTITUDE.at(line, 26)?,
         gnss: ALTITUDE.at(line, 31)?,
     };
-    columns(line, layout)?;
-    Ok(fix)
+    columns(line, layout, |column| passes_a_limit(&plain, line, column))?;
+    Ok(refined(plain, line, layout))
 }
 
 /// "K: time 2 to 7, columns from 8." "N is built as K is: time at 2 to 7, columns from 8, exact length, listed codes checked". The family is one of these two.
@@ -142,7 +144,7 @@ pub fn extra_line(line: &[u8], family: Family, layout: &Layout) -> Read<u32> {
     let length = layout.length(family);
     shape(line, (length, length))?;
     let time = TIME.at(line, 2)?;
-    columns(line, layout)?;
+    columns(line, layout, |_| false)?;
     Ok(time)
 }
 

@@ -46,12 +46,14 @@ pub fn flight(file: &[u8], table: &[u32], said: &Accepted) -> String {
     out
 }
 
-/// "FIX: line, seconds, latitude and letter, longitude and letter, validity, pressure and GNSS altitude. COL: code and text, in layout order, under each fix."
+/// "FIX: line, seconds, latitude and letter, longitude and letter, validity, pressure and GNSS altitude. COL: code and text, in layout order, under each fix." "Time order, day
+/// number and the listing still use the plain counts."
 pub fn fix(number: u64, text: &[u8], read: &WithColumns<Fix>) -> String {
     let (f, columns) = (&read.said, &read.columns);
     let letters = [f.latitude.letter, f.longitude.letter, f.validity].map(char::from);
-    let places = format!("{} {} {} {}", f.latitude.count, letters[0], f.longitude.count, letters[1]);
-    let mut out = format!("FIX {number} {} {places} {} {} {}\n", f.time, letters[2], f.pressure, f.gnss);
+    let [time, latitude, longitude] = [f.time, f.latitude.count, f.longitude.count].map(|finer| finer.plain());
+    let places = format!("{latitude} {} {longitude} {}", letters[0], letters[1]);
+    let mut out = format!("FIX {number} {time} {places} {} {} {}\n", letters[2], f.pressure, f.gnss);
     for column in columns {
         let e = look(text, columns, &column.code).unwrap();
         out += &format!("COL {} {}\n", String::from_utf8_lossy(&e.code), String::from_utf8_lossy(e.text(text)));

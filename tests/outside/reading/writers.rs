@@ -36,10 +36,13 @@ fn allowed(layout: &Layout, family: Family) -> Answer<()> {
     layout.is_allowed(family).then_some(()).ok_or(Refusal::of(BAD_VALUE))
 }
 
+/// A B line. "The B writer splits the count again and refuses one whose decimals don't match the layout's width or whose digits aren't the column's": the 35 bytes have the plain
+/// counts, the columns are as given, and the line must read as the fix.
 pub fn write_fix(fix: &Fix, columns: &[u8], layout: &Layout, place: usize, out: &mut [u8]) -> Answer<usize> {
     allowed(layout, Family::Fixes)?;
+    let seconds = u32::try_from(fix.time.plain()).map_err(|_| Refusal::of(BAD_VALUE))?;
     let mut line = vec![b'B'];
-    line.extend(time_text(fix.time).bytes());
+    line.extend(time_text(seconds).bytes());
     line.extend(NORTH_SOUTH.text(&fix.latitude));
     line.extend(EAST_WEST.text(&fix.longitude));
     line.push(fix.validity);

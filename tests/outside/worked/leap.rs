@@ -2,7 +2,7 @@
 
 use super::*;
 use outside::reading::listing::listing;
-use outside::reading::{Date, Fix, Head, Position, read_event, read_head, read_satellites, write_extra, write_fix, write_head};
+use outside::reading::{Date, Head, read_event, read_head, read_satellites, write_extra, write_fix, write_head};
 
 /// Times with 60 seconds that are no leap second, and times past it.
 const NONE: [&str; 9] = ["235961", "235969", "240000", "236000", "235860", "225960", "120060", "000060", "245960"];
@@ -14,7 +14,7 @@ fn fix_at(time: &str) -> String {
 #[test]
 fn in_every_time_field() {
     let none = Layout::default();
-    assert_eq!(fix_of(fix_at("235960").as_bytes(), &none).map(|f| f.time), Ok(86_400));
+    assert_eq!(fix_of(fix_at("235960").as_bytes(), &none).map(|f| f.time), Ok(Finer::whole(86_400)));
     assert_eq!(time_of(b"K235960", &none), Ok(86_400));
     assert_eq!(time_of(b"N235960", &none), Ok(86_400));
     assert_eq!(read_event(b"E235960PEV"), Ok(86_400));
@@ -86,8 +86,8 @@ fn written() {
         (answer, String::from_utf8(out.to_vec()).unwrap())
     };
     let none = Layout::default();
-    let (latitude, longitude) = (Position { count: 3_090_000, letter: b'N' }, Position { count: 15_000, letter: b'W' });
-    let fix = |time| Fix { time, latitude, longitude, validity: b'A', pressure: 100, gnss: 120 };
+    let (latitude, longitude) = (at(3_090_000, b'N'), at(15_000, b'W'));
+    let fix = |time: u32| Fix { time: Finer::whole(time.into()), latitude, longitude, validity: b'A', pressure: 100, gnss: 120 };
     let head = |time| Head { declared: Date { day: 31, month: 12, year: 2016 }, time, flight: None, task: 1, turns: 0 };
     for (line, write) in [
         ("K235960", &(|time, out: &mut [u8]| write_extra(b'K', time, b"", &none, 0, out)) as &dyn Fn(u32, &mut [u8]) -> Answer<usize>),

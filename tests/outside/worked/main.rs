@@ -3,6 +3,7 @@
 
 mod damaged;
 mod files;
+mod finer;
 mod layouts;
 mod leap;
 mod lines;
@@ -19,7 +20,9 @@ mod track;
 mod unsigned;
 mod writers;
 
-use outside::reading::{Answer, Entry, Fix, Layout, Refusal, check_strict, check_usual, look, look_number, read_extra, read_fix};
+use outside::reading::{
+    Answer, Entry, Finer, Fix, Layout, Position, Refusal, check_strict, check_usual, look, look_number, read_extra, read_fix,
+};
 
 const A: &str = "AXYZ001";
 const DATE: &str = "HFDTE150724";
@@ -119,6 +122,11 @@ fn layout(all: &[(usize, usize, &str)]) -> Layout {
 /// The fix of a B line, without its columns.
 fn fix_of(line: &[u8], y: &Layout) -> Answer<Fix> {
     read_fix(line, y).map(|read| read.said)
+}
+
+/// A position without extra decimals.
+const fn at(count: u64, letter: u8) -> Position {
+    Position::whole(count, letter)
 }
 
 /// The time of a K or an N line, without its columns.

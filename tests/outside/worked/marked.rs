@@ -2,7 +2,7 @@
 
 use super::*;
 use outside::reading::listing::listing;
-use outside::reading::{Date, Family, LIMIT, Point, Position, read_date, read_layout, read_point};
+use outside::reading::{Date, Family, LIMIT, Point, read_date, read_layout, read_point};
 
 fn fix(p: Parts) -> Answer<Fix> {
     fix_of(b(p).as_bytes(), &Layout::default())
@@ -10,25 +10,25 @@ fn fix(p: Parts) -> Answer<Fix> {
 
 #[test]
 fn marked_1() {
-    assert_eq!(fix(Parts { lat: "9000000N", ..PARTS }).map(|f| f.latitude.count), Ok(5_400_000));
+    assert_eq!(fix(Parts { lat: "9000000N", ..PARTS }).map(|f| f.latitude.count), Ok(Finer::whole(5_400_000)));
     assert_eq!(fix(Parts { lat: "9000001N", ..PARTS }), no(23, 8));
-    let corner = Point { latitude: Position { count: 5_400_000, letter: b'N' }, longitude: Position { count: 0, letter: b'E' } };
+    let corner = Point { latitude: at(5_400_000, b'N'), longitude: at(0, b'E') };
     assert_eq!(read_point(b"C9000000N00000000E"), Ok(corner));
     assert_eq!(read_point(b"C9000001N00000000E"), no(23, 2));
 }
 
 #[test]
 fn marked_2() {
-    assert_eq!(fix(Parts { lon: "18000000E", ..PARTS }).map(|f| f.longitude.count), Ok(10_800_000));
+    assert_eq!(fix(Parts { lon: "18000000E", ..PARTS }).map(|f| f.longitude.count), Ok(Finer::whole(10_800_000)));
     assert_eq!(fix(Parts { lon: "18000001E", ..PARTS }), no(23, 16));
-    assert_eq!(read_point(b"C9000000N18000000W").map(|p| p.longitude.count), Ok(10_800_000));
+    assert_eq!(read_point(b"C9000000N18000000W").map(|p| p.longitude.count), Ok(Finer::whole(10_800_000)));
     assert_eq!(read_point(b"C9000000N18000001W"), no(23, 10));
 }
 
 #[test]
 fn marked_3() {
     assert_eq!(fix(Parts { lat: "4560000N", ..PARTS }), no(23, 8));
-    assert_eq!(fix(Parts { lat: "4559999N", ..PARTS }).map(|f| f.latitude.count), Ok(45 * 60_000 + 59_999));
+    assert_eq!(fix(Parts { lat: "4559999N", ..PARTS }).map(|f| f.latitude.count), Ok(Finer::whole(45 * 60_000 + 59_999)));
 }
 
 #[test]
@@ -44,8 +44,8 @@ fn marked_5() {
     assert_eq!(time_of(b"K235959", &Layout::default()), Ok(86_399));
     assert_eq!(time_of(b"K235960", &Layout::default()), Ok(86_400));
     assert_eq!(time_of(b"K235961", &Layout::default()), no(22, 2));
-    assert_eq!(fix(Parts { time: "235959", ..PARTS }).map(|f| f.time), Ok(86_399));
-    assert_eq!(fix(Parts { time: "235960", ..PARTS }).map(|f| f.time), Ok(86_400));
+    assert_eq!(fix(Parts { time: "235959", ..PARTS }).map(|f| f.time), Ok(Finer::whole(86_399)));
+    assert_eq!(fix(Parts { time: "235960", ..PARTS }).map(|f| f.time), Ok(Finer::whole(86_400)));
     assert_eq!(fix(Parts { time: "235961", ..PARTS }), no(22, 2));
 }
 

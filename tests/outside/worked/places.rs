@@ -1,7 +1,7 @@
 //! Lines by their number and by stepping, and a position for the map.
 
 use super::*;
-use outside::reading::{Position, degrees, line, step};
+use outside::reading::{degrees, line, step};
 
 #[test]
 fn line_by_number() {
@@ -36,9 +36,7 @@ fn stepping() {
 
 #[test]
 fn for_the_map() {
-    let at = |lat: u64, n_or_s: u8, lon: u64, e_or_w: u8| {
-        degrees(Position { count: lat, letter: n_or_s }, Position { count: lon, letter: e_or_w })
-    };
+    let at = |lat: u64, n_or_s: u8, lon: u64, e_or_w: u8| degrees(at(lat, n_or_s), at(lon, e_or_w));
     assert_eq!(at(3_090_000, b'N', 15_000, b'W'), Ok((51.5, -0.25)));
     assert_eq!(at(5_400_000, b'S', 10_800_000, b'E'), Ok((-90.0, 180.0)));
     assert_eq!(at(1, b'S', 1, b'E'), Ok((-1.0 / 60_000.0, 1.0 / 60_000.0)));

@@ -1,18 +1,20 @@
 //! The readers of one line.
 
 use super::*;
-use outside::reading::{Date, Head, Point, Position, WithColumns, read_event, read_head, read_point, read_satellites};
-
-fn at(count: u64, letter: u8) -> Position {
-    Position { count, letter }
-}
+use outside::reading::{Date, Head, Point, WithColumns, read_event, read_head, read_point, read_satellites};
 
 #[test]
 fn fixes() {
     let read = |line: &str, y: &Layout| fix_of(line.as_bytes(), y);
     let none = Layout::default();
-    let expected =
-        Fix { time: 43_200, latitude: at(3_090_000, b'N'), longitude: at(15_000, b'W'), validity: b'A', pressure: 100, gnss: 120 };
+    let expected = Fix {
+        time: Finer::whole(43_200),
+        latitude: at(3_090_000, b'N'),
+        longitude: at(15_000, b'W'),
+        validity: b'A',
+        pressure: 100,
+        gnss: 120,
+    };
     assert_eq!(read(B40, &two_columns()), Ok(expected));
     let columns = entries(&[(36, 38, "FXA"), (39, 40, "SIU")]);
     assert_eq!(read_fix(B40.as_bytes(), &two_columns()), Ok(WithColumns { said: expected, columns }));

@@ -3,7 +3,7 @@
 use super::*;
 use outside::files::Run;
 use outside::files::reached_track::{Reached, rooms};
-use outside::reading::{Position, Record, track, track_into, tracked};
+use outside::reading::{Record, track, track_into, tracked};
 
 fn fix_at(time: &str) -> String {
     b(Parts { time, ..PARTS })
@@ -16,8 +16,8 @@ fn flight<L: AsRef<str>>(lines: &[L]) -> Vec<u8> {
 }
 
 /// Line, day and seconds of each record of that file.
-fn days<L: AsRef<str>>(lines: &[L]) -> Vec<(u64, u64, u32)> {
-    track(&flight(lines)).unwrap().iter().map(|r| (r.line, r.day, r.fix.time)).collect()
+fn days<L: AsRef<str>>(lines: &[L]) -> Vec<(u64, u64, u64)> {
+    track(&flight(lines)).unwrap().iter().map(|r| (r.line, r.day, r.fix.time.count)).collect()
 }
 
 /// A line of each timed kind but B.
@@ -27,8 +27,8 @@ fn timed(kind: char, time: &str) -> String {
 
 /// A record that no file has, another for each place of a list.
 fn lent(n: usize) -> Record {
-    let place = Position { count: 77, letter: b'?' };
-    let fix = Fix { time: 99_999, latitude: place, longitude: place, validity: b'?', pressure: -77_777, gnss: 777_777 };
+    let place = at(77, b'?');
+    let fix = Fix { time: Finer::whole(99_999), latitude: place, longitude: place, validity: b'?', pressure: -77_777, gnss: 777_777 };
     Record { line: 1_000 + n as u64, day: 500, fix }
 }
 
@@ -41,10 +41,16 @@ fn values() {
     // columns and an I line before it; 0 S and 0 W keep their letters, altitudes their minus
     let south = "B1200010000000S00000000WV-0012-9999";
     let lines = [A, DATE, "HFPLTPILOT:DOE, JANE", I2, "LX", B40, "LX", &format!("{south}01208"), G];
-    let place = |count, letter| Position { count, letter };
-    let first =
-        Fix { time: 43_200, latitude: place(3_090_000, b'N'), longitude: place(15_000, b'W'), validity: b'A', pressure: 100, gnss: 120 };
-    let second = Fix { time: 43_201, latitude: place(0, b'S'), longitude: place(0, b'W'), validity: b'V', pressure: -12, gnss: -9_999 };
+    let first = Fix {
+        time: Finer::whole(43_200),
+        latitude: at(3_090_000, b'N'),
+        longitude: at(15_000, b'W'),
+        validity: b'A',
+        pressure: 100,
+        gnss: 120,
+    };
+    let second =
+        Fix { time: Finer::whole(43_201), latitude: at(0, b'S'), longitude: at(0, b'W'), validity: b'V', pressure: -12, gnss: -9_999 };
     assert_eq!(track(&file(&lines)), Ok(vec![Record { line: 6, day: 0, fix: first }, Record { line: 8, day: 0, fix: second }]));
 }
 
@@ -107,7 +113,7 @@ fn lines_without_a_time() {
 fn without_a_signature() {
     // the usual check: no G is needed
     let lines = [A, DATE, &fix_at("235959"), "K000000", &fix_at("000001")];
-    let records: Vec<_> = track(&file(&lines)).unwrap().iter().map(|r| (r.line, r.day, r.fix.time)).collect();
+    let records: Vec<_> = track(&file(&lines)).unwrap().iter().map(|r| (r.line, r.day, r.fix.time.count)).collect();
     assert_eq!(records, [(3, 0, 86_399), (5, 1, 1)]);
     assert_eq!(track(&file(&[A, DATE])), Ok(vec![]));
 }

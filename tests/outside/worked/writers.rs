@@ -1,7 +1,7 @@
 //! The writers.
 
 use super::*;
-use outside::reading::{Date, Family, Fix, Head, Point, Position, write_extra, write_fix, write_head, write_layout, write_point};
+use outside::reading::{Date, Family, Head, Point, write_extra, write_fix, write_head, write_layout, write_point};
 
 /// The line that a writer puts at the front of an output with room for it, or its refusal's number. Nothing else of the output changes.
 fn written(write: impl Fn(usize, &mut [u8]) -> Answer<usize>) -> Result<String, u32> {
@@ -22,11 +22,14 @@ fn line(text: &str) -> Result<String, u32> {
     Ok(text.to_string())
 }
 
-const fn at(count: u64, letter: u8) -> Position {
-    Position { count, letter }
-}
-
-const FIX: Fix = Fix { time: 43_200, latitude: at(3_090_000, b'N'), longitude: at(15_000, b'W'), validity: b'A', pressure: 100, gnss: 120 };
+const FIX: Fix = Fix {
+    time: Finer::whole(43_200),
+    latitude: at(3_090_000, b'N'),
+    longitude: at(15_000, b'W'),
+    validity: b'A',
+    pressure: 100,
+    gnss: 120,
+};
 
 #[test]
 fn fixes() {
@@ -34,12 +37,12 @@ fn fixes() {
     let (none, one) = (Layout::default(), layout(&[(36, 38, "ZZZ")]));
     assert_eq!(write(FIX, "01208", &two_columns()), line(B40));
     assert_eq!(write(FIX, "", &none), line(B35));
-    let low = Fix { time: 0, latitude: at(0, b'S'), longitude: at(0, b'E'), validity: b'V', pressure: -12, gnss: -9_999 };
+    let low = Fix { time: Finer::whole(0), latitude: at(0, b'S'), longitude: at(0, b'E'), validity: b'V', pressure: -12, gnss: -9_999 };
     assert_eq!(write(low, "", &none), line("B0000000000000S00000000EV-0012-9999"));
     let (latitude, longitude) = (at(5_400_000, b'S'), at(10_800_000, b'W'));
-    let high = Fix { time: 86_399, latitude, longitude, validity: b'V', pressure: 99_999, gnss: -1 };
+    let high = Fix { time: Finer::whole(86_399), latitude, longitude, validity: b'V', pressure: 99_999, gnss: -1 };
     assert_eq!(write(high, "", &none), line("B2359599000000S18000000WV99999-0001"));
-    let times = [86_401, 10_000_000, u32::MAX].map(|time| Fix { time, ..FIX });
+    let times = [86_401, 10_000_000, u32::MAX.into(), u64::MAX].map(|time| Fix { time: Finer::whole(time), ..FIX });
     let latitudes =
         [at(5_400_001, b'N'), at(100_000_000, b'N'), at(0, b'E'), at(0, b'n'), at(0, 0)].map(|latitude| Fix { latitude, ..FIX });
     let longitudes =

@@ -4,7 +4,7 @@ use borrow.Author.Tests.{not-true, not-false}
 use lib.Dec.{lit≤}
 use Rattle.rules.specs.Degrees.{degreesOf, degreesTold}
 use Rattle.rules.proofs.Links.{tests}
-use Rattle.degrees.proofs.Laws.{count-within, pair-is}
+use Rattle.degrees.proofs.Laws.{count-within, few-within, pair-is}
 use Rattle.degrees.proofs.degrees.Statement.{statement}
 use Rattle.degrees.proofs.degrees.Tie as tie
 
@@ -19,6 +19,6 @@ degrees-spec =
     (λ c κs. search needs)
     (λ c κs. search needs)
     (λ c. search (tests, not-true, not-false) depth 16)
-    (λ c κs. search (count-within, not-false, lit≤))
-    (λ c κs. search (count-within, not-false, lit≤))
+    (λ c κs. search (count-within, few-within, not-false, lit≤))
+    (λ c κs. search (count-within, few-within, not-false, lit≤))
     (λ c. search (tests, not-true, not-false, pair-is) depth 16))

@@ -1,20 +1,32 @@
--- `degrees::over` meets its contract: `once`, at 60,000 = 1,875 * 2 ^ 5. Assumes nothing.
-use Prim.Native.Nat.{_^_}
+-- `degrees::over` meets its contract: `once`, at 60,000 times a power of ten. Assumes nothing.
+use Prim.Native.Nat.{ℕ, _*_}
+use mathlib.Core.Bool.{false}
+use mathlib.Core.Path.{ap, _∙_}
 use native.Mathlib.Omega.{arith}
-use lib.Dec.{le→leb}
-use lib.Ieee.{ofBits, binary64, inFloat}
+use borrow.Author.Needs.{needs}
+use lib.Ieee.{binary64, round}
 use Rattle.rules.specs.Degrees.{quotient}
-use Rattle.degrees.proofs.Once.{once}
+use Rattle.tens.proofs.Laws.{power-all, power-least, power-most}
+use Rattle.degrees.proofs.Once.{exact, once}
 use Rattle.degrees.proofs.over.Statement.{statement}
 use Rattle.degrees.proofs.over.Tie as tie
 
-exact : tie.Need-int-to-float-result
-unfolding inFloat
-exact c = le→leb (c .before .args .count) (2 ^ 53) (omega arith)
-
 returns : tie.Need-returns
-unfolding quotient ofBits
-returns c = once binary64 (c .before .args .count) 1874 5 (omega arith)
+unfolding quotient
+returns c =
+    let p = c .before .before in
+    let a = p .before .args in
+    let least = power-least (a .decimals) in
+    let most = power-most (a .decimals) in
+    once binary64 (a .count) (60000 * p .power .result) (omega (arith, p .power .ensures)) (omega arith) (omega (arith, p .power .ensures))
+    ∙ ap (λ (k : ℕ). round binary64 false (a .count) (60000 * k)) (p .power .ensures ∙ power-all (a .decimals) (omega arith))
 
 pub over-spec : {M : Type 1} → statement M
-over-spec = tie.close (tie.spec exact returns)
+over-spec =
+    tie.close
+    (tie.spec
+    (λ c κs. search needs)
+    (λ c. exact _ (omega arith))
+    (λ c. let most = power-most (c .before .before .args .decimals) in omega (arith, c .before .power .ensures))
+    (λ c. let most = power-most (c .before .before .before .args .decimals) in exact _ (omega (arith, c .before .before .power .ensures)))
+    returns)

@@ -11,6 +11,7 @@ with-columns-spec =
     tie.close
     (tie.spec
     (λ c κs. search needs)
+    (λ c κs. search needs)
     (λ c. search needs)
     (λ c. search columned depth 12)
     (λ c. search needs)

@@ -1,9 +1,8 @@
 -- `next_fix::read_at` meets its contract. Assumes nothing.
-use mathlib.Core.Path.{refl}
 use native.Mathlib.Omega.{arith}
 use borrow.Author.Needs.{needs}
 use lib.ListN.{length}
-use Rattle.next_fix.proofs.Laws.{room-so, read-none, read-other, read-refused, read-is, passed-so}
+use Rattle.next_fix.proofs.Laws.{room-so, read-none, read-other, read-refused, read-is}
 use Rattle.next_fix.proofs.read_at.Statement.{statement}
 use Rattle.next_fix.proofs.read_at.Tie as tie
 
@@ -25,13 +24,16 @@ part-fix-fields-end c = let h = room-so (length (c .before .before .before .befo
 returns-3 : tie.Need-returns-3
 returns-3 c = read-refused _ _ _ _ (c .before .before .before .before .before .before .before .before .has-line .ensures) (c .before .before .before .before .before .before .before .if1 .left) (c .before .before .before .before .before .if2 .left) _ (c .before .before .before .fix-fields .ensures) _ (c .before .enum-told .given .1) (c .no-fix3 .ensures)
 
-add-behind : tie.Need-add-behind
-add-behind c = let h = room-so (length (c .before .before .before .before .before .before .before .before .before .before .args .file .now)) (c .before .before .before .before .before .before .before .before .before .before .args .p .at) (c .before .before .before .before .before .before .before .before .before .before .args .p .size) _ (c .before .before .before .before .before .before .before .before .has-line .ensures) (c .before .before .before .before .before .before .before .if1 .left) in omega (arith, h)
+part-passed-end : tie.Need-part-passed-end
+part-passed-end c = let a = c .before .before .before .before .before .before .before .before .before .before .args in let h = room-so (length (a .file .now)) (a .p .at) (a .p .size) _ (c .before .before .before .before .before .before .before .before .has-line .ensures) (c .before .before .before .before .before .before .before .if1 .left) in omega (arith, h)
+
+add-passed : tie.Need-add-passed
+add-passed c = let a = c .before .before .before .before .before .before .before .before .before .before .before .args in let h = room-so (length (a .file .now)) (a .p .at) (a .p .size) _ (c .before .before .before .before .before .before .before .before .before .has-line .ensures) (c .before .before .before .before .before .before .before .before .if1 .left) in omega (arith, h)
 
 returns-4 : tie.Need-returns-4
 returns-4 c =
-    read-is _ _ _ _ (c .before .before .before .before .before .before .before .before .before .before .before .has-line .ensures) (c .before .before .before .before .before .before .before .before .before .before .if1 .left) (c .before .before .before .before .before .before .before .before .if2 .left) _ (c .before .before .before .before .before .before .fix-fields .ensures) _ (c .before .before .before .before .f .given .1)
-    (passed-so _ _ _ _ _ _ (c .before .before .behind .ensures) refl (c .before .fix-of .ensures) (c .record-of .ensures))
+    read-is _ _ _ _ (c .before .before .before .before .before .before .before .before .before .before .has-line .ensures) (c .before .before .before .before .before .before .before .before .before .if1 .left) (c .before .before .before .before .before .before .before .if2 .left) _ (c .before .before .before .before .before .fix-fields .ensures) _ (c .before .before .before .f .given .1)
+    (c .passed .ensures)
 
 pub read-at-spec : {M : Type 1} → statement M
 read-at-spec =
@@ -52,8 +54,9 @@ read-at-spec =
     (λ c. search needs)
     (λ c κs. search needs)
     returns-3
-    add-behind
-    (λ c κs. search needs)
-    (λ c κs. search needs)
+    (λ c. search needs)
+    (λ c. search needs)
+    part-passed-end
+    add-passed
     (λ c κs. search needs)
     returns-4)

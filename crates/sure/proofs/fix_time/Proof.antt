@@ -9,8 +9,7 @@ returns : tie.Need-returns
 returns c = quick-time _ _ _ (c .before .before .is-front .ensures) (c .before .if1 .taken) (c .time-at .ensures)
 
 returns-2 : tie.Need-returns-2
-unfolding timeTold
-returns-2 c = time-is _ _ _ (c .before .before .before .fix-fields .ensures) (c .before .f .given .1)
+returns-2 c = time-is _ _ _ _ (c .before .before .before .before .fix-fields .ensures) (c .before .before .f .given .1) (c .below-time .ensures)
 
 returns-3 : tie.Need-returns-3
 unfolding timeTold
@@ -25,6 +24,7 @@ fix-time-spec =
     returns
     (λ c κs. search needs)
     (λ c. search needs)
+    (λ c κs. search needs)
     (λ c. search needs)
     returns-2
     returns-3)

@@ -1,5 +1,7 @@
 -- `track::refused` meets its contract. Assumes nothing.
+use mathlib.Core.Path.{ap, _∙_}
 use borrow.Author.Needs.{needs}
+use Rattle.track.specs.Tracks.{startBy}
 use Rattle.track.proofs.Planning.{refused-told}
 use Rattle.track.proofs.refused.Statement.{statement}
 use Rattle.track.proofs.refused.Tie as tie
@@ -9,4 +11,5 @@ refused-spec =
     tie.close
     (tie.spec
     (λ c κs. search needs)
-    (λ c. refused-told _ _ (c .set-out .ensures)))
+    (λ c κs. search needs)
+    (λ c. refused-told _ _ (c .set-out .ensures ∙ ap (startBy 0) (c .before .empty-layout .ensures))))

@@ -1,6 +1,7 @@
 -- `trail::put_degrees` meets its contract. Assumes nothing.
 use borrow.Author.Needs.{needs}
 use Rattle.pieces.proofs.Laws.{pieces}
+use Rattle.tens.proofs.Laws.{told-few}
 use Rattle.trail.proofs.Laws.{minus-fills, plain-fills}
 use Rattle.trail.proofs.put_degrees.Statement.{statement}
 use Rattle.trail.proofs.put_degrees.Tie as tie
@@ -13,8 +14,9 @@ put-degrees-spec =
     (λ c κs. search needs)
     (λ c κs. search needs)
     (λ c κs. search needs)
+    (λ c κs. search (told-few, needs))
     (λ c. search needs)
     (λ c. search (pieces, minus-fills, plain-fills) depth 16)
-    (λ c κs. search needs)
+    (λ c κs. search (told-few, needs))
     (λ c. search needs)
     (λ c. search (pieces, minus-fills, plain-fills) depth 16))

@@ -53,3 +53,9 @@ module _ {A B : Type 0} (test : A → Bool) (found : ℕ → A → B) where
           → cond t (some (found n a)) (firstOf test found l (suc n)) ≡ some v → (a : A) × (m : ℕ) × P a × (test a ≡ true) × (found m a ≡ v)
       by true p r q = (a, n, h .0, p, cc)
       by false p r q = r q
+
+-- tests that say the same of each find the same
+pub first-same : {A B : Type 0} (test other : A → Bool) (found : ℕ → A → B) (l : List A) (n : ℕ) → Each (λ a. test a ≡ other a) l → firstOf test found l n ≡ firstOf other found l n
+unfolding firstOf
+first-same test other found [] n h = refl
+first-same test other found (a ∷ l) n h = rw (h .0, first-same test other found l (suc n) (h .1))

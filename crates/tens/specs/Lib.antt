@@ -1,0 +1,2 @@
+-- Ten for each extra decimal.
+pub mod Tens
