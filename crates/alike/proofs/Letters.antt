@@ -11,7 +11,7 @@ use lib.ListN.{length, getD}
 use Rattle.rules.specs.Choice.{Each}
 use Rattle.demands.specs.Coming.{those}
 use Rattle.demands.specs.Grammar.{IsLLine, beginning}
-use Rattle.alike.specs.Alike.{withoutL}
+use Rattle.alike.specs.Alike.{isL, withoutL}
 
 -- as many as begin with the letter
 pub those-many : (x : ℕ) (ls : List (List ℕ)) → beginning x ls ≡ length (those x ls)
@@ -50,9 +50,9 @@ those-none x (l ∷ ls) e = by (eqb (getD l 0 0) x) refl (those-none x ls) e
 pub kind-without : (x : ℕ) → (x ≡ code "L" → ⊥) → (ls : List (List ℕ)) → those x (withoutL ls) ≡ those x ls
 unfolding those withoutL
 kind-without x n [] = refl
-kind-without x n (l ∷ ls) = by (eqb (getD l 0 0) (code "L")) refl (kind-without x n ls)
+kind-without x n (l ∷ ls) = by (isL l) refl (kind-without x n ls)
   where
-    by : (b : Bool) → eqb (getD l 0 0) (code "L") ≡ b → those x (withoutL ls) ≡ those x ls
+    by : (b : Bool) → isL l ≡ b → those x (withoutL ls) ≡ those x ls
         → those x (cond b (withoutL ls) (l ∷ withoutL ls)) ≡ cond (eqb (getD l 0 0) x) (l ∷ those x ls) (those x ls)
     by true e r = rw (ne-eqb (getD l 0 0) x (λ z. n (sym z ∙ eqb-true (getD l 0 0) (code "L") e))) r
     by false e r = ap (λ (k : List (List ℕ)). cond (eqb (getD l 0 0) x) (l ∷ k) k) r

@@ -2,7 +2,7 @@
 -- by its lines of each kind.
 use Prim.Native.Nat.{ℕ}
 use Prim.Native.Char.{code}
-use mathlib.Core.Bool.{cond}
+use mathlib.Core.Bool.{Bool, cond}
 use mathlib.Core.List.{List, [], _∷_}
 use mathlib.Core.Path.{_≡_}
 use lib.Dec.{eqb, leb}
@@ -18,10 +18,14 @@ use Rattle.rules.specs.declared.Layout.{Layout}
 use Rattle.rules.specs.declared.Signed.{Signed}
 use Rattle.demands.specs.Coming.{those}
 
+-- an L line, by its first byte
+abbrev pub isL : List ℕ → Bool
+isL l = eqb (getD l 0 0) (code "L")
+
 -- "lines other than L lines", in their order
 unfoldable pub withoutL : List (List ℕ) → List (List ℕ)
 withoutL [] = []
-withoutL (l ∷ ls) = cond (eqb (getD l 0 0) (code "L")) (withoutL ls) (l ∷ withoutL ls)
+withoutL (l ∷ ls) = cond (isL l) (withoutL ls) (l ∷ withoutL ls)
 
 -- ---- what an accepted file says, told by its lines of each kind
 

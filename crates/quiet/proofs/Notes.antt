@@ -1,6 +1,10 @@
 -- Notes tell nothing and change nothing, what is claimed. Its words stand in specs/Notes, and in alike (Alike). Assumes nothing.
 --
--- How the definitions are the library's answers stands on the page of demands (proofs/Demands); the track's stand on the page of mapped (proofs/Track).
+-- How the definitions are the library's answers stands on the pages of demands (proofs/Demands) and, for the track, of mapped (proofs/Track).
+--
+-- What may differ: "Line numbers" (of a track's record, in a listing), "offsets" (a line's bounds, a reading place), "the line count" (`lines` of what the check says), "the table", "lines got by
+-- number or by stepping and the text of the L lines". Each does in a worked pair (proofs/Worked: `table-differs`, `line-differs`, `listing-differs`, `numbers-differ`). docs/requests/11.md has
+-- every public function in one of the two lists.
 use Prim.Native.Nat.{ℕ}
 use Prim.Native.Char.{code}
 use mathlib.Core.Bool.{true, false}
@@ -52,8 +56,8 @@ module _ (seal : Seal) (file : List ℕ) (f : Flight) (other : List ℕ) (g : Fl
   pub any-reading : {A : Type 0} (reader : Layouts → List ℕ → A) (letter : ℕ) → (letter ≡ code "L" → ⊥) → (n : ℕ) → reader (g .layouts) (nth letter other n) ≡ reader (f .layouts) (nth letter file n)
   any-reading = nth-alike f (itsLines file) g (itsLines other) alike
 
-  -- "Then their date, layouts, presence word, declaration, signed answer, nth fix with its columns, nth K and N line, event and satellite line, and summary are equal. Line numbers, offsets,
-  -- the line count, the table, lines got by number or by stepping and the text of the L lines may differ; no other reading of one accepted file may."
+  -- "Then their date, layouts, presence word, declaration, signed answer, nth fix with its columns, nth K and N line, event and satellite line, and summary are equal."; of the others: "no other
+  -- reading of one accepted file may" differ
   pub notes-change-nothing : NothingChanged file f other g
   notes-change-nothing =
       let p = tracks.usually-accepted seal file (w .room) f (w .accepted) in
@@ -92,7 +96,7 @@ module _ (seal : Seal) (file : List ℕ) (f : Flight) (other : List ℕ) (g : Fl
     ap (map unnumbered) (b .records) ∙ notes-change-nothing .track list ∙ sym (ap (map unnumbered) (a .records)),
   )
 
-  -- whatever is made of the records of a track and takes no notice of their line numbers, as the summary does
+  -- whatever is made of the records of a track and takes no notice of their line numbers
   pub made-alike : {A : Type 0} (make : List Record → A) → ((rs : List Record) → make rs ≡ make (map unnumbered rs)) → make (trackOf other (g .layouts .b)) ≡ make (trackOf file (f .layouts .b))
   made-alike make h = h (trackOf other (g .layouts .b)) ∙ ap make fixes ∙ sym (h (trackOf file (f .layouts .b)))
 

@@ -7,7 +7,6 @@ use mathlib.Core.Option.{Option, none, some}
 use mathlib.Core.Path.{_≡_, refl, sym, _∙_, ap, ap₂}
 use native.Mathlib.Omega.{arith}
 use borrow.Author.Tests.{eqb-true}
-use lib.Dec.{eqb}
 use lib.ListN.{getD}
 use Rattle.rules.specs.Choice.{on}
 use Rattle.rules.specs.Lines.{kindOf}
@@ -20,7 +19,7 @@ use Rattle.rules.specs.declared.Fix.{Fix}
 use Rattle.rules.specs.declared.Layout.{Layout}
 use Rattle.laws.proofs.Splitting.{textsOf}
 use Rattle.demands.proofs.Sections.{before}
-use Rattle.alike.specs.Alike.{withoutL}
+use Rattle.alike.specs.Alike.{isL, withoutL}
 use Rattle.next_fix.specs.Track.{recordsOf, trackFrom}
 use Rattle.next_fix.specs.declared.Record.{Record}
 use Rattle.track.proofs.Stepping.{other-said}
@@ -57,9 +56,9 @@ module _ (layout : Layout) where
   unfolding trackFrom on withoutL
   past-notes end v w h = refl
   past-notes (broken n) v w h = refl
-  past-notes (line t ls) v w h = by (eqb (getD t 0 0) (code "L")) refl (past-notes ls)
+  past-notes (line t ls) v w h = by (isL t) refl (past-notes ls)
     where
-      by : (b : Bool) → eqb (getD t 0 0) (code "L") ≡ b → ((v w : Walk) → Abreast v w → passed v ls ≡ passed w (before (withoutL (textsOf ls)) end))
+      by : (b : Bool) → isL t ≡ b → ((v w : Walk) → Abreast v w → passed v ls ≡ passed w (before (withoutL (textsOf ls)) end))
           → map unnumbered (recordsOf (walked t v) (fixSaid t layout) ++ trackFrom layout (walked t v) ls)
           ≡ passed w (before (cond b (withoutL (textsOf ls)) (t ∷ withoutL (textsOf ls))) end)
       by true e later =

@@ -71,7 +71,7 @@ pub record NothingChanged (file : List ℕ) (f : Flight) (other : List ℕ) (g :
   -- the track: what is answered for a list of `room` records, and every record of the list afterwards, but for its line number
   pub tracked : (room : ℕ) → trackSaid other room ≡ trackSaid file room
   pub track : (list : List Record) → map unnumbered (listAfter other list) ≡ map unnumbered (listAfter file list)
-  -- the fixes with their days, which are all that the summary is made of
+  -- the fixes with their days; what is made of them alone is equal with them
   pub days-and-fixes : daysAndFixes other g ≡ daysAndFixes file f
   -- "no other reading of one accepted file may": the lines of every other kind are the same in the same order
   pub kinds : (letter : ℕ) → (letter ≡ code "L" → ⊥) → those letter (itsLines other) ≡ those letter (itsLines file)
