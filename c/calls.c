@@ -35,6 +35,7 @@ static double degrees[HIVE_DEGREES];
 static uint8_t out[48];
 static uint8_t text[HIVE_EXPLANATION];
 static struct hive_record list[5];
+static int32_t figures[3 * HIVE_TOLD + 1];
 
 static void fresh(void) {
     for (int i = 0; i < HIVE_ANSWER; i++)
@@ -48,6 +49,8 @@ static void fresh(void) {
     memset(text, '.', sizeof text);
     for (int i = 0; i < 5; i++)
         list[i] = (struct hive_record){9, 9, {{9, 9}, {9, '.', 9}, {9, '.', 9}, '.', 9, 9}};
+    for (int i = 0; i <= 3 * HIVE_TOLD; i++)
+        figures[i] = 9;
 }
 
 static void say(const char *name, uint32_t returned) {
@@ -353,6 +356,46 @@ static void tracks(void) {
     say_list("track, answer of 15", hive_track(TEXT(NIGHT), list, 5, answer, 15));
 }
 
+/* 257 fixes, one a second from noon on, each a metre higher and a thousandth of a minute further north and west than the one before it. */
+static const char *climb(void) {
+    static char file[257 * 37 + 32];
+    size_t length = 0;
+    length += sprintf(file, "AXYZ001\r\nHFDTE150724\r\n");
+    for (int i = 0; i < 257; i++)
+        length += sprintf(file + length, "B12%02d%02d5130%03dN00015%03dWA%05d00120\r\n", i / 60, i % 60, i, i, i);
+    sprintf(file + length, "GABC\r\n");
+    return file;
+}
+
+/* The numbers for the whole, for two runs, and the one behind them. */
+static void say_figures(const char *name, uint32_t returned) {
+    for (int k = 0; k < 4; k++) {
+        printf("%s: %s", name, k == 0 ? "whole" : k == 1 ? "run 0" : k == 2 ? "run 1" : "then");
+        for (int i = k * HIVE_TOLD; i <= 3 * HIVE_TOLD && i < (k + 1) * HIVE_TOLD; i++)
+            printf(" %d", (int)figures[i]);
+        printf("\n");
+    }
+    say(name, returned);
+}
+
+static void summaries(void) {
+    say_figures("summary", hive_summary(TEXT(NIGHT), 0, figures, 25, answer, HIVE_ANSWER));
+    say_figures("summary, list of 24", hive_summary(TEXT(NIGHT), 4, figures, 24, answer, HIVE_ANSWER));
+    say_figures("summary, list of 23", hive_summary(TEXT(NIGHT), 4, figures, 23, answer, HIVE_ANSWER));
+    say_figures("summary, five old fixes", hive_summary(TEXT(NIGHT), 5, figures, 23, answer, HIVE_ANSWER));
+    say_figures("summary, no fixes", hive_summary(TEXT(SHORT), 0, figures, 12, answer, HIVE_ANSWER));
+    say_figures("summary, no fixes, list of 11", hive_summary(TEXT(SHORT), 0, figures, 11, answer, HIVE_ANSWER));
+    say_figures("summary, refused", hive_summary(TEXT(SPOILED), 5, figures, 23, answer, HIVE_ANSWER));
+    say_figures("summary, finer digits", hive_summary(TEXT(START), 0, figures, 25, answer, HIVE_ANSWER));
+    say_figures("summary of a climb", hive_summary(TEXT(climb()), 0, figures, 37, answer, HIVE_ANSWER));
+    say_figures("summary of a climb, 255 old fixes", hive_summary(TEXT(climb()), 255, figures, 36, answer, HIVE_ANSWER));
+    say_figures("summary of a climb, 256 old fixes", hive_summary(TEXT(climb()), 256, figures, 37, answer, HIVE_ANSWER));
+    say_figures("summary of a climb, 257 old fixes", hive_summary(TEXT(climb()), 257, figures, 37, answer, HIVE_ANSWER));
+    say_figures("summary of a climb, list of 35", hive_summary(TEXT(climb()), 257, figures, 35, answer, HIVE_ANSWER));
+    say_figures("summary of a climb, 258 old fixes", hive_summary(TEXT(climb()), 258, figures, 35, answer, HIVE_ANSWER));
+    say_figures("summary, answer of 15", hive_summary(TEXT(NIGHT), 0, figures, 25, answer, 15));
+}
+
 static void words(void) {
     say_out("name 9", hive_name(9, out, sizeof out, answer, HIVE_ANSWER));
     say_out("name 21, text of 10", hive_name(21, out, 10, answer, HIVE_ANSWER));
@@ -382,6 +425,7 @@ int main(void) {
     writers();
     merging();
     tracks();
+    summaries();
     words();
     return 0;
 }

@@ -166,6 +166,26 @@ uint32_t hive_track(const uint8_t *file, size_t file_length,
                     struct hive_record *list, size_t list_length,
                     uint64_t *answer, size_t answer_length);
 
+/* ---- a summary beside a file, in a lent list of numbers */
+
+/* Twelve numbers for the whole flight, then twelve for each run of 256 B lines, the last run perhaps shorter. Of the twelve, by the plain counts of time and position:
+       0 number of fixes  1 day and 2 seconds of the first  3 day and 4 seconds of the last  5 highest and 6 lowest pressure altitude, in metres
+       7 has a position: 1 or 0  8 least and 9 greatest latitude  10 least and 11 greatest longitude, in thousandths of a minute, south and west negative
+   Only fixes marked A count for position, all for altitude. A number with nothing to tell is 0.
+   With old 0 the summary is made afresh. With another number it is brought up to date: old is the number of fixes of the file that the list was made for. Written are the whole, run
+   old / 256, counted from 0, and those behind it; earlier runs stay, and so do the numbers past the last run. Where only B lines were put in behind the last B, E, F, K or N line
+   of that file, the list is afterwards as one that is made afresh. Refused with what hive_check refuses of the file (without 15), with line and byte; then, with line 0 and byte 0,
+   HIVE_BAD_VALUE where old is over the number of the file's B lines, then HIVE_NO_ROOM where the list is shorter than the summary. The list is unchanged where refused.
+       2 how many runs there are */
+enum { HIVE_RUNS = 2, HIVE_RUN = 256, HIVE_TOLD = 12 };
+enum {
+    HIVE_TOLD_FIXES, HIVE_TOLD_FIRST_DAY, HIVE_TOLD_FIRST_SECONDS, HIVE_TOLD_LAST_DAY, HIVE_TOLD_LAST_SECONDS, HIVE_TOLD_HIGHEST, HIVE_TOLD_LOWEST,
+    HIVE_TOLD_POSITION, HIVE_TOLD_SOUTH, HIVE_TOLD_NORTH, HIVE_TOLD_WEST, HIVE_TOLD_EAST
+};
+uint32_t hive_summary(const uint8_t *file, size_t file_length, uint32_t old,
+                      int32_t *list, size_t list_length,
+                      uint64_t *answer, size_t answer_length);
+
 /* ---- a line: 17 for another kind of line or a layout that is not allowed, then with the byte 7, 8, a field's (9, 22 to 24), 13 */
 
 /* A B line read, in one check of the line: its fix, and its columns. Counts and decimals are as DECIMALS says above; letters and validity are the bytes of the line. 13, at the first

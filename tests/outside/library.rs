@@ -216,6 +216,7 @@ mod c {
         ) -> u32;
         pub fn hive_merge(f: *const u8, fl: usize, s: *const u8, sl: usize, o: *mut u8, ol: usize, a: *mut u64, al: usize) -> u32;
         pub fn hive_track(f: *const u8, fl: usize, r: *mut Record, rl: usize, a: *mut u64, al: usize) -> u32;
+        pub fn hive_summary(f: *const u8, fl: usize, old: u32, n: *mut i32, nl: usize, a: *mut u64, al: usize) -> u32;
         pub fn hive_name(number: u32, t: *mut u8, tl: usize, a: *mut u64, al: usize) -> u32;
         pub fn hive_explain(
             f: *const u8,
@@ -410,6 +411,16 @@ pub fn track_answering(file: &[u8], list: &mut [Record], answer: &mut [u64]) -> 
     unsafe { c::hive_track(file.as_ptr(), file.len(), list.as_mut_ptr(), list.len(), answer.as_mut_ptr(), answer.len()) }
 }
 
+/// The summary of a file in a list, by an update that is told an old number of fixes. The answer's value is the number of runs.
+pub fn summary(file: &[u8], old: u32, list: &mut [i32]) -> Told {
+    told(|a, al| unsafe { c::hive_summary(file.as_ptr(), file.len(), old, list.as_mut_ptr(), list.len(), a, al) })
+}
+
+/// The summary with an answer of any length.
+pub fn summary_answering(file: &[u8], old: u32, list: &mut [i32], answer: &mut [u64]) -> u32 {
+    unsafe { c::hive_summary(file.as_ptr(), file.len(), old, list.as_mut_ptr(), list.len(), answer.as_mut_ptr(), answer.len()) }
+}
+
 /// The name of a number, at the start of a text.
 pub fn name(number: u32, text: &mut [u8]) -> Told {
     told(|a, al| unsafe { c::hive_name(number, text.as_mut_ptr(), text.len(), a, al) })
@@ -526,7 +537,7 @@ pub fn write_point(latitude: (u64, u8), longitude: (u64, u8), text: &[u8], place
 }
 
 /// Every operation that a run must have asked.
-pub const OPERATIONS: [&str; 25] = [
+pub const OPERATIONS: [&str; 26] = [
     "hive_check",
     "hive_check_strict",
     "hive_line",
@@ -550,6 +561,7 @@ pub const OPERATIONS: [&str; 25] = [
     "hive_write_point",
     "hive_merge",
     "hive_track",
+    "hive_summary",
     "hive_name",
     "hive_explain",
 ];

@@ -4,5 +4,6 @@ mod columns;
 mod files;
 mod lines;
 mod refusals;
+mod summaries;
 mod tracks;
 mod writers;

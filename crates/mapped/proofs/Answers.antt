@@ -29,10 +29,10 @@ use Rattle.track.proofs.Tracking.{planned-accepted, counted-all}
 use Rattle.mapped.specs.Mapped.{BLines, Short}
 
 -- an accepted file has met the grammar, and the other way round
-met : (file : List ℕ) (f : Flight) → verdict trackSeal file none ≡ says f → (m : Meets trackSeal file) × (flightOf m ≡ f)
+pub met : (file : List ℕ) (f : Flight) → verdict trackSeal file none ≡ says f → (m : Meets trackSeal file) × (flightOf m ≡ f)
 met file f e = let a = accepted-as trackSeal file none f .0 e in (a .0, a .2)
 
-meets-so : (file : List ℕ) (m : Meets trackSeal file) → verdict trackSeal file none ≡ says (flightOf m)
+pub meets-so : (file : List ℕ) (m : Meets trackSeal file) → verdict trackSeal file none ≡ says (flightOf m)
 meets-so file m = accepted-as trackSeal file none (flightOf m) .1 (m, tt, refl)
 
 -- ---- what is said, by what the check says

@@ -38,7 +38,7 @@ use Rattle.mapped.proofs.Records.{Good, record-at}
 use Rattle.mapped.proofs.Ways as ways
 
 -- an accepted file's lines pass and read
-all-good : (file : List ℕ) (f : Flight) → verdict trackSeal file none ≡ says f → Good trackSeal (f .layouts) f start (linesOf file)
+pub all-good : (file : List ℕ) (f : Flight) → verdict trackSeal file none ≡ says f → Good trackSeal (f .layouts) f start (linesOf file)
 unfolding verdict
 all-good file f e =
     let a = need-inv (leb 1 (length file)) _ (says f) _ refuses-says e in

@@ -74,11 +74,11 @@ day-within onward day lines h = omega arith
 day-within nextDay day lines h = omega arith
 day-within back day lines h = omega arith
 
-walk-within : (o : Option ℕ) (w : Walk) → w .day ≤ w .lines → walkedBy o w .day ≤ walkedBy o w .lines
+pub walk-within : (o : Option ℕ) (w : Walk) → w .day ≤ w .lines → walkedBy o w .day ≤ walkedBy o w .lines
 walk-within none w h = omega arith
 walk-within (some t) w h = day-within (passing (w .clock) t) (w .day) (w .lines) h
 
-walk-lines : (o : Option ℕ) (w : Walk) → walkedBy o w .lines ≡ w .lines + 1
+pub walk-lines : (o : Option ℕ) (w : Walk) → walkedBy o w .lines ≡ w .lines + 1
 walk-lines none w = refl
 walk-lines (some t) w = refl
 

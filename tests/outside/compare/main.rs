@@ -8,16 +8,19 @@ mod hold;
 #[path = "../library.rs"]
 mod library;
 mod pairs;
+mod summary;
 mod track;
 
 use hold::{Held, Tally};
 use outside::files::filled::filled;
+use outside::files::flights::{any, grown};
 use outside::files::generate;
 use outside::files::pairs::{Pair, at_limit, many, pair};
 use outside::files::random::Random;
 use outside::files::reached::Reached;
 use outside::files::reached_pairs;
 use outside::files::reached_signed;
+use outside::files::reached_summary;
 use outside::files::reached_track;
 use outside::files::{Known, Run, examples};
 use outside::options::Options;
@@ -31,6 +34,7 @@ struct Met {
     ends: reached_signed::Reached,
     pairs: reached_pairs::Reached,
     tracks: reached_track::Reached,
+    summaries: reached_summary::Reached,
     lines: u64,
     aimed: u64,
 }
@@ -48,6 +52,7 @@ fn hold_file(met: &mut Met, random: &mut Random, file: &[u8], entries: usize, kn
     hold::in_words(&mut met.tally, random, file, &answer)?;
     hold::by_number(&mut met.tally, random, file, &table)?;
     track::file(&mut met.tally, &mut met.tracks, random, file)?;
+    summary::file(&mut met.tally, &mut met.summaries, random, file)?;
     let lines = hold::by_stepping(&mut met.tally, random, file)?;
     met.lines += lines.len() as u64;
     let given = hold::layouts(file, &lines);
@@ -120,6 +125,19 @@ fn copies(met: &mut Met, options: &Options) {
     at_limit(&mut random).iter().for_each(|pair| hold(pair, "at the limit"));
 }
 
+/// Flights with many fixes, and older files that B lines were put into: one of each for so many files.
+fn flights(met: &mut Met, options: &Options) {
+    for n in 0..options.files / 30 {
+        let mut random = Random::new(options.seed.wrapping_mul(1_000_037).wrapping_add(n));
+        let flight = any(&mut random);
+        let held = summary::flight(&mut met.tally, &mut met.summaries, &flight);
+        stop_at(held.map_err(|d| format!("flight {n} of seed {}: {d}", options.seed)), &flight.file, &options.out);
+        let grown = grown(&mut random);
+        let held = summary::grown(&mut met.tally, &mut met.summaries, &grown);
+        stop_at(held.map_err(|d| format!("grown flight {n} of seed {}: {d}", options.seed)), &grown.newer, &options.out);
+    }
+}
+
 /// Ends the run at a difference, with the file kept.
 fn stop_at(held: Held<()>, file: &[u8], out: &str) {
     if let Err(difference) = held {
@@ -142,10 +160,12 @@ fn main() {
         stop_at(held.map_err(|d| format!("file {n} of seed {}: {d}", options.seed)), &made.file, &options.out);
     }
     copies(&mut met, &options);
-    summary(&met, &options);
+    flights(&mut met, &options);
+    tell(&met, &options);
 }
 
-fn summary(met: &Met, options: &Options) {
+/// What was held and reached; fails where something that a run must reach was not.
+fn tell(met: &Met, options: &Options) {
     let (accepted, refused) = (met.reached.accepted, met.reached.refused());
     println!(
         "outside: {} files of seed {} ({} lines) answered alike: {accepted} accepted, {refused} refused",
@@ -160,6 +180,7 @@ fn summary(met: &Met, options: &Options) {
     println!("outside: byte values reached as characters: {}", met.reached.by_character());
     println!("outside: where files end: {}", met.ends.told());
     println!("outside: tracks: {}", met.tracks.told());
+    println!("outside: summaries: {}", met.summaries.told());
     println!("outside: looks: {}", met.tally.looks.told());
     println!("outside: refined fixes: {}", met.tally.finer.told());
     println!("outside: {} pairs of copies brought together, {} refused: {}", met.pairs.merged, met.pairs.refused, met.pairs.told());
@@ -170,7 +191,8 @@ fn summary(met: &Met, options: &Options) {
     }
     let unasked: Vec<&str> = library::OPERATIONS.into_iter().filter(|o| !met.tally.answers.contains_key(o)).collect();
     let (mut never, strange) = (met.reached.never(&[]), met.reached.strange());
-    never.extend(met.pairs.never(true).into_iter().chain(met.tracks.never()).chain(met.ends.never()).map(str::to_string));
+    let others = [met.pairs.never(true), met.tracks.never(), met.summaries.never(), met.ends.never()];
+    never.extend(others.concat().into_iter().map(str::to_string));
     never.extend(met.tally.looks.never());
     never.extend(met.tally.finer.never());
     if !never.is_empty() || !strange.is_empty() || !unasked.is_empty() || accepted == 0 {

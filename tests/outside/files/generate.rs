@@ -3,7 +3,7 @@
 
 use super::random::Random;
 use crate::reading::characters::{is_code, is_valid};
-use crate::reading::fields::{Axis, EAST_WEST, LEAP, NORTH_SOUTH, altitude_text, date_text, days_in, time_text};
+use crate::reading::fields::{Axis, EAST_WEST, LEAP, NORTH_SOUTH, TIME, altitude_text, date_text, days_in, time_text};
 use crate::reading::file::HALF_DAY;
 use crate::reading::layouts::listed;
 use crate::reading::{Date, Entry, Family, LISTED, Layout, Layouts, Position, Role};
@@ -224,6 +224,13 @@ impl<'a> Maker<'a> {
     pub fn new(random: &'a mut Random) -> Self {
         let time = random.below(DAY as usize) as u32;
         Maker { random, time, sample: Sample::default() }
+    }
+
+    /// The lines that come behind those of a file, by its layouts and by the clock of its last timed line.
+    pub fn go_on(random: &'a mut Random, sample: Sample) -> Self {
+        let last = sample.lines.iter().rfind(|l| l.role.is_timed());
+        let time = last.map_or_else(|| random.below(DAY as usize) as u32, |l| TIME.at(&l.text, 2).unwrap());
+        Maker { random, time, sample }
     }
 
     pub fn push(&mut self, role: Role) {

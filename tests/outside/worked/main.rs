@@ -16,6 +16,7 @@ mod printed;
 mod programs;
 mod readers;
 mod signed;
+mod summary;
 mod track;
 mod unsigned;
 mod writers;

@@ -1,0 +1,2 @@
+-- What the call that keeps a summary answers.
+pub mod Calls

@@ -1,0 +1,2 @@
+-- The words of what is demanded of a summary.
+pub mod Overview

@@ -1,0 +1,2 @@
+-- The twelve numbers in a list.
+pub mod Slots

@@ -1,0 +1,3 @@
+-- The outermost of some numbers, and what is told of some fixes.
+pub mod Extremes
+pub mod Sums

@@ -1,0 +1,2 @@
+-- What is told of one fix.
+pub mod Spots

@@ -1,0 +1,7 @@
+-- The laws of this crate.
+pub mod Telling
+pub mod Turning
+pub mod Filling
+pub mod Fitting
+pub mod Summing
+pub mod Only
