@@ -1,6 +1,6 @@
 -- Notes tell nothing and change nothing, what is claimed. Its words stand in specs/Notes, and in alike (Alike). Assumes nothing.
 --
--- How the definitions are the library's answers stands on the pages of demands (proofs/Demands) and, for the track, of mapped (proofs/Track).
+-- How the definitions are the library's answers stands on the pages of demands (proofs/Demands) and, for the track, of mapped (proofs/Track), for the summary, of overview (proofs/Summary).
 --
 -- What may differ: "Line numbers" (of a track's record, in a listing), "offsets" (a line's bounds, a reading place), "the line count" (`lines` of what the check says), "the table", "lines got by
 -- number or by stepping and the text of the L lines". Each does in a worked pair (proofs/Worked: `table-differs`, `line-differs`, `listing-differs`, `numbers-differ`). docs/requests/11.md has
@@ -13,6 +13,7 @@ use mathlib.Core.Logic.{_⊎_, inl, inr}
 use mathlib.Core.Option.{none}
 use mathlib.Core.Path.{_≡_, sym, _∙_, ap}
 use native.Mathlib.Omega.{arith}
+use lib.IntN.{ℤ}
 use lib.ListN.{length, getD}
 use Rattle.rules.specs.Choice.{Each}
 use Rattle.rules.specs.Families.{layoutOf}
@@ -39,9 +40,14 @@ use Rattle.next_fix.specs.Track.{trackOf}
 use Rattle.next_fix.specs.declared.Record.{Record}
 use Rattle.track.specs.Tracks.{trackedTold, FileTracked}
 use Rattle.track.specs.declared.Tracked.{Tracked}
+use Rattle.summary.specs.Summary.{updated}
+use Rattle.summary.specs.Summaries.{FileSummed}
+use Rattle.summary.specs.declared.Summed.{Summed}
+use Rattle.summary.proofs.Only.{summed-one}
 use Rattle.quiet.specs.Notes.{itsLines, ButForNotes, nth, unnumbered, daysAndFixes, NothingChanged}
 use Rattle.quiet.proofs.Walks.{walks-alike}
 use Rattle.quiet.proofs.Tracks as tracks
+use Rattle.quiet.proofs.Summaries as summaries
 use Rattle.quiet.proofs.Worked.{notedFive, notedFour, saying}
 use Rattle.quiet.proofs.Worked as worked
 
@@ -55,6 +61,10 @@ module _ (seal : Seal) (file : List ℕ) (f : Flight) (other : List ℕ) (g : Fl
   -- the nth line of a kind other than L, read with the layouts by any reader
   pub any-reading : {A : Type 0} (reader : Layouts → List ℕ → A) (letter : ℕ) → (letter ≡ code "L" → ⊥) → (n : ℕ) → reader (g .layouts) (nth letter other n) ≡ reader (f .layouts) (nth letter file n)
   any-reading = nth-alike f (itsLines file) g (itsLines other) alike
+
+  -- whatever is made of the records of a track and takes no notice of their line numbers
+  pub made-alike : {A : Type 0} (make : List Record → A) → ((rs : List Record) → make rs ≡ make (map unnumbered rs)) → make (trackOf other (g .layouts .b)) ≡ make (trackOf file (f .layouts .b))
+  made-alike make h = h (trackOf other (g .layouts .b)) ∙ ap make fixes ∙ sym (h (trackOf file (f .layouts .b)))
 
   -- "Then their date, layouts, presence word, declaration, signed answer, nth fix with its columns, nth K and N line, event and satellite line, and summary are equal."; of the others: "no other
   -- reading of one accepted file may" differ
@@ -82,11 +92,13 @@ module _ (seal : Seal) (file : List ℕ) (f : Flight) (other : List ℕ) (g : Fl
         satellites = any-reading (λ _ l. satellitesSaid l) (code "F") (λ e. omega (arith, e));
         tracked = tracks.answers-alike file f other g p q (alike .counts family.B) fixes;
         track = tracks.lists-alike file f other g p q (alike .counts family.B) fixes;
+        summed = summaries.answers-alike file f other g p q (alike .counts family.B);
+        summary = λ old list. summaries.lists-alike file f other g p q (alike .counts family.B) old list (made-alike (λ rs. updated old rs list) (summaries.unnumbered-summed old list));
         days-and-fixes = fixes;
         kinds = alike .kinds;
       }
 
-  -- ---- the same of what the library answers, and of what is made of the fixes
+  -- ---- the same of what the library answers
 
   -- a track of each into the same list, by every answer that the contract of `track::track` allows
   pub tracks-alike : (list : List Record) (r r′ : Tracked) (after after′ : List Record) → FileTracked file list r after → FileTracked other list r′ after′
@@ -96,9 +108,12 @@ module _ (seal : Seal) (file : List ℕ) (f : Flight) (other : List ℕ) (g : Fl
     ap (map unnumbered) (b .records) ∙ notes-change-nothing .track list ∙ sym (ap (map unnumbered) (a .records)),
   )
 
-  -- whatever is made of the records of a track and takes no notice of their line numbers
-  pub made-alike : {A : Type 0} (make : List Record → A) → ((rs : List Record) → make rs ≡ make (map unnumbered rs)) → make (trackOf other (g .layouts .b)) ≡ make (trackOf file (f .layouts .b))
-  made-alike make h = h (trackOf other (g .layouts .b)) ∙ ap make fixes ∙ sym (h (trackOf file (f .layouts .b)))
+  -- a summary of each with the same old number and the same list, by every answer that the contract of `summary::summary` allows
+  pub summaries-alike : (old : ℕ) (list : List ℤ) (r r′ : Summed) (after after′ : List ℤ) → FileSummed file old list r after → FileSummed other old list r′ after′ → (r′ ≡ r) × (after′ ≡ after)
+  summaries-alike old list r r′ after after′ a b = (
+    summed-one r′ r (b .told ∙ notes-change-nothing .summed old (length list) ∙ sym (a .told)),
+    b .numbers ∙ notes-change-nothing .summary old list ∙ sym (a .numbers),
+  )
 
 -- ---- which files are such a pair
 

@@ -5,6 +5,7 @@ use mathlib.Core.Bool.{Bool, true, false}
 use mathlib.Core.List.{List, [], _∷_, _++_, map}
 use mathlib.Core.Option.{none}
 use mathlib.Core.Path.{_≡_, refl}
+use lib.IntN.{ℤ, pos, negℤ}
 use lib.ListN.{replicate}
 use Rattle.rules.specs.Choice.{bytes}
 use Rattle.rules.specs.Files.{verdict, tableAfter}
@@ -21,6 +22,8 @@ use Rattle.rules.proofs.SignedFiles.{fourLines}
 use Rattle.alike.specs.Alike.{withoutL}
 use Rattle.mapped.proofs.Worked.{nights, tracked}
 use Rattle.next_fix.specs.Track.{trackFrom, trackOf}
+use Rattle.spots.specs.Spots.{signedCount}
+use Rattle.summary.specs.Summary.{told, toldRuns, updated, flightSummed, summaryAfter}
 use Rattle.quiet.specs.Notes.{ButForNotes, unnumbered}
 
 -- ---- document 01's file
@@ -103,6 +106,17 @@ nights-pair = record { room = none; room′ = none; accepted = refl; accepted-to
 pub nights-unchanged : map unnumbered (trackOf noisyNights emptyLayout) ≡ map unnumbered tracked
 unfolding everything fileOf trackFrom
 nights-unchanged = refl
+
+-- four fixes from 23:59:58 to 00:00:00 on day 3, up to 103 and down to -12 metres; the second is marked V, and the third is in the south and east
+abbrev pub nightsTold : List ℤ
+nightsTold =
+    pos 4 ∷ pos 0 ∷ pos 86398 ∷ pos 3 ∷ pos 0 ∷ pos 103 ∷ negℤ (pos 12) ∷ pos 1 ∷ negℤ (pos 3090002) ∷ pos 3090003 ∷ negℤ (pos 15003) ∷ pos 15002 ∷ []
+
+-- the whole, and the one run
+pub nights-summed : (summaryAfter nights 0 (replicate 25 (pos 99)) ≡ nightsTold ++ (nightsTold ++ (pos 99 ∷ [])))
+    × (summaryAfter noisyNights 0 (replicate 25 (pos 99)) ≡ nightsTold ++ (nightsTold ++ (pos 99 ∷ [])))
+unfolding everything fileOf trackFrom flightSummed updated told toldRuns signedCount
+nights-summed = (refl, refl)
 
 -- "Line numbers": lines 4, 11, 15 and 17 are its B lines
 pub numbers-differ : map (λ r. r .line) (trackOf noisyNights emptyLayout) ≡ 4 ∷ 11 ∷ 15 ∷ 17 ∷ []

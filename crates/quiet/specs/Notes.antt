@@ -4,6 +4,7 @@ use Prim.Native.Char.{code}
 use mathlib.Core.List.{List, [], map}
 use mathlib.Core.Option.{Option}
 use mathlib.Core.Path.{_≡_}
+use lib.IntN.{ℤ}
 use lib.ListN.{length, getD}
 use Rattle.rules.specs.Families.{lineLetter, layoutOf, countOf}
 use Rattle.rules.specs.Files.{verdict}
@@ -19,6 +20,7 @@ use Rattle.demands.specs.Coming.{those}
 use Rattle.alike.specs.Alike.{withoutL, SameColumn}
 use Rattle.next_fix.specs.Track.{trackOf, trackSaid, listAfter}
 use Rattle.next_fix.specs.declared.Record.{Record}
+use Rattle.summary.specs.Summary.{summarySaid, summaryAfter}
 
 -- the lines of a file, each without its CR LF
 abbrev pub itsLines : List ℕ → List (List ℕ)
@@ -71,6 +73,9 @@ pub record NothingChanged (file : List ℕ) (f : Flight) (other : List ℕ) (g :
   -- the track: what is answered for a list of `room` records, and every record of the list afterwards, but for its line number
   pub tracked : (room : ℕ) → trackSaid other room ≡ trackSaid file room
   pub track : (list : List Record) → map unnumbered (listAfter other list) ≡ map unnumbered (listAfter file list)
+  -- the summary, made afresh, or brought up to date from one of `old` fixes: what is answered for a list of `room` numbers, and every number of the list afterwards
+  pub summed : (old room : ℕ) → summarySaid other old room ≡ summarySaid file old room
+  pub summary : (old : ℕ) (list : List ℤ) → summaryAfter other old list ≡ summaryAfter file old list
   -- the fixes with their days; what is made of them alone is equal with them
   pub days-and-fixes : daysAndFixes other g ≡ daysAndFixes file f
   -- "no other reading of one accepted file may": the lines of every other kind are the same in the same order
