@@ -3,8 +3,8 @@
 -- How the definitions are the library's answers stands on the pages of demands (proofs/Demands) and, for the track, of mapped (proofs/Track), for the summary, of overview (proofs/Summary).
 --
 -- What may differ: "Line numbers" (of a track's record, in a listing), "offsets" (a line's bounds, a reading place), "the line count" (`lines` of what the check says), "the table", "lines got by
--- number or by stepping and the text of the L lines". Each does in a worked pair (proofs/Worked: `table-differs`, `line-differs`, `listing-differs`, `numbers-differ`). docs/requests/11.md has
--- every public function in one of the two lists.
+-- number or by stepping and the text of the L lines". In a worked pair the table, a line by its number, the line count and the line numbers do (proofs/Worked: `table-differs`, `line-differs`,
+-- `listing-differs`, `numbers-differ`). docs/requests/11.md has every public reading of an accepted file in one of the two lists.
 use Prim.Native.Nat.{ℕ}
 use Prim.Native.Char.{code}
 use mathlib.Core.Bool.{true, false}

@@ -4,6 +4,7 @@ use Prim.Native.Nat.{ℕ}
 use mathlib.Core.Bool.{Bool, true, false}
 use mathlib.Core.List.{List, [], _∷_, _++_, map}
 use mathlib.Core.Option.{none}
+use Prim.Native.String.{String}
 use mathlib.Core.Path.{_≡_, refl}
 use lib.IntN.{ℤ, pos, negℤ}
 use lib.ListN.{replicate}
@@ -64,9 +65,10 @@ four-pair = record { room = none; room′ = none; accepted = refl; accepted-too 
 -- ---- what may differ, and does
 
 -- "the table": the lines have 7, 11, 17, 11, 40, 11, 4, 19 and 1 bytes, and 2 more each; document 01's file has 0, 9, 22, 41 and 83
-pub table-differs : tableAfter seal.Strict notedFive (replicate 10 99) ≡ 0 ∷ 9 ∷ 22 ∷ 41 ∷ 54 ∷ 96 ∷ 109 ∷ 115 ∷ 136 ∷ 99 ∷ []
+pub table-differs : (tableAfter seal.Strict fiveLines (replicate 10 99) ≡ 0 ∷ 9 ∷ 22 ∷ 41 ∷ 83 ∷ 99 ∷ 99 ∷ 99 ∷ 99 ∷ 99 ∷ [])
+    × (tableAfter seal.Strict notedFive (replicate 10 99) ≡ 0 ∷ 9 ∷ 22 ∷ 41 ∷ 54 ∷ 96 ∷ 109 ∷ 115 ∷ 136 ∷ 99 ∷ [])
 unfolding everything fileOf
-table-differs = refl
+table-differs = (refl, refl)
 
 -- "lines got by number": line 4 is the B line of the one and a note of the other
 pub line-differs : (lineText fiveLines (boundsOf fiveLines (tableAfter seal.Strict fiveLines (replicate 10 99)) 4) ≡ bytes "B1200005130000N00015000WA001000012001208")
@@ -74,14 +76,20 @@ pub line-differs : (lineText fiveLines (boundsOf fiveLines (tableAfter seal.Stri
 unfolding everything fileOf
 line-differs = (refl, refl)
 
+-- the listing of a file with one fix of those columns: how many lines, and which is the fix's
+abbrev pub listedBy : String → String → List ℕ
+unfolding bytes
+listedBy ok fix = bytes ok ++ 10 ∷ bytes fix ++ 10 ∷ bytes "COL FXA 012" ++ 10 ∷ bytes "COL SIU 08" ++ 10 ∷ []
+
 -- "Line numbers", "the line count": in the listing the counts and values are those of document 01's, but for the 9 and the 5
-pub listing-differs : listing notedFive ≡ bytes "OK 9 1 0 40 7 0 7" ++ 10 ∷ bytes "FIX 5 43200 3090000 N 15000 W A 100 120" ++ 10 ∷ bytes "COL FXA 012" ++ 10 ∷ bytes "COL SIU 08" ++ 10 ∷ []
+pub listing-differs : (listing fiveLines ≡ listedBy "OK 5 1 0 40 7 0 7" "FIX 4 43200 3090000 N 15000 W A 100 120")
+    × (listing notedFive ≡ listedBy "OK 9 1 0 40 7 0 7" "FIX 5 43200 3090000 N 15000 W A 100 120")
 unfolding everything fileOf
-listing-differs = refl
+listing-differs = (refl, refl)
 
 -- ---- days
 
--- the flight over three midnights of mapped without its one note, and with notes that would each break the time order, or hide a midnight, were they timed
+-- the flight over three midnights of mapped without its one note, and with notes of which four, were they timed, would break the time order, hide a midnight or add one
 abbrev pub noisyNights : List ℕ
 unfolding fileOf
 noisyNights =
@@ -118,10 +126,10 @@ pub nights-summed : (summaryAfter nights 0 (replicate 25 (pos 99)) ≡ nightsTol
 unfolding everything fileOf trackFrom flightSummed updated told toldRuns signedCount
 nights-summed = (refl, refl)
 
--- "Line numbers": lines 4, 11, 15 and 17 are its B lines
-pub numbers-differ : map (λ r. r .line) (trackOf noisyNights emptyLayout) ≡ 4 ∷ 11 ∷ 15 ∷ 17 ∷ []
+-- "Line numbers": lines 3, 8, 12 and 14 are the B lines of the one, lines 4, 11, 15 and 17 those of the other
+pub numbers-differ : (map (λ r. r .line) (trackOf nights emptyLayout) ≡ 3 ∷ 8 ∷ 12 ∷ 14 ∷ []) × (map (λ r. r .line) (trackOf noisyNights emptyLayout) ≡ 4 ∷ 11 ∷ 15 ∷ 17 ∷ [])
 unfolding everything fileOf trackFrom
-numbers-differ = refl
+numbers-differ = (refl, refl)
 
 -- ---- a note where no L line may come
 
