@@ -111,7 +111,7 @@ module _ (file : List ℕ) (m : Meets seal.Strict file) where
   closes : Closes sealedLines
   closes = closes-behind (front (m .keeps) ++ m .parts .body) (m .parts .seals) (seals-close (m .parts .seals) (m .keeps .seals) (m .keeps .sealed))
 
-  pub cut-is : linesOf file ≡ before (sealedLines ++ remarksOf) end
+  cut-is : linesOf file ≡ before (sealedLines ++ remarksOf) end
   cut-is = lines-cut file m ∙ ap (λ (ls : List (List ℕ)). before ls end) all-lines
 
   pub common-is : commonPart (linesOf file) ≡ joined sealedLines
@@ -169,7 +169,7 @@ module _ (file : List ℕ) (m : Meets seal.Strict file) where
       keeps = keeps;
     }
 
--- and it has the same lines up to the last G line, these notes, and says the same date and layouts
+-- and it has the same lines up to the last G line, and these notes
 module _ (file : List ℕ) (m : Meets seal.Strict file) (zs : List (List ℕ)) (h : Each (λ l. IsLLine l × IsText l) zs) (short : length (joined (sealedLines file m) ++ joined zs) ≤ 16777216) where
   abbrev noted : List ℕ
   noted = joined (sealedLines file m) ++ joined zs
@@ -182,14 +182,6 @@ module _ (file : List ℕ) (m : Meets seal.Strict file) (zs : List (List ℕ)) (
   unfolding meets
   noted-notes = notes-is noted (meets file m zs h short)
 
-  pub noted-cut : linesOf noted ≡ before (sealedLines file m ++ zs) end
-  unfolding meets
-  noted-cut = cut-is noted (meets file m zs h short)
-
   pub noted-lines : textsOf (linesOf noted) ≡ sealedLines file m ++ zs
   unfolding meets
   noted-lines = texts-is noted (meets file m zs h short)
-
-  pub noted-says : (meets file m zs h short .date ≡ m .date) × (meets file m zs h short .layouts ≡ m .layouts)
-  unfolding meets
-  noted-says = (refl, refl)

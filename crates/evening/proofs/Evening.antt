@@ -4,7 +4,6 @@
 -- The claims are about every answer that the contract of `merge::merge` allows (promise FilesMerged), and by `only-files-merged` that is one. It is told by `mergeSaid`: the first file's
 -- refusal, the second's, 26, 2, 18, in this order, or how many bytes the merged file has.
 use Prim.Native.Nat.{ℕ, _≤_, _<_, max}
-use Prim.Native.Char.{code}
 use mathlib.Core.Bool.{true, false}
 use mathlib.Core.List.{List, [], _∷_, _++_}
 use mathlib.Core.Logic.{_↔_}
@@ -14,14 +13,8 @@ use native.Mathlib.Omega.{arith}
 use lib.ListN.{length, getD, take, drop}
 use Rattle.rules.specs.Refusals.{number, says}
 use Rattle.rules.specs.Choice.{Each}
-use Rattle.rules.specs.Families.{lineLetter, layoutOf}
-use Rattle.rules.specs.Reads.{reading, eventSaid, satellitesSaid, headSaid, pointSaid}
-use Rattle.rules.specs.Looks.{lookText}
 use Rattle.rules.specs.Split.{linesOf}
 use Rattle.rules.specs.Files.{verdict}
-use Rattle.rules.specs.declared.Extra.the-variants as extra
-use Rattle.rules.specs.declared.Family.{Family}
-use Rattle.rules.specs.declared.Family.the-variants as family
 use Rattle.rules.specs.declared.Flight.{Flight}
 use Rattle.rules.specs.declared.Layouts.{Layouts}
 use Rattle.rules.specs.declared.Reason.the-variants.{NoRoom, NotSame}
@@ -36,9 +29,8 @@ use Rattle.notes.proofs.Texts as order
 use Rattle.merge.specs.Merge.{StrictlyAccepted, mergeTold, FilesMerged}
 use Rattle.merge.specs.declared.Brought.{Brought}
 use Rattle.merge.specs.declared.Brought.the-variants as brought
-use Rattle.demands.specs.Coming.{those}
 use Rattle.demands.specs.Grammar.{IsText, IsLLine, joinLines, Meets}
-use Rattle.evening.specs.Evening.{Makes, ReadAlike, spanIn, numberOf, SameColumn, sealedPart, numberIn}
+use Rattle.evening.specs.Evening.{Makes, ReadAlike, sealedPart, numberIn}
 use Rattle.evening.proofs.Making as making
 use Rattle.evening.proofs.Turned as turned
 use Rattle.evening.proofs.Alike as alike
@@ -104,7 +96,7 @@ module _ (first second file : List ℕ) (w : Makes first second file) where
   pub merged-accepted : StrictlyAccepted file
   merged-accepted = making.accepted-again first second file made
 
-  -- and reads as each copy does, but for the notes
+  -- and reads as each copy does, but for the notes; every reading by its name, the track and the summary too: `merged-changes-nothing` (quiet)
   pub merged-reads : (f g : Flight) → verdict seal.Strict first none ≡ says f → verdict seal.Strict file none ≡ says g → ReadAlike f (textsOf (linesOf first)) g (textsOf (linesOf file))
   merged-reads = alike.alike first second file made
 
@@ -115,46 +107,6 @@ module _ (first second file : List ℕ) (w : Makes first second file) where
 pub read-alike : {A : Type 0} (f : Flight) (ls : List (List ℕ)) (g : Flight) (ks : List (List ℕ)) (w : ReadAlike f ls g ks) (reader : Layouts → List ℕ → A) (n : ℕ)
     → n < length (w .common) → reader (g .layouts) (getD ks n []) ≡ reader (f .layouts) (getD ls n [])
 read-alike = alike.read-alike
-
--- and of the nth line of each kind other than L
-pub nth-alike : {A : Type 0} (f : Flight) (ls : List (List ℕ)) (g : Flight) (ks : List (List ℕ)) (w : ReadAlike f ls g ks) (reader : Layouts → List ℕ → A) (letter : ℕ)
-    → (letter ≡ code "L" → ⊥) → (n : ℕ) → reader (g .layouts) (getD (those letter ks) n []) ≡ reader (f .layouts) (getD (those letter ls) n [])
-nth-alike = alike.nth-alike
-
--- no line with columns is an L line
-no-l : (x : Family) → lineLetter x ≡ code "L" → ⊥
-no-l family.B e = omega (arith, e)
-no-l (family.Extra extra.K) e = omega (arith, e)
-no-l (family.Extra extra.N) e = omega (arith, e)
-
--- by name, with the readings of the rules
-module _ (f : Flight) (ls : List (List ℕ)) (g : Flight) (ks : List (List ℕ)) (w : ReadAlike f ls g ks) (n : ℕ) where
-  -- the nth fix, the nth K line and the nth N line, each with its layout: the value, and the entries of its columns
-  pub readings-alike : (x : Family)
-      → reading x (getD (those (lineLetter x) ks) n []) (layoutOf x (g .layouts)) ≡ reading x (getD (those (lineLetter x) ls) n []) (layoutOf x (f .layouts))
-  readings-alike x = nth-alike f ls g ks w (λ by l. reading x l (layoutOf x by)) (lineLetter x) (no-l x) n
-
-  -- their columns, by the look into those entries: where each stands, its text, and its number
-  pub columns-alike : (x : Family) (name : List ℕ)
-      → SameColumn x name (getD (those (lineLetter x) ks) n []) (layoutOf x (g .layouts)) (getD (those (lineLetter x) ls) n []) (layoutOf x (f .layouts))
-  columns-alike x name = (
-    nth-alike f ls g ks w (λ by l. spanIn x l (layoutOf x by) name) (lineLetter x) (no-l x) n,
-    nth-alike f ls g ks w (λ by l. lookText l (spanIn x l (layoutOf x by) name)) (lineLetter x) (no-l x) n,
-    nth-alike f ls g ks w (λ by l. numberOf x l (layoutOf x by) name) (lineLetter x) (no-l x) n,
-  )
-
-  -- the nth event, the nth line of satellites, and the nth line of the declaration, read as its head and as a point
-  pub events-alike : eventSaid (getD (those (code "E") ks) n []) ≡ eventSaid (getD (those (code "E") ls) n [])
-  events-alike = nth-alike f ls g ks w (λ _ l. eventSaid l) (code "E") (λ e. omega (arith, e)) n
-
-  pub satellites-alike : satellitesSaid (getD (those (code "F") ks) n []) ≡ satellitesSaid (getD (those (code "F") ls) n [])
-  satellites-alike = nth-alike f ls g ks w (λ _ l. satellitesSaid l) (code "F") (λ e. omega (arith, e)) n
-
-  pub heads-alike : headSaid (getD (those (code "C") ks) n []) ≡ headSaid (getD (those (code "C") ls) n [])
-  heads-alike = nth-alike f ls g ks w (λ _ l. headSaid l) (code "C") (λ e. omega (arith, e)) n
-
-  pub points-alike : pointSaid (getD (those (code "C") ks) n []) ≡ pointSaid (getD (those (code "C") ls) n [])
-  points-alike = nth-alike f ls g ks w (λ _ l. pointSaid l) (code "C") (λ e. omega (arith, e)) n
 
 -- ---- a file merged with itself is refused by none but 18, and keeps its notes, in order
 

@@ -95,10 +95,6 @@ module _ (first second file : List ℕ) (w : Made first second file) where
   pub meets-first : Meets seal.Strict first
   meets-first = accepted-meets first (w .one) .0
 
-  pub first-flight : flightOf meets-first ≡ w .one .0
-  unfolding meets-first
-  first-flight = accepted-meets first (w .one) .1
-
   meets-second : Meets seal.Strict second
   meets-second = accepted-meets second (w .two) .0
 

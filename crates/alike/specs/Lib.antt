@@ -1,0 +1,2 @@
+-- The words in which two files say the same.
+pub mod Alike
