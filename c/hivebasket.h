@@ -70,7 +70,12 @@ enum {
     HIVE_POSITION = 23,
     HIVE_ALTITUDE = 24,
     HIVE_DATE = 25,
-    HIVE_NOT_SAME = 26
+    HIVE_NOT_SAME = 26,
+    HIVE_SHELF = 27,
+    HIVE_ID = 28,
+    HIVE_ENTRIES_FULL = 29,
+    HIVE_NO_RUN = 30,
+    HIVE_NOT_FOUND = 31
 };
 
 /* Places in every answer. */
