@@ -1,0 +1,1 @@
+// What a shelf of flights is for, as theorems over `shelved`: no function stands here; proofs/ holds what is proved.
