@@ -98,11 +98,11 @@ module _ (o : List ℕ) (at from : ℕ) (b : List ℕ) (n : ℕ) (r : Found) (e 
         ahead = omega arith;
       }
 
-  pub turn-mid : (s : Slot) (after : List ℕ) → (s ≡ slotOf b n) × (after ≡ movedTo b n at) → Mid o (at + s .size) (s .start + s .size) after
-  turn-mid s after w =
+  pub turn-mid : (s : Slot) (after : List ℕ) → (s ≡ slotOf b n) × (after ≡ movedTo b n at) → (a u : ℕ) → a ≡ at + s .size → u ≡ s .start + s .size → Mid o a u after
+  turn-mid s after w a u g h =
       let z = start-is b n s (w .0) in
       let v = size-is b n s (w .0) in
-      rw (w .1) (mid-move o at from b n (sound-read o e) k (next-at b from 64 n r f x) (at + s .size) (s .start + s .size) (omega arith) (omega arith))
+      rw (w .1) (mid-move o at from b n (sound-read o e) k (next-at b from 64 n r f x) a u (omega arith) (omega arith))
 
 pub turns-end : (o : List ℕ) (at from : ℕ) (b : List ℕ) (r : Found) → sound o ≡ true → Mid o at from b → r ≡ found.Nothing → NextOf b from 64 r → Packed o b
 turns-end o at from b r e k f x = mid-last o at from b (sound-read o e) k (next-nothing b from 64 r f x)

@@ -1,5 +1,4 @@
 -- `pack::move_to` meets its contract: the body has room at the lower place, and the entry's start is four bytes of the table. Assumes nothing.
-use native.Mathlib.Omega.{arith}
 use borrow.Author.Needs.{needs}
 use Rattle.pack.proofs.Nexts.{start-is, move-then}
 use Rattle.pack.proofs.move_to.Statement.{statement}

@@ -1,6 +1,5 @@
 -- `pack::next` meets its contract: of the entries so far, the one that starts least from the place on. Assumes nothing.
 use Prim.Native.Nat.{_-_, _≤_}
-use mathlib.Core.Path.{_≡_}
 use native.Mathlib.Omega.{arith}
 use borrow.Author.Needs.{needs}
 use Rattle.shelved.specs.Moves.{NextOf}

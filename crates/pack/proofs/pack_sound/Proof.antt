@@ -57,7 +57,7 @@ loop-less c =
 loop-again : tie.Need-loop-again Inv-loop μ-loop
 loop-again c =
     let l = c .before .before .before .before .before .before .before .before .before .before .before .before .loop in
-    turn-mid _ (l .at) (l .from) (l .shelf) _ _ (c .before .before .before .before .before .before .before .before .before .before .before .before .before .before .pre) (l .inv) (c .before .before .before .before .before .before .before .before .n .given .1) (c .before .before .before .before .before .before .before .before .before .before .next .ensures) _ _ (c .before .before .before .before .before .move-to .ensures)
+    turn-mid _ (l .at) (l .from) (l .shelf) _ _ (c .before .before .before .before .before .before .before .before .before .before .before .before .before .before .pre) (l .inv) (c .before .before .before .before .before .before .before .before .n .given .1) (c .before .before .before .before .before .before .before .before .before .before .next .ensures) _ _ (c .before .before .before .before .before .move-to .ensures) _ _ (omega arith) (omega arith)
 
 pub pack-sound-spec : {M : Type 1} → statement M
 pack-sound-spec =
