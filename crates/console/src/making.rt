@@ -1,7 +1,8 @@
-// A new file made, or what failed said.
+// A new file made, or one put in the place of another; or what failed said.
 use crate::say_left;
 use crate::say_unfilled;
 use crate::say_unmade;
+use crate::say_unplaced;
 
 // Whether all of the bytes were written, and have reached the file's device.
 fn is_kept(fd: i32, made: &[u8]) -> bool {
@@ -32,8 +33,29 @@ pub fn make(name: &[u8], made: &[u8]) -> bool {
     if fill(name, fd, made) {
         return true;
     }
+    drop_made(name);
+    false
+}
+
+// What was written of a file is removed again.
+fn drop_made(name: &[u8]) {
     if os::unlink(name) < 0 {
         say_left(name);
     }
-    false
+}
+
+// The bytes in the place of a file: a new file beside it, with `.new` at the end of its name, is written whole, and then takes the name. Where that fails the old one stays as it is; where
+// there is a file by the new one's name already, that stays too, and nothing is done.
+pub fn replace(name: &[u8], made: &[u8]) -> bool {
+    let mut beside = [0u8; 4608];
+    let n = notice::beside(name, &mut beside);
+    if !make(&beside[..n], made) {
+        return false;
+    }
+    if os::rename(&beside[..n], name) < 0 {
+        say_unplaced(name);
+        drop_made(&beside[..n]);
+        return false;
+    }
+    true
 }

@@ -16,6 +16,7 @@ pub enum Verb {
     Track,
     Summary,
     Merge,
+    Shelf,
     Help,
     Version,
     NoVerb,
@@ -84,6 +85,9 @@ pub fn verb_of(word: &[u8]) -> Verb
     }
     if is_same(word, b"merge") {
         return Verb::Merge;
+    }
+    if is_same(word, b"shelf") {
+        return Verb::Shelf;
     }
     about(word)
 }

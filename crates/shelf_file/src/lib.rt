@@ -1,0 +1,189 @@
+// A shelf of flights in a file on disk, for igc: a flight added, handed out or removed, its flights told, its bodies packed. A changed shelf is written beside the old one, and takes its name
+// when it is whole.
+use console::fate_of;
+use console::print_refused;
+use named::read_named;
+use rules::Outcome;
+use rules::Reason;
+use rules::Refusal;
+use rules::Seal;
+use shelf::Added;
+use shelf::Asked;
+use verbs::Deed;
+use verbs::Fate;
+use verbs::Flight;
+
+// A refusal of the shelf: it names no line.
+fn refuse(name: &[u8], why: Refusal) -> Fate {
+    fate_of(print_refused(name, b"", why), Fate::Refused)
+}
+
+// A changed shelf in the old one's place, or why it is not changed.
+fn keep(name: &[u8], shelf: &[u8], done: Outcome) -> Fate {
+    match done {
+        Outcome::Refused(why) => refuse(name, why),
+        Outcome::Accepted => {
+            if !console::replace(name, shelf) {
+                return Fate::Unwritten;
+            }
+            Fate::Accepted
+        }
+    }
+}
+
+// Whether a refusal of adding is the file's own, by the usual check: those of the shelf come behind them.
+fn is_of_file(why: Refusal) -> bool {
+    let reason = why.reason;
+    refusals::number(reason) < 26
+}
+
+fn add(name: &[u8], shelf: &mut [u8], number: u32, from: &[u8], file: &[u8]) -> Fate {
+    match shelf::add(shelf, number, file) {
+        Added::At(_) => keep(name, shelf, Outcome::Accepted),
+        Added::Refused(why) => {
+            if is_of_file(why) {
+                return fate_of(print_refused(from, file, why), Fate::Refused);
+            }
+            refuse(name, why)
+        }
+    }
+}
+
+// A flight of the shelf as `igc check` tells a file, with its number for a name.
+fn tell(number: u32, body: &[u8]) -> Fate {
+    let mut word = [0u8; 20];
+    let n = pieces::put_decimal(&mut word, 0, number as u64);
+    let checked = file::check_untabled(Seal::Usual, body);
+    let outcome = checked.outcome;
+    let flight = checked.flight;
+    match outcome {
+        Outcome::Refused(why) => { fate_of(print_refused(&word[..n], body, why), Fate::Refused) }
+        Outcome::Accepted => {
+            fate_of(console::print_accepted(&word[..n], flight), Fate::Accepted)
+        }
+    }
+}
+
+// Each flight, in the order of the table of contents; the worst of what became of them.
+fn list(shelf: &[u8]) -> u32 {
+    let mut status = 0;
+    let mut n = 0;
+    while n < 64 {
+        let s = slot::slot_at(shelf, n);
+        if s.number != 0 {
+            let fate = tell(s.number, shelf::body(shelf, s.number));
+            status = verbs::worse(status, verbs::status_of(fate));
+        }
+        n += 1;
+    }
+    status
+}
+
+fn list_sound(name: &[u8], shelf: &[u8]) -> u32 {
+    if !contents::is_sound(shelf) {
+        return verbs::status_of(refuse(name, cut::unplaced(Reason::Shelf)));
+    }
+    list(shelf)
+}
+
+// The bytes of a flight on standard output.
+fn get(name: &[u8], shelf: &[u8], number: u32) -> Fate {
+    match shelf::ask(shelf, number) {
+        Asked::Refused(why) => refuse(name, why),
+        _ => fate_of(console::write(shelf::body(shelf, number)), Fate::Accepted),
+    }
+}
+
+// What is asked of a shelf with a flight number.
+fn on_flight(deed: Deed, name: &[u8], shelf: &mut [u8], number: u32) -> Fate {
+    match deed {
+        Deed::Get => get(name, shelf, number),
+        _ => {
+            let done = shelf::remove(shelf, number);
+            keep(name, shelf, done)
+        }
+    }
+}
+
+fn pack_named(name: &[u8], shelf: &mut [u8]) -> Fate {
+    let done = pack::pack(shelf);
+    keep(name, shelf, done)
+}
+
+// A file put on the shelf, by the word that names it.
+fn add_at(i: usize, name: &[u8], shelf: &mut [u8], number: u32, other: &mut [u8]) -> Fate {
+    let mut from = io::buffer();
+    let k = os::arg(i, &mut from);
+    let got = read_named(&from[..k], other);
+    if !got.whole {
+        return Fate::Unread;
+    }
+    let n = got.count;
+    add(name, shelf, number, &from[..k], &other[..n])
+}
+
+fn deed_at(i: usize) -> Deed {
+    let mut word = io::buffer();
+    let k = os::arg(i, &mut word);
+    verbs::deed_of(&word[..k])
+}
+
+fn flight_at(i: usize) -> Flight {
+    let mut word = io::buffer();
+    let k = os::arg(i, &mut word);
+    verbs::flight_of(&word[..k])
+}
+
+// How many words there are for what is asked, the shelf's name among them; 0 where nothing is.
+fn words_of(deed: Deed) -> usize {
+    match deed {
+        Deed::Add => 4,
+        Deed::List => 2,
+        Deed::Pack => 2,
+        Deed::NoDeed => 0,
+        _ => 3,
+    }
+}
+
+// What is asked of a shelf with a flight number, and with a file where it is added.
+fn with_flight(deed: Deed, dashes: usize, name: &[u8], shelf: &mut [u8], other: &mut [u8]) -> u32 {
+    let Flight::Is(number) = flight_at(console::place_of(4, dashes)) else {
+        return console::refuse_words();
+    };
+    let fate = match deed {
+        Deed::Add => add_at(console::place_of(5, dashes), name, shelf, number, other),
+        _ => on_flight(deed, name, shelf, number),
+    };
+    verbs::status_of(fate)
+}
+
+// What is asked of the shelf that a name is of.
+fn on_shelf(deed: Deed, dashes: usize, name: &[u8], input: &mut [u8], other: &mut [u8]) -> u32 {
+    let got = read_named(name, input);
+    if !got.whole {
+        return verbs::status_of(Fate::Unread);
+    }
+    let n = got.count;
+    match deed {
+        Deed::List => list_sound(name, &input[..n]),
+        Deed::Pack => verbs::status_of(pack_named(name, &mut input[..n])),
+        _ => with_flight(deed, dashes, name, &mut input[..n], other),
+    }
+}
+
+// The verb shelf, by the n words that the program was started with: a shelf's name, what is asked of it, and for that a flight number and a file. `input` takes the shelf and `other` the
+// file. The answer is the exit status: 0 done, 1 refused, 2 not all was read or written, or wrong words.
+pub fn run(n: usize, input: &mut [u8], other: &mut [u8]) -> u32 {
+    let names = console::names_from(2, n);
+    let dashes = names.dashes;
+    let deed = deed_at(console::place_of(3, dashes));
+    if names.count < 2 {
+        return console::refuse_words();
+    }
+    if names.count != words_of(deed) {
+        return console::refuse_words();
+    }
+    let mut name = io::buffer();
+    let k = os::arg(console::place_of(2, dashes), &mut name);
+    on_shelf(deed, dashes, &name[..k], input, other)
+}
