@@ -44,18 +44,23 @@ fn drop_made(name: &[u8]) {
     }
 }
 
+// The bytes written whole to a new file, which then takes a name that another has.
+fn put_over(beside: &[u8], name: &[u8], made: &[u8]) -> bool {
+    if !make(beside, made) {
+        return false;
+    }
+    if os::rename(beside, name) < 0 {
+        say_unplaced(name);
+        drop_made(beside);
+        return false;
+    }
+    true
+}
+
 // The bytes in the place of a file: a new file beside it, with `.new` at the end of its name, is written whole, and then takes the name. Where that fails the old one stays as it is; where
 // there is a file by the new one's name already, that stays too, and nothing is done.
 pub fn replace(name: &[u8], made: &[u8]) -> bool {
     let mut beside = [0u8; 4608];
     let n = notice::beside(name, &mut beside);
-    if !make(&beside[..n], made) {
-        return false;
-    }
-    if os::rename(&beside[..n], name) < 0 {
-        say_unplaced(name);
-        drop_made(&beside[..n]);
-        return false;
-    }
-    true
+    put_over(&beside[..n], name, made)
 }
