@@ -1,23 +1,30 @@
--- The body that starts next, one entry more; a body moved; and a turn of the packing. Assumes nothing.
+-- The body that starts next, one entry more; a body moved; a turn of the packing; and the two ways out of the call. Assumes nothing.
 use Prim.Native.Nat.{ℕ, _+_, _*_, _≤_, _<_}
-use mathlib.Core.Bool.{true}
+use mathlib.Core.Bool.{Bool, true, false, not}
 use mathlib.Core.List.{List}
-use mathlib.Core.Path.{_≡_, ap, _∙_}
+use mathlib.Core.Path.{_≡_, refl, ap, _∙_}
 use native.Mathlib.Omega.{arith}
 use borrow.Author.Tests.{le-leb}
 use lib.ListN.{length}
 use lib.Seq.{sets, length-sets}
+use Rattle.rules.specs.Refusals.{outcomeTold}
 use Rattle.rules.specs.Writes.{putAt}
 use Rattle.rules.specs.declared.Found.{Found}
 use Rattle.rules.specs.declared.Found.the-variants as found
+use Rattle.rules.specs.declared.Outcome.the-variants as outcome
+use Rattle.rules.specs.declared.Reason.the-variants as reason
+use Rattle.rules.specs.declared.Refusal.{Refusal}
+use Rattle.cut.specs.Steps.{unplaced}
+use Rattle.cut.proofs.Places.{refuses-unplaced}
 use Rattle.shelved.specs.Contents.{wordBytes, startOf, sizeOf, slotOf, bodyOf, sound}
 use Rattle.shelved.specs.Moves.{NextOf, movedTo}
 use Rattle.shelved.specs.Packing.{Packed}
 use Rattle.shelved.specs.declared.Slot.{Slot}
-use Rattle.shelved.proofs.Tests.{by-eq}
+use Rattle.shelved.proofs.Tests.{by-eq, not-not, not-so}
 use Rattle.shelved.proofs.Sounds.{sound-read}
 use Rattle.shelved.proofs.Mids.{Mid, mid-move, mid-last, move-order, move-inside, next-bytes, next-size}
 use Rattle.slot.specs.Entries.{movedDown}
+use Rattle.pack.specs.Pack.{ShelfPacked}
 
 -- ---- the numbers of an entry that was read
 
@@ -106,3 +113,21 @@ module _ (o : List ℕ) (at from : ℕ) (b : List ℕ) (n : ℕ) (r : Found) (e 
 
 pub turns-end : (o : List ℕ) (at from : ℕ) (b : List ℕ) (r : Found) → sound o ≡ true → Mid o at from b → r ≡ found.Nothing → NextOf b from 64 r → Packed o b
 turns-end o at from b r e k f x = mid-last o at from b (sound-read o e) k (next-nothing b from 64 r f x)
+
+-- ---- the two ways out of the call
+
+-- "the shelf is changed by none of them", the refusals
+pub pack-refused : (b : List ℕ) (t : Bool) (r : Refusal) → t ≡ sound b → not t ≡ true → r ≡ unplaced reason.Shelf → ShelfPacked b (outcome.Refused r) b
+unfolding outcomeTold
+pack-refused b t r e g h =
+    let f = not-not (sound b) t e g in
+    record {
+      told = rw f (refuses-unplaced reason.Shelf r h);
+      bytes = record { packed = λ w. let z : _≡_ {A = ℕ} 0 1 = let v = rw f at w in cc in absurd (omega arith); refused = λ w. refl };
+    }
+
+pub pack-done : (b : List ℕ) (t : Bool) (after : List ℕ) → t ≡ sound b → not t ≡ false → Packed b after → ShelfPacked b outcome.Accepted after
+unfolding outcomeTold
+pack-done b t after e g h =
+    let f = not-so (sound b) t e g in
+    record { told = rw f; bytes = record { packed = λ w. h; refused = λ w. absurd (w (rw f)) } }

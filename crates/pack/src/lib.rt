@@ -6,7 +6,10 @@ ghost use lib.ListN.{length};
 ghost use Rattle.shelved.specs.Contents.{startOf, sizeOf, slotOf, sound};
 ghost use Rattle.shelved.specs.Moves.{NextOf, movedTo};
 ghost use Rattle.shelved.specs.Packing.{Packed};
+ghost use Rattle.pack.specs.Pack.{ShelfPacked};
 use rules::Found;
+use rules::Outcome;
+use rules::Reason;
 use shelved::Slot;
 
 // Of the first n + 1 entries, the one that starts least from a place on, told that of the first n.
@@ -68,4 +71,16 @@ fn pack_sound(shelf: &mut [u8])
         at += s.size as usize;
         from = s.start as usize + s.size as usize;
     }
+}
+
+// A shelf packed: its bodies moved to the front in order of start, without gaps, and no other byte changed. Refused with 27 where the buffer breaks the rules of a
+// shelf, and then nothing changes.
+pub fn pack(shelf: &mut [u8]) -> Outcome
+    ensures { λ r. ⌜ ShelfPacked (now (shelf .entry)) r (now (shelf .exit)) ⌝ }
+{
+    if !contents::is_sound(shelf) {
+        return Outcome::Refused(cut::unplaced(Reason::Shelf));
+    }
+    pack_sound(shelf);
+    Outcome::Accepted
 }
