@@ -8,7 +8,7 @@ use lib.ListN.{length}
 use Rattle.rules.specs.Refusals.{outcomeTold}
 use Rattle.rules.specs.declared.Outcome.{Outcome}
 use Rattle.rules.proofs.Inverse.{false-true}
-use Rattle.pack.specs.Calls.{ShelfPacked}
+use Rattle.pack.specs.Pack.{ShelfPacked}
 use Rattle.shelf.specs.Calls.{addedTold, FlightAdded, FlightRemoved}
 use Rattle.shelf.specs.declared.Added.{Added}
 use Rattle.answers.specs.Answers.{size, inNumbers, hasRoom, AnswerGiven}

@@ -6,7 +6,7 @@ use mathlib.Core.Path.{_≡_}
 use Rattle.rules.specs.Refusals.{says, andThen}
 use Rattle.shelved.specs.Shelf.{addSaid, afterAdd, heldAt, askSaid, removeSaid, afterRemove}
 use Rattle.shelved.specs.Packing.{packSaid, PackedOrSame}
-use Rattle.shelved.specs.declared.Slot.{Slot}
+use Rattle.shelf.specs.Calls.{Extent, extentOf}
 use Rattle.answers.specs.Answers.{size, inNumbers, hasRoom, AnswerGiven}
 
 -- the start of a body
@@ -14,7 +14,7 @@ abbrev pub startNumbers : ℕ → List ℕ
 startNumbers start = start ∷ []
 
 -- its start and its length
-abbrev pub bodyNumbers : Slot → List ℕ
+abbrev pub bodyNumbers : Extent → List ℕ
 bodyNumbers s = s .start ∷ s .size ∷ []
 
 -- no value
@@ -28,7 +28,7 @@ pub record AddAnswered (b : List ℕ) (number : ℕ) (file answer : List ℕ) (r
 
 -- "Asking for a number hands out its body as a part of the buffer"
 abbrev pub AskAnswered : List ℕ → ℕ → List ℕ → ℕ → List ℕ → Type 0
-AskAnswered b number answer r after = AnswerGiven answer (inNumbers bodyNumbers (askSaid b number)) r after
+AskAnswered b number answer r after = AnswerGiven answer (inNumbers bodyNumbers (andThen (askSaid b number) λ s. says (extentOf s))) r after
 
 -- "removing zeroes its entry"
 pub record RemoveAnswered (b : List ℕ) (number : ℕ) (answer : List ℕ) (r : ℕ) (bNow answerNow : List ℕ) : Type 0 where
