@@ -58,8 +58,9 @@ fn outlines() {
     // 22:00:00 to 01:00:05 of the next day are 3 hours and 5 seconds; 30 minutes are half a degree
     let night = ["B2200004530000S00030000WA0050000120", "B2300004600000S00030000EV9999900120", "B0100054700000S00130000EA-010000120"];
     assert_eq!(line(&night), "2024-07-15 22:00:00 01:00:05+1 3:00:05 99999 -100 3 -47.000000 -45.500000 -0.500000 1.500000");
-    // a K line before it brings the first fix to day 1
-    assert_eq!(line(&["K235959", B35]), "2024-07-15 12:00:00+1 12:00:00+1 0:00:00 100 100 1 51.500000 51.500000 -0.250000 -0.250000");
+    // a K line, from which the clock falls by 43,201, brings the first fix to day 1
+    let late = ["K235959", "B1159585130000N00015000WA0010000120"];
+    assert_eq!(line(&late), "2024-07-15 11:59:58+1 11:59:58+1 0:00:00 100 100 1 51.500000 51.500000 -0.250000 -0.250000");
 }
 
 /// First and last, highest and lowest, the corners. Fails where V fixes count for the position or not for altitudes, where highest and lowest or the corners begin from 0, or where the GNSS
