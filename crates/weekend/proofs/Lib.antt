@@ -1,4 +1,6 @@
--- What adding and removing leave of a shelf.
+-- What adding, removing and packing leave of a shelf.
 pub mod Tables
 pub mod Calls
 pub mod Results
+pub mod Room
+pub mod Packs
