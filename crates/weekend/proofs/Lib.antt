@@ -1,0 +1,2 @@
+-- What is claimed of a shelf is one page: proofs/Shelf.antt. The other files show it.
+pub mod Words
