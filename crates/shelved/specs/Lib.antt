@@ -3,3 +3,4 @@ pub mod Ranges
 pub mod Contents
 pub mod Shelf
 pub mod Packing
+pub mod Moves

@@ -13,7 +13,7 @@ use Rattle.rules.specs.declared.Reason.the-variants as reason
 use Rattle.rules.specs.declared.Seal.{Seal}
 use Rattle.rules.specs.declared.Seal.the-variants as seal
 use Rattle.shelved.specs.Ranges.{least, every}
-use Rattle.shelved.specs.Contents.{numberOf, startOf, sizeOf, endOf, slotOf, slotBytes, clear, sound}
+use Rattle.shelved.specs.Contents.{numberOf, startOf, endOf, slotOf, slotBytes, clear, sound}
 use Rattle.shelved.specs.declared.Slot.{Slot}
 
 -- ---- finding

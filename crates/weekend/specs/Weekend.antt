@@ -103,7 +103,7 @@ NotFound b number n l x = Unplaced 31 n l x × Keeps b × ((number ≡ 0) ⊎ (I
 -- ---- what each call does where it is not refused
 
 -- a body is added in entry k, from place `at` on
-pub record Adds (b : List ℕ) (number : ℕ) (file : List ℕ) (k at : ℕ) : Type 0 where
+pub record AddsAt (b : List ℕ) (number : ℕ) (file : List ℕ) (k at : ℕ) : Type 0 where
   pub both : Both b file
   pub new : New b number
   pub entry : FirstFree b k

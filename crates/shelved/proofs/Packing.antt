@@ -1,0 +1,129 @@
+-- Packing, one body at a time: what holds between two moves. Assumes nothing.
+use Prim.Native.Nat.{ℕ, zero, suc, _+_, _*_, _≤_, _<_}
+use mathlib.Core.Bool.{cond}
+use mathlib.Core.List.{List}
+use mathlib.Core.Logic.{_⊎_, inl, inr, ⊎-elim}
+use mathlib.Core.Path.{_≡_, refl, sym, _∙_}
+use native.Mathlib.Omega.{arith}
+use borrow.Author.Tests.{lt-ltb, le-ltb}
+use lib.Dec.{ltb}
+use lib.ListN.{length, getD}
+use lib.Seq.{sets, length-sets}
+use Rattle.shelved.specs.Ranges.{total}
+use Rattle.shelved.specs.Contents.{word, wordBytes, numberOf, startOf, sizeOf, endOf, bodyOf, held, Sound}
+use Rattle.shelved.specs.Packing.{before}
+use Rattle.shelved.specs.Moves.{movedTo}
+use Rattle.shelved.proofs.Tests.{by-eq, by-le}
+use Rattle.shelved.proofs.Ranges.{total-same, total-change}
+use Rattle.shelved.proofs.Bytes.{run, run-kept, run-stored, word-kept, word-stored, word-bytes, getD-sets-out}
+use Rattle.shelved.proofs.Sounds.{apart-any}
+
+-- ---- what starts before a place
+
+-- an entry's share
+abbrev share : List ℕ → ℕ → ℕ → ℕ
+share b at m = cond (ltb (startOf b m) at) (sizeOf b m) 0
+
+share-in : (b : List ℕ) (at m : ℕ) → startOf b m < at → share b at m ≡ sizeOf b m
+share-in b at m h = rw (lt-ltb (startOf b m) at h)
+
+share-out : (b : List ℕ) (at m : ℕ) → at ≤ startOf b m → share b at m ≡ 0
+share-out b at m h = rw (le-ltb (startOf b m) at h)
+
+-- an empty entry has none
+share-none : (b : List ℕ) (at m : ℕ) → sizeOf b m ≡ 0 → share b at m ≡ 0
+share-none b at m h = by-le at (startOf b m) (λ g. share-out b at m g) (λ g. share-in b at m g ∙ h)
+
+total-zero : (f : ℕ → ℕ) (k : ℕ) → ((n : ℕ) → n < k → f n ≡ 0) → total f k ≡ 0
+unfolding total
+total-zero f zero h = refl
+total-zero f (suc k) h = let s = total-zero f k (λ n p. h n (omega arith)) in let t = h k (omega arith) in omega arith
+
+module _ (b : List ℕ) (s : Sound b) where
+  used-start : (n : ℕ) → n < 64 → 0 < startOf b n → numberOf b n ≡ 0 → ⊥
+  used-start n p h z = let f = s .kept .free n p z in omega (arith, f .0)
+
+  pub before-none : before b 768 ≡ 0
+  unfolding before
+  before-none = total-zero (share b 768) 64 λ n p. by-eq (numberOf b n) 0
+      (λ z. share-none b 768 n (s .kept .free n p z .1))
+      (λ z. share-out b 768 n (s .kept .from-768 n p z))
+
+  -- no body starts between two places
+  pub before-same : (a e : ℕ) → 0 < a → a ≤ e → ((m : ℕ) → m < 64 → a ≤ startOf b m → e ≤ startOf b m) → before b e ≡ before b a
+  unfolding before
+  before-same a e z h f = total-same (share b e) (share b a) 64 λ m p. by-le a (startOf b m)
+      (λ g. share-out b e m (f m p g) ∙ sym (share-out b a m g))
+      (λ g. share-in b e m (omega arith) ∙ sym (share-in b a m g))
+
+  -- one body starts between its start and its end
+  pub before-next : (n : ℕ) → n < 64 → 0 < sizeOf b n → before b (endOf b n) ≡ before b (startOf b n) + sizeOf b n
+  unfolding before
+  before-next n p h =
+      let t = total-change (share b (startOf b n)) (share b (endOf b n)) 64 n p (λ m q d. by-le (startOf b n) (startOf b m)
+      (λ g. ⊎-elim
+      (λ w. share-out b (endOf b n) m w ∙ sym (share-out b (startOf b n) m g))
+      (λ w. let z : sizeOf b m ≡ 0 = omega arith in share-none b (endOf b n) m z ∙ sym (share-none b (startOf b n) m z))
+      (apart-any (s .kept) n m p q (λ e. d (sym e))))
+      (λ g. share-in b (endOf b n) m (omega arith) ∙ sym (share-in b (startOf b n) m g))) in
+      let u = share-out b (startOf b n) n (omega arith) in
+      let v = share-in b (endOf b n) n (omega arith) in
+      omega arith
+
+  pub before-all : (a : ℕ) → ((m : ℕ) → m < 64 → startOf b m < a) → before b a ≡ held b
+  unfolding before held
+  before-all a f = total-same (share b a) (sizeOf b) 64 λ m p. share-in b a m (f m p)
+
+-- ---- one move
+
+module _ (b : List ℕ) (n at : ℕ) (p : n < 64) (low : 768 ≤ at) where
+  mid : List ℕ
+  mid = sets b at (bodyOf b n)
+
+  pub moved-length : length (movedTo b n at) ≡ length b
+  moved-length = length-sets (sets b at (bodyOf b n)) (12 * n + 4) (wordBytes at) ∙ length-sets b at (bodyOf b n)
+
+  -- words of the table but the one
+  moved-word : (a : ℕ) → a + 4 ≤ 768 → (a + 4 ≤ 12 * n + 4) ⊎ (12 * n + 4 + 4 ≤ a) → word (movedTo b n at) a ≡ word b a
+  unfolding wordBytes
+  moved-word a g h = word-kept (sets b at (bodyOf b n)) (12 * n + 4) (wordBytes at) a h ∙ word-kept b at (bodyOf b n) a (inl (omega arith))
+
+  pub moved-number : (m : ℕ) → m < 64 → numberOf (movedTo b n at) m ≡ numberOf b m
+  moved-number m q = by-le m n
+      (λ g. moved-word (12 * m) (omega arith) (inl (omega arith)))
+      (λ g. moved-word (12 * m) (omega arith) (inr (omega arith)))
+
+  pub moved-size : (m : ℕ) → m < 64 → sizeOf (movedTo b n at) m ≡ sizeOf b m
+  moved-size m q = by-le n m
+      (λ g. moved-word (12 * m + 8) (omega arith) (inr (omega arith)))
+      (λ g. moved-word (12 * m + 8) (omega arith) (inl (omega arith)))
+
+  pub moved-other : (m : ℕ) → m < 64 → (m ≡ n → ⊥) → startOf (movedTo b n at) m ≡ startOf b m
+  moved-other m q d = by-le m n
+      (λ g. moved-word (12 * m + 4) (omega arith) (inl (omega arith)))
+      (λ g. moved-word (12 * m + 4) (omega arith) (inr (omega arith)))
+
+  pub moved-start : at < 4294967296 → 768 ≤ length b → startOf (movedTo b n at) n ≡ at
+  unfolding wordBytes
+  moved-start h g =
+      let e : 12 * n + 4 + 0 ≡ 12 * n + 4 = omega arith in
+      let w = word-stored (sets b at (bodyOf b n)) (12 * n + 4) (wordBytes at) 0 (omega (arith, length-sets b at (bodyOf b n))) (omega arith) in
+      rw e at w ∙ word-bytes at h
+
+  -- bytes past the table and past the move stay
+  pub moved-run : (a k : ℕ) → 768 ≤ a → a + k ≤ length b → (a + k ≤ at) ⊎ (at + length (bodyOf b n) ≤ a) → run a k (movedTo b n at) ≡ run a k b
+  unfolding wordBytes
+  moved-run a k g h d =
+      run-kept (sets b at (bodyOf b n)) (12 * n + 4) (wordBytes at) a k (rw length-sets h) (inr (omega arith))
+      ∙ run-kept b at (bodyOf b n) a k h d
+
+  pub moved-body : at + sizeOf b n ≤ length b → length (bodyOf b n) ≡ sizeOf b n → run at (sizeOf b n) (movedTo b n at) ≡ bodyOf b n
+  unfolding wordBytes
+  moved-body h e =
+      run-kept (sets b at (bodyOf b n)) (12 * n + 4) (wordBytes at) at (sizeOf b n) (rw length-sets h) (inr (omega arith))
+      ∙ rw e at (run-stored b at (bodyOf b n) (rw e h))
+
+  pub moved-rest : (i : ℕ) → at + length (bodyOf b n) ≤ i → getD (movedTo b n at) i 0 ≡ getD b i 0
+  unfolding wordBytes
+  moved-rest i h =
+      getD-sets-out (sets b at (bodyOf b n)) (12 * n + 4) (wordBytes at) i (inr (omega arith)) ∙ getD-sets-out b at (bodyOf b n) i (inr h)
