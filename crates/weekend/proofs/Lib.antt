@@ -1,5 +1,6 @@
 -- What is claimed of a shelf is one page: proofs/Shelf.antt. The other files show it.
 pub mod Words
+pub mod Answers
 pub mod Tables
 pub mod Entries
 pub mod Results

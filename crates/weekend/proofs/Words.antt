@@ -17,7 +17,7 @@ use Rattle.shelved.proofs.Tests.{by-bool, by-eq, by-le, both}
 use Rattle.shelved.proofs.Ranges.{Least, least-skip, least-hit, least-some, least-none, least-over, every-of}
 use Rattle.shelved.proofs.Sounds.{sound-read, sound-told, apart-clear, apart-any, once-any}
 use Rattle.shelved.proofs.Places.{fits-read}
-use Rattle.weekend.specs.Weekend.{InBody, Keeps, InUse, FreeRun, Smallest}
+use Rattle.weekend.specs.Weekend.{InBody, IsShelf, InUse, FreeRun, Smallest}
 
 -- ---- the rules
 
@@ -53,7 +53,7 @@ module _ (b : List ℕ) (s : Sound b) where
       (λ (g : endOf b m ≤ startOf b n). omega (arith, y .among .1, x .among .0, g))
       (apart-any (s .kept) n m (x .entry) (y .entry) d)
 
-  pub sound-keeps : Keeps b
+  pub sound-keeps : IsShelf b
   sound-keeps = record {
     least-room = s .least-room;
     most-room = s .most-room;
@@ -67,7 +67,7 @@ module _ (b : List ℕ) (s : Sound b) where
     once = λ n m p q u e. by-eq n m (λ g. g) (λ d. absurd (u (once-any (s .kept) n m p q d e)));
   }
 
-module _ (b : List ℕ) (k : Keeps b) where
+module _ (b : List ℕ) (k : IsShelf b) where
   -- a body's first and last byte
   used-size : (n : ℕ) → n < 64 → (numberOf b n ≡ 0 → ⊥) → 1 ≤ sizeOf b n
   used-size n p u = let x = k .some-byte n p u in omega (arith, x .1 .among .0, x .1 .among .1)
@@ -111,11 +111,11 @@ module _ (b : List ℕ) (k : Keeps b) where
     };
   }
 
-pub keeps-exactly : (b : List ℕ) → (sound b ≡ true) ↔ Keeps b
+pub keeps-exactly : (b : List ℕ) → (sound b ≡ true) ↔ IsShelf b
 keeps-exactly b = (λ e. sound-keeps b (sound-read b e), λ k. sound-told b (keeps-sound b k))
 
 -- the rules broken
-pub breaks-exactly : (b : List ℕ) → (sound b ≡ false) ↔ (Keeps b → ⊥)
+pub breaks-exactly : (b : List ℕ) → (sound b ≡ false) ↔ (IsShelf b → ⊥)
 breaks-exactly b = (
   (λ e k. false-true (sym e ∙ keeps-exactly b .1 k)),
   (λ f. by-bool (sound b) (λ e. absurd (f (keeps-exactly b .0 e))) (λ e. e)),
@@ -140,8 +140,8 @@ module _ (b : List ℕ) (x : ℕ) where
   unfolding entryOf
   entry-exactly k = (
     (λ e.
-    let l = least-some has 0 64 k e in
-    (l .high, eqb-true (numberOf b k) x (l .passes), λ n h. eqb-false (numberOf b n) x (l .first n (omega arith) h))),
+        let l = least-some has 0 64 k e in
+        (l .high, eqb-true (numberOf b k) x (l .passes), λ n h. eqb-false (numberOf b n) x (l .first n (omega arith) h))),
     (λ w. least-is has 0 64 k (record {
       low = omega arith;
       high = w .0;
@@ -176,18 +176,18 @@ module _ (b : List ℕ) (s : Sound b) (size : ℕ) (one : 1 ≤ size) where
   unfolding fits
   fits-exactly at low = (
     (λ e.
-    let f = fits-read b size at e in
-    record {
-      from-768 = low;
-      inside = f .inside;
-      free = λ n i a x. ⊎-elim
-          (λ (g : at + size ≤ startOf b n). omega (arith, a .1, x .among .0, g))
-          (λ (g : endOf b n ≤ at). omega (arith, a .0, x .among .1, g))
-          (f .apart n (x .entry));
-    }),
+        let f = fits-read b size at e in
+        record {
+          from-768 = low;
+          inside = f .inside;
+          free = λ n i a x. ⊎-elim
+              (λ (g : at + size ≤ startOf b n). omega (arith, a .1, x .among .0, g))
+              (λ (g : endOf b n ≤ at). omega (arith, a .0, x .among .1, g))
+              (f .apart n (x .entry));
+        }),
     (λ r.
-    both (leb (at + size) (length b)) (every (clearOf b size at) 64) (le-leb (at + size) (length b) (r .inside))
-    (every-of (clearOf b size at) 64 λ n p. apart-clear at (at + size) (startOf b n) (endOf b n) (run-apart at r n p))),
+        both (leb (at + size) (length b)) (every (clearOf b size at) 64) (le-leb (at + size) (length b) (r .inside))
+        (every-of (clearOf b size at) 64 λ n p. apart-clear at (at + size) (startOf b n) (endOf b n) (run-apart at r n p))),
   )
 
   fits-not : (at : ℕ) → 768 ≤ at → (FreeRun b at size → ⊥) → fits b size at ≡ false
@@ -197,9 +197,11 @@ module _ (b : List ℕ) (s : Sound b) (size : ℕ) (one : 1 ≤ size) where
   unfolding placeFor
   place-exactly at = (
     (λ e.
-    let l = least-some (fits b size) 768 (length b - 768) at e in
-    (fits-exactly at (l .low) .0 (l .passes), λ a r. by-le at a (λ h. h)
-    (λ h. absurd (false-true (sym (l .first a (r .from-768) h) ∙ fits-exactly a (r .from-768) .1 r))))),
+        let l = least-some (fits b size) 768 (length b - 768) at e in (
+          fits-exactly at (l .low) .0 (l .passes),
+          λ a r. by-le at a (λ h. h)
+              (λ h. absurd (false-true (sym (l .first a (r .from-768) h) ∙ fits-exactly a (r .from-768) .1 r))),
+        )),
     (λ w. least-is (fits b size) 768 (length b - 768) at (record {
       low = w .0 .from-768;
       high = omega (arith, w .0 .from-768, w .0 .inside);

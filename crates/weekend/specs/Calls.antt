@@ -12,7 +12,7 @@ use Rattle.shelved.specs.Contents.{numberOf}
 use Rattle.shelved.specs.Shelf.{Spot, addSaid, afterAdd, heldAt, removeSaid, afterRemove, askSaid}
 use Rattle.shelved.specs.Packing.{packSaid, PackedOrSame}
 use Rattle.shelved.specs.declared.Slot.{Slot}
-use Rattle.weekend.specs.Weekend.{Keeps}
+use Rattle.weekend.specs.Weekend.{IsShelf}
 
 -- a call with what it was given and what it answered
 pub data Call : Type 0 where
@@ -50,7 +50,7 @@ bytesRemoved (packs answer ∷ calls) = bytesRemoved calls
 
 -- "an empty shelf"
 abbrev pub Empty : List ℕ → Type 0
-Empty b = Keeps b × ((n : ℕ) → n < 64 → numberOf b n ≡ 0)
+Empty b = IsShelf b × ((n : ℕ) → n < 64 → numberOf b n ≡ 0)
 
 -- the shelf after any calls "From an empty shelf", each with the answer and the buffer that it promises
 pub data Reached : List Call → List ℕ → Type 0 where

@@ -23,7 +23,7 @@ pub record InBody (b : List ℕ) (n i : ℕ) : Type 0 where
   pub among : Among (startOf b n) (sizeOf b n) i
 
 -- the buffer keeps "these rules"
-pub record Keeps (b : List ℕ) : Type 0 where
+pub record IsShelf (b : List ℕ) : Type 0 where
   -- "one lent buffer of 768 to 16,777,216 bytes"
   pub least-room : 768 ≤ length b
   pub most-room : length b ≤ 16777216
@@ -66,15 +66,15 @@ Unplaced k n l x = (n ≡ k) × (l ≡ 0) × (x ≡ 0)
 
 -- "27 SHELF if the buffer breaks these rules"
 abbrev pub Broken : List ℕ → ℕ → ℕ → ℕ → Type 0
-Broken b n l x = Unplaced 27 n l x × (Keeps b → ⊥)
+Broken b n l x = Unplaced 27 n l x × (IsShelf b → ⊥)
 
 -- "then the file's own", by "the usual check"
 abbrev pub FileRefused : List ℕ → List ℕ → ℕ → ℕ → ℕ → Type 0
-FileRefused b file n l x = Keeps b × Refused seal.Usual file none n l x
+FileRefused b file n l x = IsShelf b × Refused seal.Usual file none n l x
 
 -- neither: the buffer is a shelf, and the file meets the grammar
 abbrev pub Both : List ℕ → List ℕ → Type 0
-Both b file = Keeps b × Meets seal.Usual file
+Both b file = IsShelf b × Meets seal.Usual file
 
 -- "then 28 ID for number 0 or one in use"
 abbrev pub IdRefused : List ℕ → ℕ → List ℕ → ℕ → ℕ → ℕ → Type 0
@@ -98,7 +98,7 @@ AddRefused b number file n l x =
 
 -- "31 NOT_FOUND for asking for or removing 0 or a number not held"
 abbrev pub NotFound : List ℕ → ℕ → ℕ → ℕ → ℕ → Type 0
-NotFound b number n l x = Unplaced 31 n l x × Keeps b × ((number ≡ 0) ⊎ (InUse b number → ⊥))
+NotFound b number n l x = Unplaced 31 n l x × IsShelf b × ((number ≡ 0) ⊎ (InUse b number → ⊥))
 
 -- ---- what each call does where it is not refused
 
@@ -118,7 +118,7 @@ pub record Puts (b : List ℕ) (number : ℕ) (file : List ℕ) (k at : ℕ) (af
 
 -- a flight is held in entry n
 abbrev pub HeldIn : List ℕ → ℕ → ℕ → Type 0
-HeldIn b number n = Keeps b × (number ≡ 0 → ⊥) × (n < 64) × (numberOf b n ≡ number)
+HeldIn b number n = IsShelf b × (number ≡ 0 → ⊥) × (n < 64) × (numberOf b n ≡ number)
 
 -- the buffer afterwards: "removing zeroes its entry", "only the entry"
 pub record Zeroes (b : List ℕ) (n : ℕ) (after : List ℕ) : Type 0 where
