@@ -6,7 +6,7 @@ use mathlib.Core.Logic.{_⊎_, inl, inr, _↔_}
 use mathlib.Core.Option.{Option, none, some}
 use mathlib.Core.Path.{_≡_, refl, sym, ap, _∙_}
 use native.Mathlib.Omega.{arith}
-use borrow.Author.Tests.{eq-eqb, ne-eqb, eqb-true, eqb-false}
+use borrow.Author.Tests.{eq-eqb, ne-eqb, eqb-true, eqb-false, not-false}
 use lib.Dec.{eqb}
 use lib.ListN.{length}
 use Rattle.rules.specs.Choice.{given, need}
@@ -15,7 +15,7 @@ use Rattle.rules.specs.Refusals.{number, Said, says, refuses, no, andThen}
 use Rattle.rules.specs.declared.Flight.{Flight}
 use Rattle.rules.specs.declared.Reason.the-variants as reason
 use Rattle.rules.specs.declared.Seal.the-variants as seal
-use Rattle.rules.proofs.Inverse.{refuses-says, then-inv}
+use Rattle.rules.proofs.Inverse.{refuses-says, then-inv, not-inv}
 use Rattle.demands.specs.Grammar.{Meets, flightOf}
 use Rattle.demands.proofs.Demands.{accepted-as, refused-first}
 use Rattle.shelved.specs.Contents.{numberOf, slotOf, sound}
@@ -229,17 +229,9 @@ module _ (b : List ℕ) (number : ℕ) where
   unfolding heldAt number
   is-looked = refl
 
-  not-read : (t : Bool) → not t ≡ false → t ≡ true
-  not-read true e = refl
-  not-read false e = let z : _≡_ {A = ℕ} 0 1 = cc in absurd (omega arith)
-
-  not-not-read : (t : Bool) → not t ≡ true → t ≡ false
-  not-not-read false e = refl
-  not-not-read true e = let z : _≡_ {A = ℕ} 0 1 = cc in absurd (omega arith)
-
   in-found : (n l x : ℕ) → IsShelf b → looked ≡ refuses n l x → NotFound b number n l x
   in-found n l x s g = by-sum (need-ways (not (eqb number 0)) (refuses 31 0 0) (refuses n l x) (λ _. found) g)
-      (λ p. (parts 31 0 0 n l x (p .1), s, inl (eqb-true number 0 (not-read (eqb number 0) (p .0)))))
+      (λ p. (parts 31 0 0 n l x (p .1), s, inl (eqb-true number 0 (not-false (eqb number 0) (p .0)))))
       (λ p. by-sum (given-ways (entryOf b number) (refuses 31 0 0) (refuses n l x) (λ m. says m) (p .1))
       (λ q. (parts 31 0 0 n l x (q .1), s, inr (no-entry-exactly b number .0 (q .0))))
       (λ q. absurd (refuses-says (sym (q .2)))))
@@ -282,7 +274,7 @@ module _ (b : List ℕ) (number : ℕ) where
       let y : _≡_ {A = Said ℕ} (says (r .0)) (says n) = r .2 in
       let z : r .0 ≡ n = cc in
       let w = entry-exactly b number n .0 (rw z at (r .1)) in
-      (keeps-exactly b .0 (p .0), eqb-false number 0 (not-not-read (eqb number 0) (q .0)), w .0, w .1))))
+      (keeps-exactly b .0 (p .0), eqb-false number 0 (not-inv (eqb number 0) (q .0)), w .0, w .1))))
 
   -- whatever is said of the entry found, its refusals are the same
   pub then-held : {A : Type 0} (f : ℕ → A) (n l x : ℕ) → (andThen (heldAt b number) (λ m. says (f m)) ≡ refuses n l x) ↔ (Broken b n l x ⊎ NotFound b number n l x)

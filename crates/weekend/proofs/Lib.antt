@@ -4,3 +4,4 @@ pub mod Answers
 pub mod Tables
 pub mod Entries
 pub mod Results
+pub mod After
