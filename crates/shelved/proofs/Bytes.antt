@@ -80,6 +80,13 @@ pub word-bytes : (v : ℕ) → v < 4294967296 → word (wordBytes v) 0 ≡ v
 unfolding word wordBytes
 word-bytes v h = omega arith
 
+-- a word told by its four bytes
+pub word-run : (l : List ℕ) (at v : ℕ) → v < 4294967296 → run at 4 l ≡ wordBytes v → word l at ≡ v
+word-run l at v h e =
+    word-same l (wordBytes v) at 0
+    (λ i p. let z : 0 + i ≡ i = omega arith in rw z (sym (getD-drop at l i 0) ∙ sym (getD-take 4 (drop at l) i 0 p) ∙ rw e))
+    ∙ word-bytes v h
+
 -- ---- an entry's words, as it is stored
 
 pub slot-length : (s : Slot) → length (slotBytes s) ≡ 12

@@ -1,8 +1,8 @@
--- Packing, one body at a time: what holds between two moves. Assumes nothing.
+-- Packing: the bytes held by the bodies that start before a place, and what one move leaves. Assumes nothing.
 use Prim.Native.Nat.{ℕ, zero, suc, _+_, _*_, _≤_, _<_}
 use mathlib.Core.Bool.{cond}
 use mathlib.Core.List.{List}
-use mathlib.Core.Logic.{_⊎_, inl, inr, ⊎-elim}
+use mathlib.Core.Logic.{inr, ⊎-elim}
 use mathlib.Core.Path.{_≡_, refl, sym, _∙_}
 use native.Mathlib.Omega.{arith}
 use borrow.Author.Tests.{lt-ltb, le-ltb}
@@ -10,12 +10,12 @@ use lib.Dec.{ltb}
 use lib.ListN.{length, getD}
 use lib.Seq.{sets, length-sets}
 use Rattle.shelved.specs.Ranges.{total}
-use Rattle.shelved.specs.Contents.{word, wordBytes, numberOf, startOf, sizeOf, endOf, bodyOf, held, Sound}
-use Rattle.shelved.specs.Packing.{before}
+use Rattle.shelved.specs.Contents.{wordBytes, numberOf, startOf, sizeOf, endOf, bodyOf, held, Sound}
+use Rattle.shelved.specs.Packing.{before, Outside}
 use Rattle.shelved.specs.Moves.{movedTo}
 use Rattle.shelved.proofs.Tests.{by-eq, by-le}
 use Rattle.shelved.proofs.Ranges.{total-same, total-change}
-use Rattle.shelved.proofs.Bytes.{run, run-kept, run-stored, word-kept, word-stored, word-bytes, getD-sets-out}
+use Rattle.shelved.proofs.Bytes.{run, run-kept, run-stored, getD-sets-out}
 use Rattle.shelved.proofs.Sounds.{apart-any}
 
 -- ---- what starts before a place
@@ -40,9 +40,6 @@ total-zero f zero h = refl
 total-zero f (suc k) h = let s = total-zero f k (λ n p. h n (omega arith)) in let t = h k (omega arith) in omega arith
 
 module _ (b : List ℕ) (s : Sound b) where
-  used-start : (n : ℕ) → n < 64 → 0 < startOf b n → numberOf b n ≡ 0 → ⊥
-  used-start n p h z = let f = s .kept .free n p z in omega (arith, f .0)
-
   pub before-none : before b 768 ≡ 0
   unfolding before
   before-none = total-zero (share b 768) 64 λ n p. by-eq (numberOf b n) 0
@@ -76,54 +73,21 @@ module _ (b : List ℕ) (s : Sound b) where
 
 -- ---- one move
 
-module _ (b : List ℕ) (n at : ℕ) (p : n < 64) (low : 768 ≤ at) where
-  mid : List ℕ
-  mid = sets b at (bodyOf b n)
-
+module _ (b : List ℕ) (n at : ℕ) where
   pub moved-length : length (movedTo b n at) ≡ length b
   moved-length = length-sets (sets b at (bodyOf b n)) (12 * n + 4) (wordBytes at) ∙ length-sets b at (bodyOf b n)
 
-  -- words of the table but the one
-  moved-word : (a : ℕ) → a + 4 ≤ 768 → (a + 4 ≤ 12 * n + 4) ⊎ (12 * n + 4 + 4 ≤ a) → word (movedTo b n at) a ≡ word b a
+  -- each byte but those of the start and of the body stays
+  pub moved-only : (i : ℕ) → Outside (12 * n + 4) 4 i → Outside at (length (bodyOf b n)) i → getD (movedTo b n at) i 0 ≡ getD b i 0
   unfolding wordBytes
-  moved-word a g h = word-kept (sets b at (bodyOf b n)) (12 * n + 4) (wordBytes at) a h ∙ word-kept b at (bodyOf b n) a (inl (omega arith))
+  moved-only i g h = getD-sets-out (sets b at (bodyOf b n)) (12 * n + 4) (wordBytes at) i g ∙ getD-sets-out b at (bodyOf b n) i h
 
-  pub moved-number : (m : ℕ) → m < 64 → numberOf (movedTo b n at) m ≡ numberOf b m
-  moved-number m q = by-le m n
-      (λ g. moved-word (12 * m) (omega arith) (inl (omega arith)))
-      (λ g. moved-word (12 * m) (omega arith) (inr (omega arith)))
-
-  pub moved-size : (m : ℕ) → m < 64 → sizeOf (movedTo b n at) m ≡ sizeOf b m
-  moved-size m q = by-le n m
-      (λ g. moved-word (12 * m + 8) (omega arith) (inr (omega arith)))
-      (λ g. moved-word (12 * m + 8) (omega arith) (inl (omega arith)))
-
-  pub moved-other : (m : ℕ) → m < 64 → (m ≡ n → ⊥) → startOf (movedTo b n at) m ≡ startOf b m
-  moved-other m q d = by-le m n
-      (λ g. moved-word (12 * m + 4) (omega arith) (inl (omega arith)))
-      (λ g. moved-word (12 * m + 4) (omega arith) (inr (omega arith)))
-
-  pub moved-start : at < 4294967296 → 768 ≤ length b → startOf (movedTo b n at) n ≡ at
+  pub moved-start : n < 64 → 768 ≤ length b → run (12 * n + 4) 4 (movedTo b n at) ≡ wordBytes at
   unfolding wordBytes
-  moved-start h g =
-      let e : 12 * n + 4 + 0 ≡ 12 * n + 4 = omega arith in
-      let w = word-stored (sets b at (bodyOf b n)) (12 * n + 4) (wordBytes at) 0 (omega (arith, length-sets b at (bodyOf b n))) (omega arith) in
-      rw e at w ∙ word-bytes at h
+  moved-start p h = run-stored (sets b at (bodyOf b n)) (12 * n + 4) (wordBytes at) (omega (arith, length-sets b at (bodyOf b n)))
 
-  -- bytes past the table and past the move stay
-  pub moved-run : (a k : ℕ) → 768 ≤ a → a + k ≤ length b → (a + k ≤ at) ⊎ (at + length (bodyOf b n) ≤ a) → run a k (movedTo b n at) ≡ run a k b
+  pub moved-body : n < 64 → 768 ≤ at → (size : ℕ) → at + size ≤ length b → length (bodyOf b n) ≡ size → run at size (movedTo b n at) ≡ bodyOf b n
   unfolding wordBytes
-  moved-run a k g h d =
-      run-kept (sets b at (bodyOf b n)) (12 * n + 4) (wordBytes at) a k (rw length-sets h) (inr (omega arith))
-      ∙ run-kept b at (bodyOf b n) a k h d
-
-  pub moved-body : at + sizeOf b n ≤ length b → length (bodyOf b n) ≡ sizeOf b n → run at (sizeOf b n) (movedTo b n at) ≡ bodyOf b n
-  unfolding wordBytes
-  moved-body h e =
-      run-kept (sets b at (bodyOf b n)) (12 * n + 4) (wordBytes at) at (sizeOf b n) (rw length-sets h) (inr (omega arith))
+  moved-body p g size h e =
+      run-kept (sets b at (bodyOf b n)) (12 * n + 4) (wordBytes at) at size (rw length-sets h) (inr (omega arith))
       ∙ rw e at (run-stored b at (bodyOf b n) (rw e h))
-
-  pub moved-rest : (i : ℕ) → at + length (bodyOf b n) ≤ i → getD (movedTo b n at) i 0 ≡ getD b i 0
-  unfolding wordBytes
-  moved-rest i h =
-      getD-sets-out (sets b at (bodyOf b n)) (12 * n + 4) (wordBytes at) i (inr (omega arith)) ∙ getD-sets-out b at (bodyOf b n) i (inr h)

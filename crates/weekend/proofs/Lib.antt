@@ -5,3 +5,4 @@ pub mod Tables
 pub mod Entries
 pub mod Results
 pub mod After
+pub mod Covers

@@ -1,0 +1,2 @@
+-- A shelf packed: that the promise has one answer.
+pub mod Only

@@ -1,0 +1,1 @@
+// A shelf packed: its bodies moved to the front in order of start, without gaps.
