@@ -6,3 +6,4 @@ pub mod Entries
 pub mod Results
 pub mod After
 pub mod Covers
+pub mod Packs
