@@ -7,3 +7,4 @@ pub mod Results
 pub mod After
 pub mod Covers
 pub mod Packs
+pub mod Books
