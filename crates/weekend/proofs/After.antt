@@ -52,7 +52,7 @@ ask-alike P b c x s t same one none = by-eq x 0
 abbrev pub Same : List ℕ → List ℕ → Said Slot → Said Slot → Type 0
 Same b c v u = (v ≡ u) × (partOf v c ≡ partOf u b)
 
-same-slot : (b c : List ℕ) (n : ℕ) → numberOf c n ≡ numberOf b n → startOf c n ≡ startOf b n → sizeOf c n ≡ sizeOf b n → slotOf c n ≡ slotOf b n
+pub same-slot : (b c : List ℕ) (n : ℕ) → numberOf c n ≡ numberOf b n → startOf c n ≡ startOf b n → sizeOf c n ≡ sizeOf b n → slotOf c n ≡ slotOf b n
 same-slot b c n e f g = rw (e, f, g)
 
 -- ---- adding

@@ -8,3 +8,4 @@ pub mod After
 pub mod Covers
 pub mod Packs
 pub mod Books
+pub mod Worked
