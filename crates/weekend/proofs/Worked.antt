@@ -156,128 +156,143 @@ module _ (b : List ℕ) (room : ℕ) (s t : Slot) (w : Holding b room s t) where
 
 -- ---- a file that meets the grammar, on a shelf with room for two such files and not a byte more
 
-module _ (file : List ℕ) (m : Meets seal.Usual file) where
+-- empty; with flight 1; with flights 1 and 2; with flight 2
+module _ (file : List ℕ) where
+  abbrev roomFor : ℕ
+  roomFor = 768 + length file + length file
+
+  abbrev pub none : List ℕ
+  none = zeros (768 + length file + length file)
+
+  abbrev pub one : List ℕ
+  one = afterAdd (addSaid none 1 file) none 1 file
+
+  abbrev pub two : List ℕ
+  two = afterAdd (addSaid one 2 file) one 2 file
+
+  abbrev pub other : List ℕ
+  other = afterRemove (heldAt two 1) two
+
+module _ (file : List ℕ) (m : Meets seal.Usual file) (fits : 768 + length file + length file ≤ 16777216) where
   abbrev size : ℕ
   size = length file
 
   abbrev room : ℕ
-  room = 768 + length file + length file
+  room = roomFor file
 
-  -- empty; with flight 1; with flights 1 and 2; with flight 2
-  abbrev pub b₀ : List ℕ
-  b₀ = zeros (768 + length file + length file)
+  abbrev b₀ : List ℕ
+  b₀ = none file
 
-  abbrev pub b₁ : List ℕ
-  b₁ = afterAdd (addSaid b₀ 1 file) b₀ 1 file
+  abbrev b₁ : List ℕ
+  b₁ = one file
 
-  abbrev pub b₂ : List ℕ
-  b₂ = afterAdd (addSaid b₁ 2 file) b₁ 2 file
+  abbrev b₂ : List ℕ
+  b₂ = two file
 
-  abbrev pub b₃ : List ℕ
-  b₃ = afterRemove (heldAt b₂ 1) b₂
+  abbrev b₃ : List ℕ
+  b₃ = other file
 
-  module _ (fits : 768 + length file + length file ≤ 16777216) where
-    holds₀ : Holding b₀ room (entry 0 0 0) (entry 0 0 0)
-    holds₀ = record {
-      shelf = zeros-empty room (omega arith) fits .0;
-      long = long-zeros room;
-      first = rw (no-number room (12 * 0), no-number room (12 * 0 + 4), no-number room (12 * 0 + 8));
-      second = rw (no-number room (12 * 1), no-number room (12 * 1 + 4), no-number room (12 * 1 + 8));
-      others = λ n p h. no-number room (12 * n);
-    }
+  holds₀ : Holding b₀ room (entry 0 0 0) (entry 0 0 0)
+  holds₀ = record {
+    shelf = zeros-empty room (omega arith) fits .0;
+    long = long-zeros room;
+    first = rw (no-number room (12 * 0), no-number room (12 * 0 + 4), no-number room (12 * 0 + 8));
+    second = rw (no-number room (12 * 1), no-number room (12 * 1 + 4), no-number room (12 * 1 + 8));
+    others = λ n p h. no-number room (12 * n);
+  }
 
-    -- the first file goes into the first entry, from 768 on
-    pub first-said : addSaid b₀ 1 file ≡ says (record { entry = 0; start = 768 })
-    first-said =
-        let w = holds₀ in
-        add-said b₀ 1 file 0 768 (record {
-          both = (w .shelf, m);
-          new = ((λ z. omega arith), neither b₀ room (entry 0 0 0) (entry 0 0 0) w 1 (λ z. omega arith) (λ z. omega arith) (λ z. omega arith));
-          entry = (omega arith, number-first b₀ room (entry 0 0 0) (entry 0 0 0) w, λ n h. absurd (omega arith));
-          start = (
-            record {
-              from-768 = omega arith;
-              inside = let l = w .long in omega arith;
-              free = λ n i a x. by-sum (in-either b₀ room (entry 0 0 0) (entry 0 0 0) w n i x) (λ y. y .0 refl) (λ y. y .0 refl);
-            },
-            λ a r. r .from-768,
-          );
-        })
+  -- the first file goes into the first entry, from 768 on
+  pub first-said : addSaid b₀ 1 file ≡ says (record { entry = 0; start = 768 })
+  first-said =
+      let w = holds₀ in
+      add-said b₀ 1 file 0 768 (record {
+        both = (w .shelf, m);
+        new = ((λ z. omega arith), neither b₀ room (entry 0 0 0) (entry 0 0 0) w 1 (λ z. omega arith) (λ z. omega arith) (λ z. omega arith));
+        entry = (omega arith, number-first b₀ room (entry 0 0 0) (entry 0 0 0) w, λ n h. absurd (omega arith));
+        start = (
+          record {
+            from-768 = omega arith;
+            inside = let l = w .long in omega arith;
+            free = λ n i a x. by-sum (in-either b₀ room (entry 0 0 0) (entry 0 0 0) w n i x) (λ y. y .0 refl) (λ y. y .0 refl);
+          },
+          λ a v. v .from-768,
+        );
+      })
 
-    holds₁ : Holding b₁ room (entry 1 768 size) (entry 0 0 0)
-    holds₁ = add-first b₀ room (entry 0 0 0) (entry 0 0 0) holds₀ 1 file 768 (omega arith) first-said
+  holds₁ : Holding b₁ room (entry 1 768 size) (entry 0 0 0)
+  holds₁ = add-first b₀ room (entry 0 0 0) (entry 0 0 0) holds₀ 1 file 768 (omega arith) first-said
 
-    -- the second behind it
-    pub second-said : addSaid b₁ 2 file ≡ says (record { entry = 1; start = 768 + length file })
-    second-said =
-        let w = holds₁ in
-        let one = m .least in
-        let s : Slot = entry 1 768 size in
-        add-said b₁ 2 file 1 (768 + size) (record {
-          both = (w .shelf, m);
-          new = ((λ z. omega arith), neither b₁ room (entry 1 768 size) (entry 0 0 0) w 2 (λ z. omega arith) (λ z. omega arith) (λ z. omega arith));
-          entry = (
-            omega arith,
-            number-second b₁ room (entry 1 768 size) (entry 0 0 0) w,
-            λ n h z.
-                let e : n ≡ 0 = omega arith in
-                let g : _≡_ {A = ℕ} 1 0 = sym (number-first b₁ room (entry 1 768 size) (entry 0 0 0) w) ∙ subst (λ (k : ℕ). numberOf b₁ k ≡ 0) e z in
-                omega (arith, g),
-          );
-          start = (
-            record {
-              from-768 = omega arith;
-              inside = let l = w .long in omega arith;
-              free = λ n i a x. by-sum (in-either b₁ room (entry 1 768 size) (entry 0 0 0) w n i x) (λ y. omega (arith, y .1 .1, a .0)) (λ y. y .0 refl);
-            },
-            λ a r. by-le (768 + size) a (λ h. h)
-                (λ h. absurd (r .free 0 a (omega arith, omega arith) (first-body b₁ room (entry 1 768 size) (entry 0 0 0) w (λ z. omega arith) a (r .from-768, h)))),
-          );
-        })
+  -- the second behind it
+  pub second-said : addSaid b₁ 2 file ≡ says (record { entry = 1; start = 768 + length file })
+  second-said =
+      let w = holds₁ in
+      let some = m .least in
+      let s : Slot = entry 1 768 size in
+      add-said b₁ 2 file 1 (768 + size) (record {
+        both = (w .shelf, m);
+        new = ((λ z. omega arith), neither b₁ room (entry 1 768 size) (entry 0 0 0) w 2 (λ z. omega arith) (λ z. omega arith) (λ z. omega arith));
+        entry = (
+          omega arith,
+          number-second b₁ room (entry 1 768 size) (entry 0 0 0) w,
+          λ n h z.
+              let e : n ≡ 0 = omega arith in
+              let g : _≡_ {A = ℕ} 1 0 = sym (number-first b₁ room (entry 1 768 size) (entry 0 0 0) w) ∙ subst (λ (k : ℕ). numberOf b₁ k ≡ 0) e z in
+              omega (arith, g),
+        );
+        start = (
+          record {
+            from-768 = omega arith;
+            inside = let l = w .long in omega arith;
+            free = λ n i a x. by-sum (in-either b₁ room (entry 1 768 size) (entry 0 0 0) w n i x) (λ y. omega (arith, y .1 .1, a .0)) (λ y. y .0 refl);
+          },
+          λ a v. by-le (768 + size) a (λ h. h)
+              (λ h. absurd (v .free 0 a (omega arith, omega arith) (first-body b₁ room (entry 1 768 size) (entry 0 0 0) w (λ z. omega arith) a (v .from-768, h)))),
+        );
+      })
 
-    holds₂ : Holding b₂ room (entry 1 768 size) (entry 2 (768 + size) size)
-    holds₂ = add-second b₁ room (entry 1 768 size) (entry 0 0 0) holds₁ 2 file (768 + size) (omega arith) second-said
+  holds₂ : Holding b₂ room (entry 1 768 size) (entry 2 (768 + size) size)
+  holds₂ = add-second b₁ room (entry 1 768 size) (entry 0 0 0) holds₁ 2 file (768 + size) (omega arith) second-said
 
-    -- for a third no free run is long enough
-    pub third-refused : addSaid b₂ 3 file ≡ refuses 30 0 0
-    third-refused =
-        let w = holds₂ in
-        let one = m .least in
-        let l = w .long in
-        let s = entry 1 768 size in
-        add-refuses b₂ 3 file 30 0 0 .1 (inr (inr (inr (inr (
-          (refl, refl, refl),
-          (w .shelf, m),
-          ((λ z. omega arith), neither b₂ room (entry 1 768 size) (entry 2 (768 + size) size) w 3 (λ z. omega arith) (λ z. omega arith) (λ z. omega arith)),
-          (2, omega arith, w .others 2 (omega arith) (omega arith)),
-          λ a r. by-le (768 + size) a
-              (λ h. r .free 1 a (omega arith, omega arith) (second-body b₂ room (entry 1 768 size) (entry 2 (768 + size) size) w (λ z. omega arith) a (h, omega (arith, r .inside))))
-              (λ h. r .free 0 a (omega arith, omega arith) (first-body b₂ room (entry 1 768 size) (entry 2 (768 + size) size) w (λ z. omega arith) a (r .from-768, h))),
-        )))))
+  -- for a third no free run is long enough
+  pub third-refused : addSaid b₂ 3 file ≡ refuses 30 0 0
+  third-refused =
+      let w = holds₂ in
+      let some = m .least in
+      let l = w .long in
+      let s = entry 1 768 size in
+      add-refuses b₂ 3 file 30 0 0 .1 (inr (inr (inr (inr (
+        (refl, refl, refl),
+        (w .shelf, m),
+        ((λ z. omega arith), neither b₂ room (entry 1 768 size) (entry 2 (768 + size) size) w 3 (λ z. omega arith) (λ z. omega arith) (λ z. omega arith)),
+        (2, omega arith, w .others 2 (omega arith) (omega arith)),
+        λ a v. by-le (768 + size) a
+            (λ h. v .free 1 a (omega arith, omega arith) (second-body b₂ room (entry 1 768 size) (entry 2 (768 + size) size) w (λ z. omega arith) a (h, omega (arith, v .inside))))
+            (λ h. v .free 0 a (omega arith, omega arith) (first-body b₂ room (entry 1 768 size) (entry 2 (768 + size) size) w (λ z. omega arith) a (v .from-768, h))),
+      )))))
 
-    -- the first is removed, and the third takes its entry and its place
-    pub first-removed : heldAt b₂ 1 ≡ says 0
-    first-removed = remove-first b₂ room (entry 1 768 size) (entry 2 (768 + size) size) holds₂ (λ z. omega arith) .0
+  -- the first is removed, and the third takes its entry and its place
+  pub first-removed : heldAt b₂ 1 ≡ says 0
+  first-removed = remove-first b₂ room (entry 1 768 size) (entry 2 (768 + size) size) holds₂ (λ z. omega arith) .0
 
-    holds₃ : Holding b₃ room (entry 0 0 0) (entry 2 (768 + size) size)
-    holds₃ = remove-first b₂ room (entry 1 768 size) (entry 2 (768 + size) size) holds₂ (λ z. omega arith) .1
+  holds₃ : Holding b₃ room (entry 0 0 0) (entry 2 (768 + size) size)
+  holds₃ = remove-first b₂ room (entry 1 768 size) (entry 2 (768 + size) size) holds₂ (λ z. omega arith) .1
 
-    pub third-said : addSaid b₃ 3 file ≡ says (record { entry = 0; start = 768 })
-    third-said =
-        let w = holds₃ in
-        add-said b₃ 3 file 0 768 (record {
-          both = (w .shelf, m);
-          new = ((λ z. omega arith), neither b₃ room (entry 0 0 0) (entry 2 (768 + size) size) w 3 (λ z. omega arith) (λ z. omega arith) (λ z. omega arith));
-          entry = (omega arith, number-first b₃ room (entry 0 0 0) (entry 2 (768 + size) size) w, λ n h. absurd (omega arith));
-          start = (
-            record {
-              from-768 = omega arith;
-              inside = let l = w .long in omega arith;
-              free = λ n i a x. by-sum (in-either b₃ room (entry 0 0 0) (entry 2 (768 + size) size) w n i x) (λ y. y .0 refl) (λ y. omega (arith, y .1 .0, a .1));
-            },
-            λ a r. r .from-768,
-          );
-        })
+  pub third-said : addSaid b₃ 3 file ≡ says (record { entry = 0; start = 768 })
+  third-said =
+      let w = holds₃ in
+      add-said b₃ 3 file 0 768 (record {
+        both = (w .shelf, m);
+        new = ((λ z. omega arith), neither b₃ room (entry 0 0 0) (entry 2 (768 + size) size) w 3 (λ z. omega arith) (λ z. omega arith) (λ z. omega arith));
+        entry = (omega arith, number-first b₃ room (entry 0 0 0) (entry 2 (768 + size) size) w, λ n h. absurd (omega arith));
+        start = (
+          record {
+            from-768 = omega arith;
+            inside = let l = w .long in omega arith;
+            free = λ n i a x. by-sum (in-either b₃ room (entry 0 0 0) (entry 2 (768 + size) size) w n i x) (λ y. y .0 refl) (λ y. omega (arith, y .1 .0, a .1));
+          },
+          λ a v. v .from-768,
+        );
+      })
 
 -- ---- document 01's file of five lines, which has 89 bytes
 
