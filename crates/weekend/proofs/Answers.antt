@@ -41,7 +41,7 @@ given-ways : {A B : Type 0} (o : Option A) (a x : B) (f : A → B) → given o a
 given-ways (some v) a x f e = inr (v, refl, e)
 given-ways none a x f e = inl (refl, e)
 
-then-ways : {A B : Type 0} (s : Said A) (f : A → Said B) (n l x : ℕ) → andThen s f ≡ refuses n l x → (s ≡ refuses n l x) ⊎ ((v : A) × (s ≡ says v) × (f v ≡ refuses n l x))
+pub then-ways : {A B : Type 0} (s : Said A) (f : A → Said B) (n l x : ℕ) → andThen s f ≡ refuses n l x → (s ≡ refuses n l x) ⊎ ((v : A) × (s ≡ says v) × (f v ≡ refuses n l x))
 then-ways (says v) f n l x e = inr (v, refl, e)
 then-ways (refuses k m y) f n l x e = inl cc
 

@@ -7,5 +7,6 @@ pub mod Results
 pub mod After
 pub mod Covers
 pub mod Packs
+pub mod Promised
 pub mod Books
 pub mod Worked

@@ -5,10 +5,12 @@ use mathlib.Core.Logic.{_⊎_, _↔_}
 use mathlib.Core.Option.{none}
 use mathlib.Core.Path.{_≡_}
 use lib.ListN.{length, getD, take, drop}
+use Rattle.rules.specs.Refusals.{outcome}
 use Rattle.rules.specs.declared.Seal.the-variants as seal
 use Rattle.demands.specs.Faults.{Refused}
 use Rattle.demands.specs.Grammar.{Meets}
-use Rattle.shelved.specs.Contents.{numberOf, startOf, sizeOf, endOf, slotOf, bodyOf, held}
+use Rattle.shelved.specs.Contents.{numberOf, startOf, sizeOf, slotOf, bodyOf, held}
+use Rattle.shelved.specs.Shelf.{askSaid, partOf}
 
 -- ---- "27 SHELF if the buffer breaks these rules"
 
@@ -136,3 +138,13 @@ pub record Packs (b after : List ℕ) : Type 0 where
   pub bytes : (n : ℕ) → n < 64 → bodyOf after n ≡ bodyOf b n
   -- "packing only starts and the bytes the moved bodies now cover"
   pub rest : (i : ℕ) → ((n : ℕ) → n < 64 → (numberOf b n ≡ 0 → ⊥) → Among (12 * n + 4) 4 i → ⊥) → ((n : ℕ) → InBody after n i → ⊥) → getD after i 0 ≡ getD b i 0
+
+-- ---- what asking says afterwards
+
+-- as before: the same entry or the same refusal, and the same bytes
+abbrev pub AskedAsBefore : List ℕ → List ℕ → ℕ → Type 0
+AskedAsBefore b after number = (askSaid after number ≡ askSaid b number) × (partOf (askSaid after number) after ≡ partOf (askSaid b number) b)
+
+-- found or refused as before, and the same bytes, wherever they stand
+abbrev pub FoundAsBefore : List ℕ → List ℕ → ℕ → Type 0
+FoundAsBefore b after number = (outcome (askSaid after number) ≡ outcome (askSaid b number)) × (partOf (askSaid after number) after ≡ partOf (askSaid b number) b)
