@@ -153,7 +153,7 @@ module _ (calls : List Call) (b : List ℕ) (r : Reached calls b) where
         let y = books r .bodies (w .0) (h .2) (λ g. h .1 (sym (h .3) ∙ g)) in
         rw z (rw (h .3) at y)
 
-    pub body-readable : (m : Meets seal.Usual (partOf (askSaid b number) b)) (table : List ℕ) → length (linesIn (m .parts)) ≤ length table
-        → Readable seal.Usual (partOf (askSaid b number) b) table (flightOf m)
-    body-readable m table h =
-        readable seal.Usual (partOf (askSaid b number) b) table (flightOf m) (accepted-as seal.Usual (partOf (askSaid b number) b) (some (length table)) (flightOf m) .1 (m, h, refl))
+-- ---- what is read of a file that meets the grammar, with any table that has an entry for each of its lines
+
+pub readable-with : (body table : List ℕ) (m : Meets seal.Usual body) → length (linesIn (m .parts)) ≤ length table → Readable seal.Usual body table (flightOf m)
+readable-with body table m h = readable seal.Usual body table (flightOf m) (accepted-as seal.Usual body (some (length table)) (flightOf m) .1 (m, h, refl))

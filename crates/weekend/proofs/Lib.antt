@@ -10,3 +10,4 @@ pub mod Packs
 pub mod Promised
 pub mod Books
 pub mod Worked
+pub mod Shelf

@@ -300,6 +300,21 @@ pub five-long : length fiveLines ≡ 89
 unfolding fileOf
 five-long = refl
 
+fits-five : 768 + length fiveLines + length fiveLines ≤ 16777216
+fits-five = rw five-long (omega arith)
+
+pub five-first : addSaid (none fiveLines) 1 fiveLines ≡ says (record { entry = 0; start = 768 })
+five-first = first-said fiveLines (five-meet seal.Usual) fits-five
+
+pub five-second : addSaid (one fiveLines) 2 fiveLines ≡ says (record { entry = 1; start = 857 })
+five-second = second-said fiveLines (five-meet seal.Usual) fits-five ∙ ap (λ (n : ℕ). says (record { entry = 1; start = 768 + n })) five-long
+
+pub five-refused : addSaid (two fiveLines) 3 fiveLines ≡ refuses 30 0 0
+five-refused = third-refused fiveLines (five-meet seal.Usual) fits-five
+
+pub five-third : addSaid (other fiveLines) 3 fiveLines ≡ says (record { entry = 0; start = 768 })
+five-third = third-said fiveLines (five-meet seal.Usual) fits-five
+
 -- ---- buffers that are no shelf
 
 -- two bodies that overlap by one byte: those of flight 1 are 768 and 769, that of flight 2 is 769
