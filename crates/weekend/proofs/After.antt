@@ -98,7 +98,7 @@ module _ (b file : List ℕ) (number k at : ℕ) (a : Adds b number file k at) (
       let e = add-number b file number k at a one w in
       ask-alike (Same b c) b c x (sound-keeps b (a .sound-shelf)) add-keeps
       (λ z n p. by-eq n k
-      (λ q. ((λ f. absurd (z (sym f ∙ rw q (a .spot .free)))), (λ f. absurd (d (sym f ∙ rw q e)))))
+      (λ q. ((λ f. absurd (z (sym f ∙ rw q (a .spot .free)))), (λ f. let g : numberOf c n ≡ number = rw q e in absurd (d (omega (arith, f, g))))))
       (λ q. let f = ch .number-kept n p q in ((λ g. f ∙ g), (λ g. sym f ∙ g))))
       (λ n h.
       let q : n ≡ k → ⊥ = λ q. h .1 (sym (h .3) ∙ rw q (a .spot .free)) in
