@@ -1,34 +1,39 @@
 -- What is told from the calls since a shelf was empty: the bytes held are those added less those removed, and each body is the file last added under its number. Assumes nothing.
 use Prim.Native.Nat.{ℕ, zero, suc, _+_, _-_, _≤_, _<_}
 use mathlib.Core.Bool.{cond}
-use mathlib.Core.List.{List, [], _∷_}
+use mathlib.Core.List.{List, _∷_}
 use mathlib.Core.Option.{Option, none, some}
-use mathlib.Core.Path.{_≡_, refl, sym, ap, subst, _∙_}
+use mathlib.Core.Path.{_≡_, refl, sym, _∙_}
 use native.Mathlib.Omega.{arith}
 use borrow.Author.Tests.{eq-eqb, ne-eqb}
 use lib.Dec.{eqb}
 use lib.ListN.{length}
 use Rattle.rules.specs.Choice.{given}
-use Rattle.rules.specs.Refusals.{Said, says, refuses, andThen}
+use Rattle.rules.specs.Refusals.{says, outcomeTold}
+use Rattle.rules.specs.declared.Outcome.{Outcome}
+use Rattle.rules.specs.declared.Outcome.the-variants as outcome
 use Rattle.rules.specs.declared.Seal.the-variants as seal
 use Rattle.rules.proofs.Inverse.{then-inv}
 use Rattle.demands.specs.Grammar.{Meets, linesIn, flightOf}
 use Rattle.demands.specs.Readings.{Readable}
 use Rattle.demands.proofs.Demands.{accepted-as, readable}
 use Rattle.shelved.specs.Ranges.{total}
-use Rattle.shelved.specs.Contents.{numberOf, sizeOf, startOf, slotOf, bodyOf, held, Sound}
-use Rattle.shelved.specs.Packing.{packSaid, Packed, PackedOrSame}
-use Rattle.shelved.specs.Shelf.{Spot, addSaid, afterAdd, heldAt, afterRemove, removeSaid, askSaid, partOf}
-use Rattle.shelved.specs.declared.Slot.{Slot}
+use Rattle.shelved.specs.Contents.{numberOf, sizeOf, startOf, bodyOf, held, Sound}
+use Rattle.shelved.specs.Packing.{Packed}
+use Rattle.shelved.specs.Shelf.{Spot, addSaid, afterAdd, heldAt, afterRemove, askSaid}
 use Rattle.shelved.proofs.Tests.{by-eq}
-use Rattle.shelved.proofs.Ranges.{total-same}
 use Rattle.shelved.proofs.Bytes.{length-run}
-use Rattle.shelved.proofs.Accepts.{Holds, Adds, adds as accepted, holds}
-use Rattle.weekend.specs.Weekend.{IsShelf}
-use Rattle.weekend.specs.Calls.{Call, adds, asks, removes, packs, lastAdded, bytesAdded, bytesRemoved, Empty, Reached, empty, added, asked, removed, packed}
-use Rattle.weekend.proofs.Answers.{met, held-in, pack-says}
+use Rattle.shelved.proofs.Accepts.{adds as accepted, holds}
+use Rattle.pack.specs.Pack.{ShelfPacked}
+use Rattle.shelf.specs.Calls.{addedTold, FlightAdded, BodyGiven, FlightRemoved}
+use Rattle.shelf.specs.declared.Added.{Added}
+use Rattle.shelf.specs.declared.Added.the-variants as added
+use Rattle.weekend.specs.Weekend.{IsShelf, HeldIn}
+use Rattle.weekend.specs.Calls.{Call, adds, asks, removes, packs, lastAdded, bytesAdded, bytesRemoved, Empty, Reached, empty, added-one, asked-one, removed-one, packed-all}
+use Rattle.weekend.proofs.Answers.{met, held-says, pack-says}
 use Rattle.weekend.proofs.After.{add-keeps, remove-keeps}
 use Rattle.weekend.proofs.Packs.{pack-keeps, pack-number, pack-body, pack-held}
+use Rattle.weekend.proofs.Promised.{add-refused-leaves, remove-refused-leaves}
 use Rattle.weekend.proofs.Results.{add-number, add-body, add-changed, add-others, add-held, gone, remove-changed, remove-others, remove-held}
 use Rattle.weekend.proofs.Words.{keeps-sound}
 
@@ -103,55 +108,48 @@ module _ (last : ℕ → Option (List ℕ)) (more less : ℕ) (b : List ℕ) (k 
         sum = let t = pack-held b c s w in let q = k .sum in omega arith;
       }
 
-  -- the buffer afterwards, whatever the answer
-  books-packed : (c : List ℕ) → PackedOrSame b c → Books last more less c
-  books-packed c w = books-pack c (w .packed (pack-says b .1 (k .shelf)))
-
 -- ---- one call, whatever it answers
 
 module _ (calls : List Call) (b : List ℕ) (k : Books (lastAdded calls) (bytesAdded calls) (bytesRemoved calls) b) where
   abbrev Kept : Call → List ℕ → Type 0
   Kept call after = Books (lastAdded (call ∷ calls)) (bytesAdded (call ∷ calls)) (bytesRemoved (call ∷ calls)) after
 
-  kept-add : (number : ℕ) (file : List ℕ) → number < 4294967296 → (t : Said Spot) → addSaid b number file ≡ t
-      → Kept (adds number file (andThen t (λ s. says (s .start)))) (afterAdd t b number file)
-  unfolding afterAdd
-  kept-add number file w (says s) e = books-add (lastAdded calls) (bytesAdded calls) (bytesRemoved calls) b k number file s w e
-  kept-add number file w (refuses n l x) e = k
+  kept-add : (number : ℕ) (file : List ℕ) (r : Added) (after : List ℕ) → number < 4294967296 → FlightAdded b number file r after → Kept (adds number file r) after
+  unfolding addedTold
+  kept-add number file (added.At at) after small w =
+      let s = then-inv (addSaid b number file) at (λ s. says (s .start)) (sym (w .told)) in
+      rw (w .bytes, s .1) (books-add (lastAdded calls) (bytesAdded calls) (bytesRemoved calls) b k number file (s .0) small (s .1))
+  kept-add number file (added.Refused y) after small w = rw (add-refused-leaves b number file (added.Refused y) after w _ _ _ refl) k
 
-  kept-remove : (number : ℕ) (t : Said ℕ) → heldAt b number ≡ t → Kept (removes number (andThen t (λ n. says tt))) (afterRemove t b)
-  unfolding afterRemove
-  kept-remove number (says n) e = books-remove (lastAdded calls) (bytesAdded calls) (bytesRemoved calls) b k number n e
-  kept-remove number (refuses n l x) e = k
+  kept-remove : (number : ℕ) (r : Outcome) (after : List ℕ) → FlightRemoved b number r after → Kept (removes number r) after
+  unfolding outcomeTold
+  kept-remove number outcome.Accepted after w =
+      let n = then-inv (heldAt b number) tt (λ n. says tt) (sym (w .told)) in
+      rw (w .bytes, n .1) (books-remove (lastAdded calls) (bytesAdded calls) (bytesRemoved calls) b k number (n .0) (n .1))
+  kept-remove number (outcome.Refused y) after w = rw (remove-refused-leaves b number (outcome.Refused y) after w _ _ _ refl) k
+
+  kept-pack : (r : Outcome) (after : List ℕ) → ShelfPacked b r after → Kept (packs r) after
+  kept-pack r after w = books-pack (lastAdded calls) (bytesAdded calls) (bytesRemoved calls) b k after (w .bytes .packed (pack-says b .1 (k .shelf)))
 
 pub books : {calls : List Call} {b : List ℕ} → Reached calls b → Books (lastAdded calls) (bytesAdded calls) (bytesRemoved calls) b
 books (empty {b = b} w) = books-empty b w
-books (added {calls = calls} {b = b} number file w r) = kept-add calls b (books r) number file w (addSaid b number file) refl
-books (asked number r) = books r
-books (removed {calls = calls} {b = b} number r) = kept-remove calls b (books r) number (heldAt b number) refl
-books (packed {calls = calls} {b = b} {after = after} w r) = books-packed (lastAdded calls) (bytesAdded calls) (bytesRemoved calls) b (books r) after w
+books (added-one {calls = calls} {b = b} {after = after} number file r small w k) = kept-add calls b (books k) number file r after small w
+books (asked-one number r w k) = books k
+books (removed-one {calls = calls} {b = b} {after = after} number r w k) = kept-remove calls b (books k) number r after w
+books (packed-all {calls = calls} {b = b} {after = after} r w k) = kept-pack calls b (books k) r after w
 
 -- ---- what they tell
 
-module _ (calls : List Call) (b : List ℕ) (r : Reached calls b) where
-  pub held-told : (held b ≡ bytesAdded calls - bytesRemoved calls) × (bytesRemoved calls ≤ bytesAdded calls)
-  held-told = let q = books r .sum in (omega arith, omega arith)
+module _ (calls : List Call) (b : List ℕ) (k : Reached calls b) where
+  pub held-by-calls : (held b ≡ bytesAdded calls - bytesRemoved calls) × (bytesRemoved calls ≤ bytesAdded calls)
+  held-by-calls = let q = books k .sum in (omega arith, omega arith)
 
-  pub stays-shelf : IsShelf b
-  stays-shelf = books r .shelf
+  pub calls-keep-rules : IsShelf b
+  calls-keep-rules = books k .shelf
 
-  module _ (number : ℕ) (s : Slot) (e : askSaid b number ≡ says s) where
-    at-entry : (n : ℕ) × (heldAt b number ≡ says n) × (says (slotOf b n) ≡ says s)
-    unfolding askSaid
-    at-entry = then-inv (heldAt b number) s (λ n. says (slotOf b n)) e
-
-    pub body-told : (lastAdded calls number ≡ some (partOf (askSaid b number) b)) × Meets seal.Usual (partOf (askSaid b number) b)
-    body-told =
-        let w = at-entry in
-        let h = held-in b number (w .0) (w .1) in
-        let z : askSaid b number ≡ says (slotOf b (w .0)) = e ∙ sym (w .2) in
-        let y = books r .bodies (w .0) (h .2) (λ g. h .1 (sym (h .3) ∙ g)) in
-        rw z (rw (h .3) at y)
+  pub body-is-file : (number n : ℕ) → HeldIn b number n → (p : List ℕ) → BodyGiven b number p → (lastAdded calls number ≡ some p) × Meets seal.Usual p
+  unfolding askSaid
+  body-is-file number n h p w = let y = books k .bodies n (h .2) (λ z. h .1 (sym (h .3) ∙ z)) in rw (w, held-says b number n h) (rw (h .3) at y)
 
 -- ---- what is read of a file that meets the grammar, with any table that has an entry for each of its lines
 

@@ -6,22 +6,28 @@ use mathlib.Core.Logic.{_⊎_, inl, inr}
 use mathlib.Core.Path.{_≡_, refl, sym, ap, subst, _∙_}
 use native.Mathlib.Omega.{arith}
 use lib.ListN.{length, getD, replicate, length-replicate}
-use Rattle.rules.specs.Refusals.{says, refuses}
+use Rattle.rules.specs.Refusals.{number, says, refuses, outcomeTold}
+use Rattle.rules.specs.declared.Outcome.the-variants as outcome
+use Rattle.rules.specs.declared.Reason.the-variants as reason
+use Rattle.rules.specs.declared.Refusal.{Refusal}
 use Rattle.rules.specs.declared.Seal.the-variants as seal
 use Rattle.rules.proofs.Computed.{fileOf}
 use Rattle.rules.proofs.Damaged.{fiveLines}
 use Rattle.demands.specs.Grammar.{Meets}
 use Rattle.demands.proofs.Demands.{five-meet}
-use Rattle.shelved.specs.Contents.{word, wordBytes, numberOf, startOf, sizeOf, endOf, slotOf, slotBytes, bodyOf}
+use Rattle.shelved.specs.Contents.{word, wordBytes, numberOf, slotOf, slotBytes, held}
 use Rattle.shelved.specs.Shelf.{addSaid, afterAdd, heldAt, afterRemove}
 use Rattle.shelved.specs.declared.Slot.{Slot}
 use Rattle.shelved.proofs.Tests.{by-eq, by-le}
-use Rattle.shelved.proofs.Accepts.{Holds, Adds, adds, holds}
-use Rattle.weekend.specs.Calls.{Empty}
+use Rattle.shelved.proofs.Accepts.{adds as accepted, holds}
+use Rattle.shelf.specs.Calls.{addedTold}
+use Rattle.shelf.specs.declared.Added.the-variants as added
+use Rattle.weekend.specs.Calls.{Call, adds, removes, Empty, Reached, empty, added-one, removed-one}
 use Rattle.weekend.specs.Weekend.{Among, InBody, IsShelf, InUse, FreeRun, Smallest, AddsAt, Puts}
 use Rattle.weekend.proofs.Answers.{by-sum, met, add-refuses, add-said, held-says}
 use Rattle.weekend.proofs.After.{same-slot, add-keeps, add-puts, remove-keeps, remove-zeroes}
-use Rattle.weekend.proofs.Results.{added, add-changed, removed, remove-changed, gone}
+use Rattle.weekend.proofs.Books.{held-by-calls}
+use Rattle.weekend.proofs.Results.{added as addedTo, add-changed, removed, remove-changed, gone}
 
 -- ---- an empty shelf
 
@@ -109,7 +115,7 @@ module _ (b : List ℕ) (room : ℕ) (s t : Slot) (w : Holding b room s t) where
     add-first : (e : addSaid b number file ≡ says (record { entry = 0; start = at })) → Holding (afterAdd (addSaid b number file) b number file) room (entry number at (length file)) t
     unfolding afterAdd
     add-first e =
-        let a = adds b number file (record { entry = 0; start = at }) e in
+        let a = accepted b number file (record { entry = 0; start = at }) e in
         let one = met file (a .flight) (a .checked) .least in
         let p = add-puts b file number 0 at a one small in
         let ch = add-changed b file number 0 at a one small in
@@ -117,21 +123,21 @@ module _ (b : List ℕ) (room : ℕ) (s t : Slot) (w : Holding b room s t) where
           shelf = add-keeps b file number 0 at a one small;
           long = p .long ∙ w .long;
           first = p .entry;
-          second = same-slot b (added b file number 0 at a one small) 1 (ch .number-kept 1 (omega arith) (λ e. omega arith)) (ch .start-kept 1 (omega arith) (λ e. omega arith)) (ch .size-kept 1 (omega arith) (λ e. omega arith)) ∙ w .second;
+          second = same-slot b (addedTo b file number 0 at a one small) 1 (ch .number-kept 1 (omega arith) (λ e. omega arith)) (ch .start-kept 1 (omega arith) (λ e. omega arith)) (ch .size-kept 1 (omega arith) (λ e. omega arith)) ∙ w .second;
           others = λ n q h. ch .number-kept n q (λ e. omega arith) ∙ w .others n q h;
         })
 
     add-second : (e : addSaid b number file ≡ says (record { entry = 1; start = at })) → Holding (afterAdd (addSaid b number file) b number file) room s (entry number at (length file))
     unfolding afterAdd
     add-second e =
-        let a = adds b number file (record { entry = 1; start = at }) e in
+        let a = accepted b number file (record { entry = 1; start = at }) e in
         let one = met file (a .flight) (a .checked) .least in
         let p = add-puts b file number 1 at a one small in
         let ch = add-changed b file number 1 at a one small in
         rw e (record {
           shelf = add-keeps b file number 1 at a one small;
           long = p .long ∙ w .long;
-          first = same-slot b (added b file number 1 at a one small) 0 (ch .number-kept 0 (omega arith) (λ e. omega arith)) (ch .start-kept 0 (omega arith) (λ e. omega arith)) (ch .size-kept 0 (omega arith) (λ e. omega arith)) ∙ w .first;
+          first = same-slot b (addedTo b file number 1 at a one small) 0 (ch .number-kept 0 (omega arith) (λ e. omega arith)) (ch .start-kept 0 (omega arith) (λ e. omega arith)) (ch .size-kept 0 (omega arith) (λ e. omega arith)) ∙ w .first;
           second = p .entry;
           others = λ n q h. ch .number-kept n q (λ e. omega arith) ∙ w .others n q h;
         })
@@ -156,7 +162,11 @@ module _ (b : List ℕ) (room : ℕ) (s t : Slot) (w : Holding b room s t) where
 
 -- ---- a file that meets the grammar, on a shelf with room for two such files and not a byte more
 
--- empty; with flight 1; with flights 1 and 2; with flight 2
+-- "30 NO_RUN", at no line and no byte
+abbrev noRun : Refusal
+noRun = record { reason = reason.NoRun; line = 0; byte = 0 }
+
+-- empty; with flight 1; with flights 1 and 2; with flight 2; with flights 3 and 2
 module _ (file : List ℕ) where
   abbrev roomFor : ℕ
   roomFor = 768 + length file + length file
@@ -172,6 +182,19 @@ module _ (file : List ℕ) where
 
   abbrev pub other : List ℕ
   other = afterRemove (heldAt two 1) two
+
+  abbrev pub three : List ℕ
+  three = afterAdd (addSaid other 3 file) other 3 file
+
+  -- flight 1, flight 2 behind it, no room for flight 3; flight 1 removed, and flight 3 in its place: the latest call comes first
+  abbrev pub weekendOf : List Call
+  weekendOf =
+      adds 3 file (added.At 768)
+      ∷ removes 1 outcome.Accepted
+      ∷ adds 3 file (added.Refused noRun)
+      ∷ adds 2 file (added.At (768 + length file))
+      ∷ adds 1 file (added.At 768)
+      ∷ []
 
 module _ (file : List ℕ) (m : Meets seal.Usual file) (fits : 768 + length file + length file ≤ 16777216) where
   abbrev size : ℕ
@@ -294,7 +317,18 @@ module _ (file : List ℕ) (m : Meets seal.Usual file) (fits : 768 + length file
         );
       })
 
--- ---- document 01's file of five lines, which has 89 bytes
+  -- all of it as calls, the latest first
+  pub reached : Reached (weekendOf file) (three file)
+  unfolding number addedTold outcomeTold afterAdd
+  reached =
+      added-one {b = b₃} 3 file (added.At 768) (omega arith) (record { told = rw third-said; bytes = refl })
+      (removed-one {b = b₂} 1 outcome.Accepted (record { told = rw first-removed; bytes = refl })
+      (added-one {b = b₂} {after = b₂} 3 file (added.Refused noRun) (omega arith) (record { told = rw third-refused; bytes = rw third-refused })
+      (added-one {b = b₁} 2 file (added.At (768 + length file)) (omega arith) (record { told = rw second-said; bytes = refl })
+      (added-one {b = b₀} 1 file (added.At 768) (omega arith) (record { told = rw first-said; bytes = refl })
+      (empty (zeros-empty room (omega arith) fits))))))
+
+-- ---- document 01's file of five lines
 
 pub five-long : length fiveLines ≡ 89
 unfolding fileOf
@@ -303,17 +337,12 @@ five-long = refl
 fits-five : 768 + length fiveLines + length fiveLines ≤ 16777216
 fits-five = rw five-long (omega arith)
 
-pub five-first : addSaid (none fiveLines) 1 fiveLines ≡ says (record { entry = 0; start = 768 })
-five-first = first-said fiveLines (five-meet seal.Usual) fits-five
+pub five-reached : Reached (weekendOf fiveLines) (three fiveLines)
+five-reached = reached fiveLines (five-meet seal.Usual) fits-five
 
-pub five-second : addSaid (one fiveLines) 2 fiveLines ≡ says (record { entry = 1; start = 857 })
-five-second = second-said fiveLines (five-meet seal.Usual) fits-five ∙ ap (λ (n : ℕ). says (record { entry = 1; start = 768 + n })) five-long
-
-pub five-refused : addSaid (two fiveLines) 3 fiveLines ≡ refuses 30 0 0
-five-refused = third-refused fiveLines (five-meet seal.Usual) fits-five
-
-pub five-third : addSaid (other fiveLines) 3 fiveLines ≡ says (record { entry = 0; start = 768 })
-five-third = third-said fiveLines (five-meet seal.Usual) fits-five
+-- three times 89 bytes were added, and 89 removed
+pub five-held : held (three fiveLines) ≡ 178
+five-held = let h = held-by-calls (weekendOf fiveLines) (three fiveLines) five-reached in let e = five-long in omega (arith, h .0)
 
 -- ---- buffers that are no shelf
 

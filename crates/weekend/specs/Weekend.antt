@@ -5,12 +5,13 @@ use mathlib.Core.Logic.{_⊎_, _↔_}
 use mathlib.Core.Option.{none}
 use mathlib.Core.Path.{_≡_}
 use lib.ListN.{length, getD, take, drop}
-use Rattle.rules.specs.Refusals.{outcome}
+use Rattle.rules.specs.Refusals.{says, refuses, outcome}
 use Rattle.rules.specs.declared.Seal.the-variants as seal
 use Rattle.demands.specs.Faults.{Refused}
 use Rattle.demands.specs.Grammar.{Meets}
 use Rattle.shelved.specs.Contents.{numberOf, startOf, sizeOf, slotOf, bodyOf, held}
-use Rattle.shelved.specs.Shelf.{askSaid, partOf}
+use Rattle.shelf.specs.Calls.{askedTold, FlightAsked, BodyGiven}
+use Rattle.shelf.specs.declared.Asked.{Asked}
 
 -- ---- "27 SHELF if the buffer breaks these rules"
 
@@ -139,12 +140,25 @@ pub record Packs (b after : List ℕ) : Type 0 where
   -- "packing only starts and the bytes the moved bodies now cover"
   pub rest : (i : ℕ) → ((n : ℕ) → n < 64 → (numberOf b n ≡ 0 → ⊥) → Among (12 * n + 4) 4 i → ⊥) → ((n : ℕ) → InBody after n i → ⊥) → getD after i 0 ≡ getD b i 0
 
--- ---- what asking says afterwards
+-- ---- asking afterwards
 
--- as before: the same entry or the same refusal, and the same bytes
+-- the answer is the same, start and length or the refusal, and so are the bytes handed out
 abbrev pub AskedAsBefore : List ℕ → List ℕ → ℕ → Type 0
-AskedAsBefore b after number = (askSaid after number ≡ askSaid b number) × (partOf (askSaid after number) after ≡ partOf (askSaid b number) b)
+AskedAsBefore b after number =
+    ((r r′ : Asked) → FlightAsked b number r → FlightAsked after number r′ → askedTold r′ ≡ askedTold r)
+    × ((p p′ : List ℕ) → BodyGiven b number p → BodyGiven after number p′ → p′ ≡ p)
 
--- found or refused as before, and the same bytes, wherever they stand
+-- it is found, or refused, as before, and the bytes handed out are the same, wherever they stand
 abbrev pub FoundAsBefore : List ℕ → List ℕ → ℕ → Type 0
-FoundAsBefore b after number = (outcome (askSaid after number) ≡ outcome (askSaid b number)) × (partOf (askSaid after number) after ≡ partOf (askSaid b number) b)
+FoundAsBefore b after number =
+    ((r r′ : Asked) → FlightAsked b number r → FlightAsked after number r′ → outcome (askedTold r′) ≡ outcome (askedTold r))
+    × ((p p′ : List ℕ) → BodyGiven b number p → BodyGiven after number p′ → p′ ≡ p)
+
+-- it is found at a start, and the bytes handed out are those of a file
+abbrev pub AskedAs : List ℕ → ℕ → ℕ → List ℕ → Type 0
+AskedAs b number at file =
+    ((r : Asked) → FlightAsked b number r → askedTold r ≡ says (record { start = at; size = length file })) × ((p : List ℕ) → BodyGiven b number p → p ≡ file)
+
+-- "31 NOT_FOUND for asking for .. a number not held"
+abbrev pub AskedInVain : List ℕ → ℕ → Type 0
+AskedInVain b number = (r : Asked) → FlightAsked b number r → askedTold r ≡ refuses 31 0 0
