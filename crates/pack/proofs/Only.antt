@@ -10,14 +10,11 @@ use Rattle.rules.specs.Refusals.{says}
 use Rattle.only.proofs.Told.{outcome-one}
 use Rattle.only.proofs.Only.{OnlyBoth, alike}
 use Rattle.shelved.specs.Contents.{numberOf, sizeOf, sound}
-use Rattle.shelved.specs.Packing.{packSaid, packedStart, Outside, Untouched, Packed, PackedOrSame}
-use Rattle.shelved.proofs.Tests.{by-bool, by-eq, by-le}
+use Rattle.shelved.specs.Packing.{packSaid, packedStart, Untouched, Packed, PackedOrSame}
+use Rattle.shelved.proofs.Tests.{by-bool, by-eq}
 use Rattle.shelved.proofs.Bytes.{run}
+use Rattle.shelved.proofs.Packing.{by-outside}
 use Rattle.pack.specs.Pack.{ShelfPacked}
-
--- a place is outside a run of bytes, or inside
-either : (at size i : ℕ) → Outside at size i ⊎ ((at ≤ i) × (i < at + size))
-either at size i = by-le at i (λ g. by-le (at + size) i (λ h. inl (inr h)) (λ h. inr (g, h))) (λ g. inl (inl g))
 
 -- a byte of a run
 run-byte : (at size : ℕ) (l : List ℕ) (i : ℕ) → at ≤ i → i < at + size → getD l i 0 ≡ getD (run at size l) (i - at) 0
@@ -31,13 +28,12 @@ same-byte at size l l′ i e g h = run-byte at size l i g h ∙ ap (λ (t : List
 module _ (b c c′ : List ℕ) (w : Packed b c) (w′ : Packed b c′) (i : ℕ) where
   -- one entry: it leaves the byte alone, or tells it
   by-entry : (n : ℕ) → n < 64 → (numberOf b n ≡ 0 → ⊥) → Untouched b n i ⊎ (getD c i 0 ≡ getD c′ i 0)
-  by-entry n p u = ⊎-elim
-      (λ g. ⊎-elim
+  by-entry n p u =
+      by-outside (12 * n + 4) 4 i
+      (λ g. by-outside (packedStart b n) (sizeOf b n) i
       (λ h. inl (g, h))
-      (λ h. inr (same-byte (packedStart b n) (sizeOf b n) c c′ i (w .bytes n p u ∙ sym (w′ .bytes n p u)) (h .0) (h .1)))
-      (either (packedStart b n) (sizeOf b n) i))
-      (λ g. inr (same-byte (12 * n + 4) 4 c c′ i (w .start n p u ∙ sym (w′ .start n p u)) (g .0) (g .1)))
-      (either (12 * n + 4) 4 i)
+      (λ h e. inr (same-byte (packedStart b n) (sizeOf b n) c c′ i (w .bytes n p u ∙ sym (w′ .bytes n p u)) h e)))
+      (λ g e. inr (same-byte (12 * n + 4) 4 c c′ i (w .start n p u ∙ sym (w′ .start n p u)) g e))
 
   -- the entries below a number: all leave it alone, or one tells it
   by-entries : (k : ℕ) → k ≤ 64 → ((n : ℕ) → n < k → (numberOf b n ≡ 0 → ⊥) → Untouched b n i) ⊎ (getD c i 0 ≡ getD c′ i 0)

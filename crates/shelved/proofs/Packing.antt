@@ -2,7 +2,7 @@
 use Prim.Native.Nat.{ℕ, zero, suc, _+_, _*_, _≤_, _<_}
 use mathlib.Core.Bool.{cond}
 use mathlib.Core.List.{List}
-use mathlib.Core.Logic.{inr, ⊎-elim}
+use mathlib.Core.Logic.{inl, inr, ⊎-elim}
 use mathlib.Core.Path.{_≡_, refl, sym, _∙_}
 use native.Mathlib.Omega.{arith}
 use borrow.Author.Tests.{lt-ltb, le-ltb}
@@ -18,23 +18,30 @@ use Rattle.shelved.proofs.Ranges.{total-same, total-change}
 use Rattle.shelved.proofs.Bytes.{run, run-kept, run-stored, getD-sets-out}
 use Rattle.shelved.proofs.Sounds.{apart-any}
 
+-- ---- a place, and a run of bytes
+
+module _ {A : Type 0} where
+  -- outside, or inside
+  pub by-outside : (at size i : ℕ) → (Outside at size i → A) → (at ≤ i → i < at + size → A) → A
+  by-outside at size i f g = by-le at i (λ h. by-le (at + size) i (λ e. f (inr e)) (λ e. g h e)) (λ h. f (inl h))
+
 -- ---- what starts before a place
 
 -- an entry's share
-abbrev share : List ℕ → ℕ → ℕ → ℕ
+abbrev pub share : List ℕ → ℕ → ℕ → ℕ
 share b at m = cond (ltb (startOf b m) at) (sizeOf b m) 0
 
-share-in : (b : List ℕ) (at m : ℕ) → startOf b m < at → share b at m ≡ sizeOf b m
+pub share-in : (b : List ℕ) (at m : ℕ) → startOf b m < at → share b at m ≡ sizeOf b m
 share-in b at m h = rw (lt-ltb (startOf b m) at h)
 
-share-out : (b : List ℕ) (at m : ℕ) → at ≤ startOf b m → share b at m ≡ 0
+pub share-out : (b : List ℕ) (at m : ℕ) → at ≤ startOf b m → share b at m ≡ 0
 share-out b at m h = rw (le-ltb (startOf b m) at h)
 
 -- an empty entry has none
 share-none : (b : List ℕ) (at m : ℕ) → sizeOf b m ≡ 0 → share b at m ≡ 0
 share-none b at m h = by-le at (startOf b m) (λ g. share-out b at m g) (λ g. share-in b at m g ∙ h)
 
-total-zero : (f : ℕ → ℕ) (k : ℕ) → ((n : ℕ) → n < k → f n ≡ 0) → total f k ≡ 0
+pub total-zero : (f : ℕ → ℕ) (k : ℕ) → ((n : ℕ) → n < k → f n ≡ 0) → total f k ≡ 0
 unfolding total
 total-zero f zero h = refl
 total-zero f (suc k) h = let s = total-zero f k (λ n p. h n (omega arith)) in let t = h k (omega arith) in omega arith

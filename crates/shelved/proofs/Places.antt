@@ -4,16 +4,16 @@ use mathlib.Core.Bool.{true, false, not}
 use mathlib.Core.List.{List}
 use mathlib.Core.Logic.{_⊎_}
 use mathlib.Core.Option.{none, some}
-use mathlib.Core.Path.{_≡_}
+use mathlib.Core.Path.{_≡_, sym, _∙_}
 use native.Mathlib.Omega.{arith}
 use borrow.Author.Tests.{leb-true, leb-false, le-leb, lt-leb, not-true, not-false}
 use lib.Dec.{leb}
 use lib.ListN.{length}
 use Rattle.rules.proofs.Inverse.{and-inv}
 use Rattle.shelved.specs.Ranges.{least, every}
-use Rattle.shelved.specs.Contents.{startOf, endOf, numberOf, clear, Sound}
+use Rattle.shelved.specs.Contents.{startOf, endOf, clear}
 use Rattle.shelved.specs.Shelf.{clearOf, fits, blockerOf, placeFor}
-use Rattle.shelved.proofs.Tests.{by-eq, by-le, and-none, both, or-neither}
+use Rattle.shelved.proofs.Tests.{by-le, and-none, both, or-neither}
 use Rattle.shelved.proofs.Ranges.{every-at, every-of, every-not, least-skip, least-hit, least-over, least-some, least-none}
 use Rattle.shelved.proofs.Sounds.{clear-apart}
 
@@ -69,24 +69,27 @@ fits-blocked b size at n u k p q =
     rw (every-not (clearOf b size u) 64 n (k .entry) (overlaps u (u + size) (startOf b n) (endOf b n) (omega (arith, k .low)) q))
     (and-none (leb (u + size) (length b)))
 
--- the search from a start on decides as the whole search: one turn, and its two ends
-module _ (b : List ℕ) (size at : ℕ) (r : at ≤ length b) where
-  pub place-turn : (n : ℕ) → blockerOf b size at ≡ some n → endOf b n ≤ length b
-      → least (fits b size) at (length b - at) ≡ least (fits b size) (endOf b n) (length b - endOf b n)
-  place-turn n e h =
+-- the search from a start on decides as the whole search: one turn, and its three ends
+module _ (b : List ℕ) (size at : ℕ) where
+  pub place-turn : (n : ℕ) → blockerOf b size at ≡ some n → least (fits b size) at (length b - at) ≡ least (fits b size) (endOf b n) (length b - endOf b n)
+  place-turn n e =
       let k = blocks b size at n e in
-      let d = endOf b n - at in
-      let p : at + (endOf b n - at) ≡ endOf b n = omega (arith, k .high) in
+      by-le (endOf b n) (length b)
+      (λ h. let p : at + (endOf b n - at) ≡ endOf b n = omega (arith, k .high) in
       let q : length b - at - (endOf b n - at) ≡ length b - endOf b n = omega (arith, k .high) in
-      let s = least-skip (fits b size) at (length b - at) (endOf b n - at) (omega arith)
-      (λ u g f. fits-blocked b size at n u k g (omega arith)) in
-      rw (p, q) at s
+      let s = least-skip (fits b size) at (length b - at) (endOf b n - at) (omega arith) (λ u g f. fits-blocked b size at n u k g (omega arith)) in
+      rw (p, q) at s)
+      (λ h. least-over (fits b size) at (length b - at) (λ u g f. fits-blocked b size at n u k g (omega arith))
+      ∙ sym (least-over (fits b size) (endOf b n) (length b - endOf b n) (λ u g f. absurd (omega arith))))
 
-  pub place-here : 1 ≤ size → size ≤ length b - at → blockerOf b size at ≡ none → least (fits b size) at (length b - at) ≡ some at
+  pub place-here : at < length b → size ≤ length b - at → blockerOf b size at ≡ none → least (fits b size) at (length b - at) ≡ some at
   place-here g h e = least-hit (fits b size) at (length b - at) (omega arith) (fits-here b size at (omega arith) e)
 
   pub place-over : length b - at < size → least (fits b size) at (length b - at) ≡ none
   place-over h = least-over (fits b size) at (length b - at) (λ u p q. fits-over b size u (omega arith))
+
+  pub place-end : length b ≤ at → least (fits b size) at (length b - at) ≡ none
+  place-end h = least-over (fits b size) at (length b - at) (λ u p q. absurd (omega arith))
 
 -- "the smallest start where it fits"; "30 NO_RUN exactly when no free run is long enough"
 pub place-smallest : (b : List ℕ) (size at : ℕ) → placeFor b size ≡ some at
@@ -102,10 +105,3 @@ no-run b size r h e u p =
     by-le (length b) u
     (λ g. fits-over b size u (omega arith))
     (λ g. least-none (fits b size) 768 (length b - 768) e u p (omega arith))
-
--- a body in the way ends inside
-pub blocker-inside : (b : List ℕ) (size at n : ℕ) → Sound b → Blocks b size at n → endOf b n ≤ length b
-blocker-inside b size at n s k =
-    by-eq (numberOf b n) 0
-    (λ z. let f = s .kept .free n (k .entry) z in absurd (omega (arith, k .high)))
-    (λ z. s .kept .inside n (k .entry) z)

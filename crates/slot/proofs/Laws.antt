@@ -6,7 +6,7 @@ use native.Mathlib.Numerals.{towards-suc}
 use native.Mathlib.Omega.{arith}
 use borrow.Author.Tests.{le-leb, lt-leb}
 use lib.Dec.{leb}
-use lib.ListN.{length, getD, drop, set, List·getD-eq-default}
+use lib.ListN.{length, getD, set, List·getD-eq-default}
 use lib.Seq.{sets, drop-cons, drop-set-lt}
 use Rattle.put.specs.Puts.{Fills}
 use Rattle.put.proofs.Laws.{put-then, put-last}

@@ -14,8 +14,16 @@ fn wide(b: u8) -> u32
     b as u32
 }
 
-// The four bytes from a place on as one number, the low byte first; a byte past the end is 0.
+// The four bytes from a place on as one number, the low byte first.
 fn word_at(b: &[u8], at: usize) -> u32
+    requires { ⌜ at + 4 ≤ length (now b) ⌝ }
+    ensures { λ r. ⌜ r ≡ word (now (b .entry)) at ⌝ }
+{
+    wide(b[at]) + 256 * wide(b[at + 1]) + 65536 * wide(b[at + 2]) + 16777216 * wide(b[at + 3])
+}
+
+// The same where the buffer may end: a byte past the end is 0.
+fn last_word(b: &[u8], at: usize) -> u32
     requires { ⌜ at + 3 < 18446744073709551616 ⌝ }
     ensures { λ r. ⌜ r ≡ word (now (b .entry)) at ⌝ }
 {
@@ -24,8 +32,8 @@ fn word_at(b: &[u8], at: usize) -> u32
     low + 65536 * high
 }
 
-// The entry n; a byte past the end of the buffer is 0.
-pub fn slot_at(b: &[u8], n: usize) -> Slot
+// The entry n where the buffer may end.
+fn last_slot(b: &[u8], n: usize) -> Slot
     ensures { λ r. ⌜ SlotRead (now (b .entry)) n r ⌝ }
 {
     if b.len() / 12 < n {
@@ -34,6 +42,20 @@ pub fn slot_at(b: &[u8], n: usize) -> Slot
             start: 0,
             size: 0,
         };
+    }
+    Slot {
+        number: last_word(b, 12 * n),
+        start: last_word(b, 12 * n + 4),
+        size: last_word(b, 12 * n + 8),
+    }
+}
+
+// The entry n; a byte past the end of the buffer is 0.
+pub fn slot_at(b: &[u8], n: usize) -> Slot
+    ensures { λ r. ⌜ SlotRead (now (b .entry)) n r ⌝ }
+{
+    if b.len() / 12 <= n {
+        return last_slot(b, n);
     }
     Slot {
         number: word_at(b, 12 * n),

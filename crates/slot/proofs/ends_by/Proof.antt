@@ -4,7 +4,6 @@ use mathlib.Core.Path.{sym}
 use native.Mathlib.Omega.{arith}
 use borrow.Author.Tests.{lt-leb}
 use Rattle.slot.proofs.Laws.{ends-same}
-use borrow.Author.Needs.{needs}
 use Rattle.slot.proofs.ends_by.Statement.{statement}
 use Rattle.slot.proofs.ends_by.Tie as tie
 

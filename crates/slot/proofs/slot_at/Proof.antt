@@ -1,12 +1,7 @@
--- `slot::slot_at` meets its contract: its three words, or zeros where the buffer ends before them. Assumes nothing.
-use native.Mathlib.Omega.{arith}
-use Rattle.slot.proofs.Laws.{slot-past}
+-- `slot::slot_at` meets its contract: its three words. Assumes nothing.
 use borrow.Author.Needs.{needs}
 use Rattle.slot.proofs.slot_at.Statement.{statement}
 use Rattle.slot.proofs.slot_at.Tie as tie
-
-returns : tie.Need-returns
-returns c = slot-past _ _ (omega arith)
 
 returns-2 : tie.Need-returns-2
 returns-2 c = cc
@@ -15,7 +10,8 @@ pub slot-at-spec : {M : Type 1} → statement M
 slot-at-spec =
     tie.close
     (tie.spec
-    returns
+    (λ c κs. search needs)
+    (λ c. search needs)
     (λ c. search needs)
     (λ c κs. search needs)
     (λ c. search needs)
