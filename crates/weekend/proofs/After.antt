@@ -1,17 +1,17 @@
 -- After a call: the bytes that changed, that the buffer is a shelf still, and what asking it says. Assumes nothing.
 use Prim.Native.Nat.{ℕ, _+_, _*_, _-_, _≤_, _<_}
-use mathlib.Core.List.{List}
+use mathlib.Core.List.{List, _++_}
 use mathlib.Core.Logic.{inl, inr, _↔_}
 use mathlib.Core.Path.{_≡_, refl, sym, ap, _∙_}
 use native.Mathlib.Omega.{arith}
 use lib.ListN.{length, getD, replicate, getD-replicate}
 use lib.Seq.{sets, length-sets}
 use Rattle.rules.specs.Refusals.{Said, says, refuses}
-use Rattle.shelved.specs.Contents.{numberOf, startOf, sizeOf, slotOf, bodyOf, slotBytes, Sound}
+use Rattle.shelved.specs.Contents.{numberOf, startOf, sizeOf, slotOf, bodyOf, wordBytes, slotBytes, Sound}
 use Rattle.shelved.specs.Shelf.{askSaid, partOf}
 use Rattle.shelved.specs.declared.Slot.{Slot}
 use Rattle.shelved.proofs.Tests.{by-eq, by-le}
-use Rattle.shelved.proofs.Bytes.{getD-sets-in, getD-sets-out, slot-length}
+use Rattle.shelved.proofs.Bytes.{run, run-stored, getD-sets-in, getD-sets-out, slot-length}
 use Rattle.shelved.proofs.Sounds.{once-any}
 use Rattle.shelved.proofs.Accepts.{Holds, Adds}
 use Rattle.weekend.specs.Weekend.{Among, IsShelf, InUse, HeldIn, Puts, Zeroes}
@@ -67,11 +67,20 @@ module _ (b file : List ℕ) (number k at : ℕ) (a : Adds b number file k at) (
   pub add-keeps : IsShelf c
   add-keeps = sound-keeps c (add-sound b file number k at a one w)
 
+  entry-spelled : run (12 * k) 12 c ≡ wordBytes number ++ (wordBytes at ++ wordBytes (length file))
+  unfolding slotBytes
+  entry-spelled =
+      let l = slot-length slot in
+      let p = a .spot .entry in
+      let r = a .sound-shelf .least-room in
+      rw l at (run-stored (sets b at file) (12 * k) (slotBytes slot) (omega (arith, length-sets b at file)))
+
   pub add-puts : Puts b number file k at c
   add-puts = record {
     long = add-long b file number k at a one w;
     body = add-run b file number k at a one w;
     entry = rw (add-number b file number k at a one w, add-start b file number k at a one w, add-size b file number k at a one w);
+    spelled = entry-spelled;
     rest = λ i f g.
         in-entry i g (by-le at i
         (λ h. by-le (at + length file) i (λ j. getD-sets-out b at file i (inr j)) (λ j. absurd (f (h, j))))

@@ -1,13 +1,19 @@
 -- What each promise says in the words of a shelf. Assumes nothing.
 use Prim.Native.Nat.{ℕ, _+_, _≤_, _<_}
 use mathlib.Core.List.{List, []}
-use mathlib.Core.Logic.{_⊎_, _↔_}
+use mathlib.Core.Logic.{_⊎_, inl, inr, _↔_}
+use mathlib.Core.Option.{none}
 use mathlib.Core.Path.{_≡_, refl, sym, ap, subst, _∙_}
+use native.Mathlib.Omega.{arith}
+use lib.Dec.{eqb}
 use lib.ListN.{length, getD, drop}
 use lib.Seq.{getD-take, getD-drop}
 use Rattle.rules.specs.Refusals.{Said, says, refuses, andThen, outcome, outcomeTold}
 use Rattle.rules.specs.declared.Outcome.{Outcome}
-use Rattle.rules.proofs.Inverse.{refuses-says, then-inv}
+use Rattle.rules.specs.declared.Seal.the-variants as seal
+use Rattle.rules.proofs.Inverse.{refuses-says, false-true, then-inv}
+use Rattle.demands.proofs.Demands.{refused-first}
+use Rattle.evening.proofs.NeverFull.{check-never-full}
 use Rattle.shelved.specs.Contents.{startOf, sizeOf, slotOf, held}
 use Rattle.shelved.specs.Packing.{Packed}
 use Rattle.shelved.specs.Shelf.{addSaid, afterAdd, heldAt, afterRemove, askSaid, partOf}
@@ -58,6 +64,16 @@ module _ (b : List ℕ) (number : ℕ) (file : List ℕ) (r : Added) (after : Li
   pub add-refused-leaves : (n l x : ℕ) → addedTold r ≡ refuses n l x → after ≡ b
   unfolding afterAdd
   add-refused-leaves n l x h = w .bytes ∙ rw (refused-so n l x h)
+
+  pub add-never-full : (n l x : ℕ) → addedTold r ≡ refuses n l x → n ≡ 15 → ⊥
+  add-never-full n l x h z = by (add-refused-first n l x .0 h)
+    where
+      by : AddRefused b number file n l x → ⊥
+      by (inl v) = omega (arith, v .0 .0)
+      by (inr (inl v)) = false-true (sym (check-never-full seal.Usual file n l x (refused-first seal.Usual file none n l x .1 (v .1))) ∙ ap (λ (k : ℕ). eqb k 15) z)
+      by (inr (inr (inl v))) = omega (arith, v .0 .0)
+      by (inr (inr (inr (inl v)))) = omega (arith, v .0 .0)
+      by (inr (inr (inr (inr v)))) = omega (arith, v .0 .0)
 
   pub add-takes : (at : ℕ) → (addedTold r ≡ says at) ↔ ((k : ℕ) × AddsAt b number file k at)
   add-takes at = (

@@ -48,6 +48,10 @@ module _ (b : List ℕ) (number : ℕ) (file : List ℕ) (r : Added) (after : Li
   pub add-refused-leaves : (n l x : ℕ) → addedTold r ≡ refuses n l x → after ≡ b
   add-refused-leaves = promised.add-refused-leaves b number file r after w
 
+  -- "No table is lent here or in CR .. 12, so 15 isn't met there."
+  pub add-never-full : (n l x : ℕ) → addedTold r ≡ refuses n l x → n ≡ 15 → ⊥
+  add-never-full = promised.add-never-full b number file r after w
+
   module _ (small : number < 4294967296) where
     -- "Adding changes only the new body and its entry"
     pub add-changes-only : (k at : ℕ) → AddsAt b number file k at → Puts b number file k at after

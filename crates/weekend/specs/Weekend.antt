@@ -1,6 +1,6 @@
 -- Document 02, 'A shelf of flights on the tablet': the words of what is demanded of a shelf, said over the bytes of the buffer.
 use Prim.Native.Nat.{ℕ, _+_, _*_, _≤_, _<_}
-use mathlib.Core.List.{List}
+use mathlib.Core.List.{List, _++_}
 use mathlib.Core.Logic.{_⊎_, _↔_}
 use mathlib.Core.Option.{none}
 use mathlib.Core.Path.{_≡_}
@@ -9,7 +9,7 @@ use Rattle.rules.specs.Refusals.{says, refuses, outcome}
 use Rattle.rules.specs.declared.Seal.the-variants as seal
 use Rattle.demands.specs.Faults.{Refused}
 use Rattle.demands.specs.Grammar.{Meets}
-use Rattle.shelved.specs.Contents.{numberOf, startOf, sizeOf, slotOf, bodyOf, held}
+use Rattle.shelved.specs.Contents.{wordBytes, numberOf, startOf, sizeOf, slotOf, bodyOf, held}
 use Rattle.shelf.specs.Calls.{askedTold, FlightAsked, BodyGiven}
 use Rattle.shelf.specs.declared.Asked.{Asked}
 
@@ -117,6 +117,8 @@ pub record Puts (b : List ℕ) (number : ℕ) (file : List ℕ) (k at : ℕ) (af
   pub long : length after ≡ length b
   pub body : take (length file) (drop at after) ≡ file
   pub entry : slotOf after k ≡ record { number = number; start = at; size = length file }
+  -- "each a u32 with its low byte first"
+  pub spelled : take 12 (drop (12 * k) after) ≡ wordBytes number ++ (wordBytes at ++ wordBytes (length file))
   pub rest : (i : ℕ) → (Among at (length file) i → ⊥) → (Among (12 * k) 12 i → ⊥) → getD after i 0 ≡ getD b i 0
 
 -- a flight is held in entry n
