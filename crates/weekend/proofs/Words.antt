@@ -179,14 +179,14 @@ module _ (b : List ℕ) (s : Sound b) (size : ℕ) (one : 1 ≤ size) where
         let f = fits-read b size at e in
         record {
           from-768 = low;
-          inside = f .inside;
+          inside = omega (arith, f .inside);
           free = λ n i a x. ⊎-elim
               (λ (g : at + size ≤ startOf b n). omega (arith, a .1, x .among .0, g))
               (λ (g : endOf b n ≤ at). omega (arith, a .0, x .among .1, g))
               (f .apart n (x .entry));
         }),
     (λ r.
-        both (leb (at + size) (length b)) (every (clearOf b size at) 64) (le-leb (at + size) (length b) (r .inside))
+        both (leb (at + size) (length b)) (every (clearOf b size at) 64) (le-leb (at + size) (length b) (omega (arith, r .inside)))
         (every-of (clearOf b size at) 64 λ n p. apart-clear at (at + size) (startOf b n) (endOf b n) (run-apart at r n p))),
   )
 
