@@ -7,7 +7,7 @@ use native.Mathlib.Omega.{arith}
 use lib.ListN.{length, getD, replicate, getD-replicate}
 use lib.Seq.{sets, length-sets}
 use Rattle.rules.specs.Refusals.{Said, says, refuses}
-use Rattle.shelved.specs.Contents.{numberOf, startOf, sizeOf, slotOf, bodyOf, wordBytes, slotBytes, Sound}
+use Rattle.shelved.specs.Contents.{numberOf, startOf, sizeOf, slotOf, wordBytes, slotBytes}
 use Rattle.shelved.specs.Shelf.{askSaid, partOf}
 use Rattle.shelved.specs.declared.Slot.{Slot}
 use Rattle.shelved.proofs.Tests.{by-eq, by-le}

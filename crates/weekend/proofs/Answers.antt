@@ -1,6 +1,6 @@
 -- What each call answers, exactly: which refusal comes first, and what is found where none comes. Assumes nothing.
-use Prim.Native.Nat.{ℕ, _+_, _*_, _≤_, _<_}
-use mathlib.Core.Bool.{Bool, true, false, not, _&&_}
+use Prim.Native.Nat.{ℕ}
+use mathlib.Core.Bool.{Bool, true, false, not}
 use mathlib.Core.List.{List}
 use mathlib.Core.Logic.{_⊎_, inl, inr, _↔_}
 use mathlib.Core.Option.{Option, none, some}
@@ -15,19 +15,19 @@ use Rattle.rules.specs.Refusals.{number, Said, says, refuses, no, andThen}
 use Rattle.rules.specs.declared.Flight.{Flight}
 use Rattle.rules.specs.declared.Reason.the-variants as reason
 use Rattle.rules.specs.declared.Seal.the-variants as seal
-use Rattle.rules.proofs.Inverse.{refuses-says, then-inv, not-inv}
+use Rattle.rules.proofs.Inverse.{refuses-says, false-true, then-inv, not-inv}
 use Rattle.demands.specs.Grammar.{Meets, flightOf}
 use Rattle.demands.proofs.Demands.{accepted-as, refused-first}
-use Rattle.shelved.specs.Contents.{numberOf, slotOf, sound}
-use Rattle.shelved.specs.Shelf.{entryOf, placeFor, usable, Spot, spotFor, addSaid, heldAt, removeSaid, askSaid, shelfSeal}
+use Rattle.shelved.specs.Contents.{numberOf, sound}
+use Rattle.shelved.specs.Shelf.{entryOf, placeFor, usable, Spot, spotFor, addSaid, heldAt}
 use Rattle.shelved.specs.Packing.{packSaid}
-use Rattle.shelved.specs.declared.Slot.{Slot}
-use Rattle.shelved.proofs.Tests.{by-bool, by-eq}
-use Rattle.weekend.specs.Weekend.{IsShelf, InUse, FirstFree, FreeRun, Smallest, Unplaced, Broken, FileRefused, Both, IdRefused, New, EntriesRefused, RunRefused, AddRefused, NotFound, AddsAt, HeldIn}
+use Rattle.shelved.proofs.Tests.{by-eq}
+use Rattle.weekend.specs.Weekend.{IsShelf, InUse, Unplaced, Broken, Both, New, AddRefused, NotFound, AddsAt, HeldIn}
 use Rattle.weekend.proofs.Words.{keeps-exactly, breaks-exactly, keeps-sound, entry-exactly, no-entry-exactly, place-exactly, no-place-exactly}
 
 -- ---- a chain that came to x came there by one of its links
 
+-- the case first, so that what is done with it knows what it is
 module _ {A B C : Type 0} where
   pub by-sum : A ⊎ B → (A → C) → (B → C) → C
   by-sum (inl a) f g = f a
@@ -96,10 +96,10 @@ module _ (b : List ℕ) (number : ℕ) where
   new-or-not = by-eq number 0 (λ z. inr (inl z)) (λ z. by-sum used-or-not (λ u. inr (inr u)) (λ u. inl (z, u)))
 
   usable-reads : usable b number ≡ true → New b number
-  usable-reads e = by-sum new-or-not (λ w. w) (λ w. let z : _≡_ {A = Bool} true false = sym e ∙ usable-not w in absurd (let y : _≡_ {A = ℕ} 0 1 = cc in omega arith))
+  usable-reads e = by-sum new-or-not (λ w. w) (λ w. absurd (false-true (sym (usable-not w) ∙ e)))
 
   unusable-reads : usable b number ≡ false → (number ≡ 0) ⊎ InUse b number
-  unusable-reads e = by-sum new-or-not (λ w. let z : _≡_ {A = Bool} true false = sym (usable-new w) ∙ e in absurd (let y : _≡_ {A = ℕ} 0 1 = cc in omega arith)) (λ w. w)
+  unusable-reads e = by-sum new-or-not (λ w. absurd (false-true (sym e ∙ usable-new w))) (λ w. w)
 
 -- ---- adding
 

@@ -1,5 +1,5 @@
 -- What is told from the calls since a shelf was empty: the bytes held are those added less those removed, and each body is the file last added under its number. Assumes nothing.
-use Prim.Native.Nat.{ℕ, zero, suc, _+_, _-_, _≤_, _<_}
+use Prim.Native.Nat.{ℕ, _+_, _-_, _≤_, _<_}
 use mathlib.Core.Bool.{cond}
 use mathlib.Core.List.{List, _∷_}
 use mathlib.Core.Option.{Option, none, some}
@@ -17,7 +17,6 @@ use Rattle.rules.proofs.Inverse.{then-inv}
 use Rattle.demands.specs.Grammar.{Meets, linesIn, flightOf}
 use Rattle.demands.specs.Readings.{Readable}
 use Rattle.demands.proofs.Demands.{accepted-as, readable}
-use Rattle.shelved.specs.Ranges.{total}
 use Rattle.shelved.specs.Contents.{numberOf, sizeOf, startOf, bodyOf, held, Sound}
 use Rattle.shelved.specs.Packing.{Packed}
 use Rattle.shelved.specs.Shelf.{Spot, addSaid, afterAdd, heldAt, afterRemove, askSaid}
@@ -29,9 +28,10 @@ use Rattle.shelf.specs.Calls.{addedTold, FlightAdded, BodyGiven, FlightRemoved}
 use Rattle.shelf.specs.declared.Added.{Added}
 use Rattle.shelf.specs.declared.Added.the-variants as added
 use Rattle.weekend.specs.Weekend.{IsShelf, HeldIn}
-use Rattle.weekend.specs.Calls.{Call, adds, asks, removes, packs, lastAdded, bytesAdded, bytesRemoved, Empty, Reached, empty, added-one, asked-one, removed-one, packed-all}
+use Rattle.weekend.specs.Calls.{Call, adds, removes, packs, lastAdded, bytesAdded, bytesRemoved, Empty, Reached, empty, added-one, asked-one, removed-one, packed-all}
 use Rattle.weekend.proofs.Answers.{met, held-says, pack-says}
 use Rattle.weekend.proofs.After.{add-keeps, remove-keeps}
+use Rattle.weekend.proofs.Covers.{covers}
 use Rattle.weekend.proofs.Packs.{pack-keeps, pack-number, pack-body, pack-held}
 use Rattle.weekend.proofs.Promised.{add-refused-leaves, remove-refused-leaves}
 use Rattle.weekend.proofs.Results.{add-number, add-body, add-changed, add-others, add-held, gone, remove-changed, remove-others, remove-held}
@@ -48,17 +48,14 @@ pub record Books (last : ℕ → Option (List ℕ)) (more less : ℕ) (b : List 
 body-long : (b : List ℕ) → Sound b → (n : ℕ) → n < 64 → (numberOf b n ≡ 0 → ⊥) → length (bodyOf b n) ≡ sizeOf b n
 body-long b s n p u = length-run (startOf b n) (sizeOf b n) b (s .kept .inside n p u)
 
-total-zero : (f : ℕ → ℕ) (k : ℕ) → ((n : ℕ) → n < k → f n ≡ 0) → total f k ≡ 0
-unfolding total
-total-zero f zero h = refl
-total-zero f (suc k) h = let s = total-zero f k (λ n p. h n (omega arith)) in let t = h k (omega arith) in omega arith
-
+-- where no flight is held, no byte is
 books-empty : (b : List ℕ) → Empty b → Books (λ x. none) 0 0 b
-unfolding held
 books-empty b w = record {
   shelf = w .0;
   bodies = λ n p u. absurd (u (w .1 n p));
-  sum = let t = total-zero (sizeOf b) 64 (λ n p. keeps-sound b (w .0) .kept .free n p (w .1 n p) .1) in omega arith;
+  sum = by-eq (held b) 0
+      (λ z. omega arith)
+      (λ z. let v = covers b (keeps-sound b (w .0)) 0 (omega arith) in absurd (v .1 .used (w .1 (v .0) (v .1 .entry))));
 }
 
 module _ (last : ℕ → Option (List ℕ)) (more less : ℕ) (b : List ℕ) (k : Books last more less b) where

@@ -1,15 +1,15 @@
 -- The bytes held by the bodies that start before a place: they only grow from place to place, and each of them is one of some body. Assumes nothing.
 use Prim.Native.Nat.{ℕ, zero, suc, _+_, _-_, _≤_, _<_}
-use mathlib.Core.Bool.{Bool, cond}
+use mathlib.Core.Bool.{cond}
 use mathlib.Core.List.{List}
 use mathlib.Core.Logic.{⊎-elim}
 use mathlib.Core.Option.{Option, none, some}
-use mathlib.Core.Path.{_≡_, refl, sym, ap, _∙_}
+use mathlib.Core.Path.{_≡_, refl, sym, _∙_}
 use native.Mathlib.Omega.{arith}
 use borrow.Author.Tests.{lt-ltb, le-ltb, eqb-true, eqb-false}
 use lib.Dec.{eqb, ltb}
 use lib.ListN.{length}
-use Rattle.shelved.specs.Ranges.{least, total}
+use Rattle.shelved.specs.Ranges.{least}
 use Rattle.shelved.specs.Contents.{numberOf, startOf, sizeOf, endOf, held, Sound}
 use Rattle.shelved.specs.Packing.{before}
 use Rattle.shelved.proofs.Tests.{by-eq, by-le}

@@ -5,9 +5,9 @@ use mathlib.Core.Logic.{_⊎_, inl, inr, _↔_, ⊎-elim}
 use mathlib.Core.Path.{_≡_, refl, sym, ap, _∙_}
 use native.Mathlib.Omega.{arith}
 use lib.ListN.{length, getD, take, drop, length-take, length-drop}
-use Rattle.rules.specs.Refusals.{Said, says, refuses, outcome}
-use Rattle.shelved.specs.Contents.{word, numberOf, startOf, sizeOf, endOf, slotOf, bodyOf, held, Sound}
-use Rattle.shelved.specs.Packing.{before, packedStart, Outside, Untouched, Packed}
+use Rattle.rules.specs.Refusals.{Said, outcome}
+use Rattle.shelved.specs.Contents.{numberOf, startOf, sizeOf, endOf, bodyOf, held, Sound}
+use Rattle.shelved.specs.Packing.{before, packedStart, Outside, Packed}
 use Rattle.shelved.specs.Shelf.{askSaid, partOf}
 use Rattle.shelved.specs.declared.Slot.{Slot}
 use Rattle.shelved.proofs.Tests.{by-eq, by-le}
@@ -15,7 +15,7 @@ use Rattle.shelved.proofs.Ranges.{total-same}
 use Rattle.shelved.proofs.Bytes.{run, length-run, word-same, word-run}
 use Rattle.shelved.proofs.Sounds.{apart-any}
 use Rattle.shelved.proofs.Packing.{before-next}
-use Rattle.weekend.specs.Weekend.{Among, InBody, IsShelf, FreeRun, HeldIn, Packs}
+use Rattle.weekend.specs.Weekend.{Among, InBody, IsShelf, FreeRun, Packs}
 use Rattle.weekend.proofs.After.{ask-alike}
 use Rattle.weekend.proofs.Covers.{before-mono, before-held, covers}
 use Rattle.weekend.proofs.Words.{sound-keeps}

@@ -7,7 +7,6 @@ use native.Mathlib.Omega.{arith}
 use lib.ListN.{length, replicate}
 use lib.Seq.{sets, length-sets}
 use Rattle.shelved.specs.Contents.{word, numberOf, startOf, sizeOf, bodyOf, slotBytes, held, Sound}
-use Rattle.shelved.specs.Packing.{before}
 use Rattle.shelved.specs.declared.Slot.{Slot}
 use Rattle.shelved.proofs.Tests.{by-eq}
 use Rattle.shelved.proofs.Ranges.{total-change}

@@ -11,7 +11,7 @@ use lib.Dec.{eqb, leb}
 use lib.ListN.{length, getD}
 use Rattle.rules.proofs.Inverse.{false-true}
 use Rattle.shelved.specs.Ranges.{least, every}
-use Rattle.shelved.specs.Contents.{word, numberOf, startOf, sizeOf, endOf, sound, Kept, Sound}
+use Rattle.shelved.specs.Contents.{word, numberOf, startOf, sizeOf, endOf, sound, Sound}
 use Rattle.shelved.specs.Shelf.{entryOf, clearOf, fits, placeFor}
 use Rattle.shelved.proofs.Tests.{by-bool, by-eq, by-le, both}
 use Rattle.shelved.proofs.Ranges.{Least, least-skip, least-hit, least-some, least-none, least-over, every-of}

@@ -23,7 +23,7 @@ use Rattle.shelved.proofs.Accepts.{adds as accepted, holds}
 use Rattle.shelf.specs.Calls.{addedTold}
 use Rattle.shelf.specs.declared.Added.the-variants as added
 use Rattle.weekend.specs.Calls.{Call, adds, removes, Empty, Reached, empty, added-one, removed-one}
-use Rattle.weekend.specs.Weekend.{Among, InBody, IsShelf, InUse, FreeRun, Smallest, AddsAt, Puts}
+use Rattle.weekend.specs.Weekend.{Among, InBody, IsShelf, InUse}
 use Rattle.weekend.proofs.Answers.{by-sum, met, add-refuses, add-said, held-says}
 use Rattle.weekend.proofs.After.{same-slot, add-keeps, add-puts, remove-keeps, remove-zeroes}
 use Rattle.weekend.proofs.Books.{held-by-calls}
