@@ -1,7 +1,8 @@
-// A shelf of flights in one lent buffer: a flight added, asked for, removed.
+// A shelf of flights in one lent buffer: a flight added, asked for, removed; the shelf packed.
 ghost use mathlib.Core.Path.{_≡_};
 ghost use Rattle.shelved.specs.Shelf.{usable, heldAt, spotFor, addSaid};
 ghost use Rattle.shelf.specs.Calls.{heldTold, planTold, FlightAdded, FlightAsked, BodyGiven, FlightRemoved};
+pub use pack::pack;
 use rules::Found;
 use rules::Outcome;
 use rules::Reason;
