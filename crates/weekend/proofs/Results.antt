@@ -7,14 +7,13 @@ use native.Mathlib.Omega.{arith}
 use lib.ListN.{length, replicate}
 use lib.Seq.{sets, length-sets}
 use Rattle.shelved.specs.Contents.{word, numberOf, startOf, sizeOf, bodyOf, slotBytes, held, Sound}
-use Rattle.shelved.specs.Packing.{before}
 use Rattle.shelved.specs.declared.Slot.{Slot}
 use Rattle.shelved.proofs.Tests.{by-eq}
 use Rattle.shelved.proofs.Ranges.{total-change}
-use Rattle.shelved.proofs.Bytes.{run-kept, run-stored, word-stored, slot-length, slot-number, slot-start, slot-size}
+use Rattle.shelved.proofs.Bytes.{run, run-kept, run-stored, word-stored, slot-length, slot-number, slot-start, slot-size}
 use Rattle.weekend.proofs.Tables.{Changed, kept-changed}
 use Rattle.shelved.proofs.Accepts.{Holds, Adds}
-use Rattle.weekend.proofs.Calls.{entry-changed, body-past, number-past, start-past, size-past}
+use Rattle.weekend.proofs.Entries.{entry-changed, body-past, number-past, start-past, size-past}
 
 -- a free body's bytes are the same wherever it starts
 free-body : (b c : List ℕ) (m : ℕ) → sizeOf b m ≡ 0 → sizeOf c m ≡ 0 → bodyOf c m ≡ bodyOf b m
@@ -75,8 +74,8 @@ module _ (b body : List ℕ) (number k at : ℕ) (a : Adds b number body k at) (
   abbrev pub added : List ℕ
   added = sets (sets b at body) (12 * k) (slotBytes slot)
 
-  same-long : length added ≡ length b
-  same-long = length-sets (sets b at body) (12 * k) (slotBytes slot) ∙ length-sets b at body
+  pub add-long : length added ≡ length b
+  add-long = length-sets (sets b at body) (12 * k) (slotBytes slot) ∙ length-sets b at body
 
   told : (j v : ℕ) → j + 4 ≤ 12 → word (slotBytes slot) j ≡ v → word added (12 * k + j) ≡ v
   told j v g e =
@@ -99,14 +98,16 @@ module _ (b body : List ℕ) (number k at : ℕ) (a : Adds b number body k at) (
   pub add-size : sizeOf added k ≡ length body
   add-size = told 8 (length body) (omega arith) (slot-size slot (small .1))
 
-  pub add-body : bodyOf added k ≡ body
-  add-body =
+  pub add-run : run at (length body) added ≡ body
+  add-run =
       let l = slot-length slot in
       let i = a .spot .place .inside in
       let q = a .spot .low in
       let p = a .spot .entry in
-      rw (add-start, add-size)
-      (run-kept (sets b at body) (12 * k) (slotBytes slot) at (length body) (rw length-sets i) (inr (omega arith)) ∙ run-stored b at body i)
+      run-kept (sets b at body) (12 * k) (slotBytes slot) at (length body) (rw length-sets i) (inr (omega arith)) ∙ run-stored b at body i
+
+  pub add-body : bodyOf added k ≡ body
+  add-body = rw (add-start, add-size) add-run
 
   pub add-changed : Changed (numberOf b) (startOf b) (sizeOf b) (numberOf added) (startOf added) (sizeOf added) k
   add-changed =
@@ -124,9 +125,9 @@ module _ (b body : List ℕ) (number k at : ℕ) (a : Adds b number body k at) (
       let y = add-start in
       let z = add-size in
       record {
-        least-room = rw same-long (a .sound-shelf .least-room);
-        most-room = rw same-long (a .sound-shelf .most-room);
-        kept = rw same-long (kept-changed (a .sound-shelf .kept) add-changed (record {
+        least-room = rw add-long (a .sound-shelf .least-room);
+        most-room = rw add-long (a .sound-shelf .most-room);
+        kept = rw add-long (kept-changed (a .sound-shelf .kept) add-changed (record {
           none = λ e. absurd (a .spot .nonzero (sym x ∙ e));
           some-byte = λ e. omega arith;
           from-768 = λ e. let q = a .spot .low in omega arith;

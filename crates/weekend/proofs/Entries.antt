@@ -1,4 +1,4 @@
--- What adding and removing leave. Assumes nothing.
+-- What a store of bytes into one entry, or past the table, leaves of the entries and of the bodies. Assumes nothing.
 use Prim.Native.Nat.{ℕ, _+_, _*_, _≤_, _<_}
 use mathlib.Core.List.{List}
 use mathlib.Core.Logic.{inl, inr}
