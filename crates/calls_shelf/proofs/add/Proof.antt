@@ -14,4 +14,4 @@ add-spec =
     (λ c κs. search needs)
     (λ c. search needs)
     (λ c. search needs)
-    (λ c. add-room _ _ _ _ _ _ _ _ _ (c .before .before .before .before .before .before .before .before .if1 .left) (c .before .before .before .before .before .before .add .ensures) (c .before .before .before .added .ensures) (c .before .before .give .ensures)))
+    (λ c. add-room _ _ _ _ _ _ _ _ _ (c .before .before .before .before .before .before .before .before .before .if1 .left) (c .before .before .before .before .before .before .before .add .ensures) (c .before .before .before .added .ensures) (c .before .before .give .ensures)))

@@ -10,8 +10,9 @@ done-spec =
     tie.close
     (tie.spec
     (λ c. search needs)
+    (λ c. search needs)
     (λ c κs. search needs)
     (λ c. search needs)
     (λ c κs. search needs)
-    (λ c. rw (c .before .before .before .o .given .1) (c .accepted .ensures))
-    (λ c. rw (c .before .before .o2 .given .1) (c .refused .ensures)))
+    (λ c. rw (c .before .before .enum-told .given .1) (c .accepted .ensures))
+    (λ c. rw (c .before .before .o .given .1) (c .refused .ensures)))
