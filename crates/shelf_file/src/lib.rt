@@ -49,19 +49,32 @@ fn add(name: &[u8], shelf: &mut [u8], number: u32, from: &[u8], file: &[u8]) -> 
     }
 }
 
-// A flight of the shelf as `igc check` tells a file, with its number for a name.
-fn tell(number: u32, body: &[u8]) -> Fate {
-    let mut word = [0u8; 20];
-    let n = pieces::put_decimal(&mut word, 0, number as u64);
+// A body as `igc check` tells a file.
+fn tell_named(name: &[u8], body: &[u8]) -> Fate {
     let checked = file::check_untabled(Seal::Usual, body);
     let outcome = checked.outcome;
     let flight = checked.flight;
     match outcome {
-        Outcome::Refused(why) => { fate_of(print_refused(&word[..n], body, why), Fate::Refused) }
-        Outcome::Accepted => {
-            fate_of(console::print_accepted(&word[..n], flight), Fate::Accepted)
-        }
+        Outcome::Refused(why) => fate_of(print_refused(name, body, why), Fate::Refused),
+        Outcome::Accepted => fate_of(console::print_accepted(name, flight), Fate::Accepted),
     }
+}
+
+// A flight of the shelf, with its number for a name.
+fn tell(number: u32, body: &[u8]) -> Fate {
+    let mut word = [0u8; 20];
+    let n = pieces::put_decimal(&mut word, 0, number as u64);
+    tell_named(&word[..n], body)
+}
+
+// The flight of entry n, where it is not free.
+fn tell_entry(shelf: &[u8], n: usize) -> Fate {
+    let number = slot::slot_at(shelf, n).number;
+    if number == 0 {
+        return Fate::Accepted;
+    }
+    let body = shelf::body(shelf, number);
+    tell(number, body)
 }
 
 // Each flight, in the order of the table of contents; the worst of what became of them.
@@ -69,11 +82,8 @@ fn list(shelf: &[u8]) -> u32 {
     let mut status = 0;
     let mut n = 0;
     while n < 64 {
-        let s = slot::slot_at(shelf, n);
-        if s.number != 0 {
-            let fate = tell(s.number, shelf::body(shelf, s.number));
-            status = verbs::worse(status, verbs::status_of(fate));
-        }
+        let fate = tell_entry(shelf, n);
+        status = verbs::worse(status, verbs::status_of(fate));
         n += 1;
     }
     status
@@ -150,11 +160,16 @@ fn with_flight(deed: Deed, dashes: usize, name: &[u8], shelf: &mut [u8], other: 
     let Flight::Is(number) = flight_at(console::place_of(4, dashes)) else {
         return console::refuse_words();
     };
-    let fate = match deed {
-        Deed::Add => add_at(console::place_of(5, dashes), name, shelf, number, other),
-        _ => on_flight(deed, name, shelf, number),
-    };
-    verbs::status_of(fate)
+    match deed {
+        Deed::Add => verbs::status_of(add_at(
+            console::place_of(5, dashes),
+            name,
+            shelf,
+            number,
+            other,
+        )),
+        _ => verbs::status_of(on_flight(deed, name, shelf, number)),
+    }
 }
 
 // What is asked of the shelf that a name is of.
