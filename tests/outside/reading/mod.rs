@@ -18,6 +18,7 @@ pub mod merge;
 pub mod places;
 pub mod readers;
 pub mod refusals;
+pub mod shelf;
 pub mod summary;
 pub mod track;
 pub mod tracked;
