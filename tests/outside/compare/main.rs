@@ -145,7 +145,6 @@ fn flights(met: &mut Met, options: &Options) {
 /// Runs of calls on shelves, one for so many files; for every fourth of them calls on shelves that are spoiled in each way; then calls on shelves at the size limit.
 fn shelves(met: &mut Met, options: &Options) {
     let Met { tally, shelves, .. } = met;
-    let mut hold = |shelf: &[u8], call: &_, answer: &_, after: &[u8]| shelf::call(tally, shelf, call, answer, after);
     let stop = |held: Result<(), Broken>, told: &str| {
         if let Err(broken) = held {
             let both = [&*broken.shelf, b"== AND ==", &*broken.file].concat();
@@ -154,11 +153,14 @@ fn shelves(met: &mut Met, options: &Options) {
     };
     for n in 0..options.files / 30 {
         let mut random = Random::new(options.seed.wrapping_mul(1_000_039).wrapping_add(n));
+        let mut hold = |shelf: &[u8], call: &_, answer: &_, after: &[u8]| shelf::call(tally, shelf, call, answer, after);
         stop(shelf_runs::any(&mut random, shelves, &mut hold), &n.to_string());
         if n % 4 == 0 {
             stop(shelf_runs::on_spoiled(&mut random, shelves, &mut hold), &format!("spoiled behind {n}"));
+            stop(shelf::wrong_answers(tally, &mut random), &format!("with wrong answers behind {n}"));
         }
     }
+    let mut hold = |shelf: &[u8], call: &_, answer: &_, after: &[u8]| shelf::call(tally, shelf, call, answer, after);
     stop(shelf_runs::at_limit(&mut Random::new(options.seed ^ 0x5E1F), shelves, &mut hold), "at the limit");
 }
 

@@ -2,7 +2,11 @@
 
 use crate::hold::{Held, Tally, told};
 use crate::library::{self, ANSWER, Told};
-use outside::files::shelf_calls::Call;
+use outside::files::random::Random;
+use outside::files::shelf_calls::{Call, each};
+use outside::files::shelf_runs::Broken;
+use outside::files::shelves::laid;
+use outside::files::spoiled_shelves::{WAYS, spoiled};
 use outside::reading::Answer;
 
 /// The call put to the library, with an answer of any length.
@@ -21,20 +25,22 @@ pub fn call(tally: &mut Tally, shelf: &[u8], call: &Call, theirs: &Answer<[u64; 
     let number = asked(call, &mut ours, &mut answer);
     tally.same(call.name(), &call.told(), number, Told { number, answer }, told(theirs, |&values| values))?;
     let other = if ours == after { None } else { (0..ours.len()).find(|&n| ours[n] != after[n]) };
-    tally.same(call.name(), &"its shelf", number, other.map(|n| (n, ours[n])), other.map(|n| (n, after[n])))?;
-    wrong_answers(tally, shelf, call)
+    tally.same(call.name(), &"its shelf", number, other.map(|n| (n, ours[n])), other.map(|n| (n, after[n])))
 }
 
-/// A call that lends an answer of the wrong length changes nothing.
-fn wrong_answers(tally: &mut Tally, shelf: &[u8], call: &Call) -> Held<()> {
-    if tally.answers[call.name()] % 16 > 1 || shelf.len() > 100_000 {
-        return Ok(());
-    }
-    for length in [0, 1, ANSWER - 1, ANSWER + 1] {
-        let (mut ours, mut answer) = (shelf.to_vec(), vec![library::BEFORE; length]);
-        let number = asked(call, &mut ours, &mut answer);
-        let unchanged = (17, vec![library::BEFORE; length], true);
-        tally.same(call.name(), &format!("an answer of {length}"), number, (number, answer, ours == shelf), unchanged)?;
+/// A call of each kind that lends an answer of the wrong length, on a sound shelf and on one that is not: 17, and nothing is changed.
+pub fn wrong_answers(tally: &mut Tally, random: &mut Random) -> Result<(), Broken> {
+    let way = *random.pick(&WAYS);
+    for shelf in [laid(random, 1_500, 9), spoiled(random, &way)] {
+        for call in each(random, &shelf) {
+            for length in [0, 1, ANSWER - 1, ANSWER + 1] {
+                let (mut ours, mut answer) = (shelf.clone(), vec![library::BEFORE; length]);
+                let number = asked(&call, &mut ours, &mut answer);
+                let unchanged = (17, vec![library::BEFORE; length], true);
+                let held = tally.same(call.name(), &format!("an answer of {length}"), number, (number, answer, ours == shelf), unchanged);
+                held.map_err(|difference| Broken { difference, shelf: shelf.clone(), file: call.file().to_vec() })?;
+            }
+        }
     }
     Ok(())
 }

@@ -2,6 +2,7 @@
 
 use super::shelf_calls::Call;
 use super::shelves::{ENTRY, PLACES, TABLE, at, flights, free};
+use crate::reading::check_usual_alone;
 use crate::reading::refusals::{Answer, ENTRIES, ID, NO_RUN, NOT_FOUND, Refusal, SHELF};
 use std::collections::BTreeMap;
 use std::ops::Range;
@@ -34,9 +35,7 @@ impl Ledger {
         let refused = answer.as_ref().err().map(|r| r.number);
         match call {
             Call::Add(number, file) => {
-                if refused.is_none_or(|number| [SHELF, ID, ENTRIES, NO_RUN, NOT_FOUND].contains(&number)) {
-                    must(*answer == self.added_to(before, *number, file.len()).map(|start| [start as u64, 0]), "another answer to an add")?;
-                }
+                must(*answer == self.added_to(before, *number, file).map(|start| [start as u64, 0]), "another answer to an add")?;
                 if refused.is_none() {
                     self.held.insert(*number, file.clone());
                     self.added += file.len();
@@ -62,8 +61,9 @@ impl Ledger {
         self.agrees(after)
     }
 
-    /// What an add of an accepted file answers, by the flights held and byte by byte: where so many free bytes stand one behind the other for the first time.
-    fn added_to(&self, before: &[u8], number: u32, length: usize) -> Answer<usize> {
+    /// What an add answers, by the flights held and byte by byte: where so many free bytes stand one behind the other for the first time.
+    fn added_to(&self, before: &[u8], number: u32, file: &[u8]) -> Answer<usize> {
+        check_usual_alone(file)?;
         if number == 0 || self.held.contains_key(&number) {
             return Err(Refusal::of(ID));
         }
@@ -75,8 +75,8 @@ impl Ledger {
         let mut count = 0;
         for byte in TABLE..before.len() {
             count = if is_free[byte] { count + 1 } else { 0 };
-            if count == length {
-                return Ok(byte + 1 - length);
+            if count == file.len() {
+                return Ok(byte + 1 - count);
             }
         }
         Err(Refusal::of(NO_RUN))

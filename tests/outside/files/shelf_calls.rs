@@ -175,7 +175,9 @@ fn to_find(random: &mut Random, held: &[Entry], gone: &[u32]) -> u32 {
 /// Any call on a sound shelf, of which these numbers were removed earlier.
 pub fn any(random: &mut Random, shelf: &[u8], gone: &[u32], manner: Manner) -> Call {
     let held: Vec<Entry> = flights(shelf).into_iter().map(|(_, entry)| entry).collect();
+    let is_full = held.len() == PLACES || runs(shelf).iter().all(|run| run.1 < SMALLEST);
     let of = match manner {
+        _ if is_full => 14,
         Manner::Filling => 60,
         Manner::Tight => 22,
         Manner::Any => 18,

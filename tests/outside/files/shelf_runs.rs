@@ -22,7 +22,7 @@ pub struct Broken {
 
 type Kept = Result<(), Broken>;
 
-/// A call put to the reading and held; the answer, and the shelf behind it.
+/// A call put to the reading and held, first by `keep`; the shelf behind it.
 fn put(
     shelf: &[u8],
     call: &Call,
@@ -42,7 +42,11 @@ pub fn any(random: &mut Random, reached: &mut Reached, hold: Hold) -> Kept {
     let most = *random.pick(&[3, 20, PLACES, PLACES]);
     let mut shelf = if random.once_in(3) { laid(random, size, most) } else { empty(random, size) };
     let (mut ledger, manner) = (Ledger::of(&shelf), manner(random));
-    let calls = if size > 50_000 { random.within(10, 30) } else { random.within(20, 150) };
+    let calls = match size {
+        ..800 => random.within(3, 9),
+        800..50_000 => random.within(20, 150),
+        _ => random.within(10, 40),
+    };
     for _ in 0..calls {
         let call = shelf_calls::any(random, &shelf, &ledger.gone, manner);
         shelf = step(&shelf, &call, &mut ledger, reached, hold)?;
