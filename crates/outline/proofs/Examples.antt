@@ -1,8 +1,8 @@
 -- Lines worked out by hand; computed from the definitions. Assumes nothing.
 use Prim.Native.Nat.{ℕ}
-use mathlib.Core.List.{List, [], _∷_}
+use mathlib.Core.List.{[], _∷_}
 use mathlib.Core.Path.{_≡_, refl}
-use lib.IntN.{ℤ, pos, negsuc}
+use lib.IntN.{pos, negsuc}
 use Rattle.rules.specs.Choice.{bytes}
 use Rattle.rules.specs.Numbers.{digitsOf}
 use Rattle.rules.specs.Fields.{timeText, isEither}

@@ -1,5 +1,5 @@
 -- A line has at most 320 bytes, so that a buffer of as many never cuts one. Assumes nothing.
-use Prim.Native.Nat.{ℕ, _+_, _/_, _%_, _≤_}
+use Prim.Native.Nat.{ℕ, _/_, _≤_}
 use mathlib.Core.Bool.{Bool, true, false, cond}
 use mathlib.Core.List.{List, [], _∷_, _++_}
 use mathlib.Core.Path.{refl}
@@ -8,7 +8,6 @@ use lib.Dec.{eqb}
 use lib.IntN.{ℤ, natAbs}
 use lib.ListN.{length, length-append}
 use Rattle.rules.specs.Choice.{bytes}
-use Rattle.rules.specs.Fields.{timeText}
 use Rattle.rules.specs.Listing.{decimal}
 use Rattle.rules.specs.declared.Date.{Date}
 use Rattle.dates.specs.Dates.{twoDigits, dateShown}
