@@ -14,9 +14,9 @@ behind-spec =
     (tie.spec
     (λ c. search needs)
     (λ c κs. search needs)
-    (λ c before h. search (need-eq, need-ne, need-le, need-gt, needs) depth 8)
+    (λ c before h. search (need-ne, needs) depth 8)
     (λ c κs. search needs)
-    (λ c before h. search (need-eq, need-ne, need-le, need-gt, needs) depth 8)
+    (λ c before h. search (need-eq, need-gt, needs) depth 8)
     (λ c κs. search needs)
     (λ c before h. search (need-eq, need-le, need-not-true, needs) depth 8)
     (λ c. search needs)
