@@ -14,12 +14,13 @@ pub use words::refuse_words;
 pub use words::tell;
 pub use words::verb_at;
 
-const USAGE: [u8; 598] = *b"\
-    usage: igc [list] FILE...\n       igc check FILE...\n       igc track FILE...\n       igc merge FIRST SECOND NEW\n       igc help | version\n\
-    list   each file's OK, FIX and COL lines, or why it is refused\n\
-    check  one line a file: accepted, with its date and counts, or why it is refused\n\
-    track  one line a fix: line, day, time, latitude and longitude in degrees, A or V, both altitudes\n\
-    merge  two copies of a file into NEW, with the evening notes of both; NEW must not exist\n\
+const USAGE: [u8; 767] = *b"\
+    usage: igc [list] FILE...\n       igc check FILE...\n       igc track FILE...\n       igc summary FILE...\n       igc merge FIRST SECOND NEW\n       igc help | version\n\
+    list     each file's OK, FIX and COL lines, or why it is refused\n\
+    check    one line a file: accepted, with its date and counts, or why it is refused\n\
+    track    one line a fix: line, day, time, latitude and longitude in degrees, A or V, both altitudes\n\
+    summary  one line a file: date, first and last fix, duration, highest, lowest, fixes, least and greatest latitude and longitude, name\n\
+    merge    two copies of a file into NEW, with the evening notes of both; NEW must not exist\n\
     Behind -- every word is a file's name.\n\
     Status: 0 all accepted, 1 some file refused, 2 not all was read or written, or wrong words.\n\
 ";
@@ -85,6 +86,13 @@ pub fn print_noted(name: &[u8], notes: usize) -> bool {
 pub fn print_accepted(name: &[u8], flight: Flight) -> bool {
     let mut out = [0u8; 4608];
     let n = notice::accepted(name, flight, &mut out);
+    write(&out[..n])
+}
+
+// A line of a table: a text, and the file's name at its end.
+pub fn print_tabled(text: &[u8], name: &[u8]) -> bool {
+    let mut out = [0u8; 4608];
+    let n = notice::tabled(text, name, &mut out);
     write(&out[..n])
 }
 

@@ -1,13 +1,15 @@
-// Checks, lists or merges the IGC files that its words name, or prints their tracks: igc check FILE..., igc list FILE..., igc track FILE..., igc merge FIRST SECOND NEW
+// Checks, lists or merges the IGC files that its words name, or prints their tracks or their summaries: igc check FILE..., igc list FILE..., igc track FILE..., igc summary FILE..., igc merge FIRST SECOND NEW
 // It is one exported function: C's `main` lends the memory and returns the status (c/igc.c).
 mod files;
 mod merging;
+mod summaries;
 mod tracks;
 
 ghost use Prim.Native.Nat.{_≤_};
 use files::check_named;
 use files::show_named;
 use merging::merge_named;
+use summaries::summarize_named;
 use verbs::Fate;
 use verbs::Verb;
 
@@ -17,6 +19,7 @@ fn on_file(verb: Verb, i: usize, several: bool, input: &mut [u8], table: &mut [u
     let k = os::arg(i, &mut name);
     match verb {
         Verb::Check => check_named(&name[..k], input, table),
+        Verb::Summary => summarize_named(&name[..k], input),
         _ => show_named(verb, &name[..k], several, input, table),
     }
 }

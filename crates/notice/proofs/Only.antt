@@ -5,7 +5,7 @@ use mathlib.Core.Path.{_≡_}
 use Rattle.rules.specs.declared.Flight.{Flight}
 use Rattle.rules.specs.declared.Refusal.{Refusal}
 use Rattle.pieces.proofs.Only.{only-piece-put}
-use Rattle.notice.specs.Notice.{HeadingPut, AcceptedPut, FitPut, RefusedPut, FailedPut, BothPut, NotedPut}
+use Rattle.notice.specs.Notice.{HeadingPut, AcceptedPut, FitPut, RefusedPut, FailedPut, BothPut, NotedPut, TabledPut}
 
 module _ (name out : List ℕ) (r r′ : ℕ) (after after′ : List ℕ) where
   pub only-heading-put : HeadingPut name out r after → HeadingPut name out r′ after′ → (r ≡ r′) × (after ≡ after′)
@@ -28,3 +28,6 @@ module _ (name out : List ℕ) (r r′ : ℕ) (after after′ : List ℕ) where
 
   pub only-noted-put : (notes : ℕ) → NotedPut name notes out r after → NotedPut name notes out r′ after′ → (r ≡ r′) × (after ≡ after′)
   only-noted-put notes = only-piece-put out r r′ after after′ 0 _
+
+  pub only-tabled-put : (text : List ℕ) → TabledPut text name out r after → TabledPut text name out r′ after′ → (r ≡ r′) × (after ≡ after′)
+  only-tabled-put text = only-piece-put out r r′ after after′ 0 _

@@ -1,7 +1,8 @@
 -- What the programs say of a file by its name, and the promises of the functions that put it into a buffer: as much of the text as has room.
 use Prim.Native.Nat.{ℕ}
+use Prim.Native.Char.{code}
 use mathlib.Core.Bool.{Bool, cond}
-use mathlib.Core.List.{List, _++_}
+use mathlib.Core.List.{List, _∷_, _++_}
 use lib.Dec.{eqb, leb}
 use lib.ListN.{length}
 use Rattle.rules.specs.Choice.{bytes, byte, part}
@@ -81,3 +82,7 @@ BothPut first second out r after = PiecePut out 0 (nameShown first ++ (bytes " a
 -- a file's notes, counted
 abbrev pub NotedPut : List ℕ → ℕ → List ℕ → ℕ → List ℕ → Type 0
 NotedPut name notes out r after = PiecePut out 0 (nameShown name ++ (bytes ": notes" ++ (shown notes ++ lf))) r after
+
+-- a text of a file, and at the end of its line the file's name, in which there may be spaces
+abbrev pub TabledPut : List ℕ → List ℕ → List ℕ → ℕ → List ℕ → Type 0
+TabledPut text name out r after = PiecePut out 0 (text ++ (code " " ∷ (nameShown name ++ lf))) r after

@@ -1,7 +1,7 @@
-// What the programs say of a file by its name: the heading of its listing, the line of its check, its line in the badge list, its refusal explained, its notes counted, why it was not read. Each is put at the
+// What the programs say of a file by its name: the heading of its listing, the line of its check, its line in the badge list, its line in a table, its refusal explained, its notes counted, why it was not read. Each is put at the
 // start of a lent buffer, and the answer is how many bytes that is; a full buffer takes no more.
 ghost use Rattle.pieces.specs.Buffer.{PiecePut};
-ghost use Rattle.notice.specs.Notice.{nameShown, counted, countsShown, extrasShown, signedShown, acceptedShown, recorderShown, flownShown, fitShown, HeadingPut, AcceptedPut, FitPut, RefusedPut, FailedPut, BothPut, NotedPut};
+ghost use Rattle.notice.specs.Notice.{nameShown, counted, countsShown, extrasShown, signedShown, acceptedShown, recorderShown, flownShown, fitShown, HeadingPut, AcceptedPut, FitPut, RefusedPut, FailedPut, BothPut, NotedPut, TabledPut};
 use dates::put_date;
 use pieces::put_byte;
 use pieces::put_shown;
@@ -149,5 +149,15 @@ pub fn noted(name: &[u8], notes: usize, out: &mut [u8]) -> usize
     let a = put_name(out, 0, name);
     let b = put_text(out, a, b": notes");
     let c = put_shown(out, b, notes as u64);
+    put_byte(out, c, b'\n')
+}
+
+// A text of a file, and behind it the file's name, at the end of the line, since there may be spaces in it.
+pub fn tabled(text: &[u8], name: &[u8], out: &mut [u8]) -> usize
+    ensures { λ r. ⌜ TabledPut (now (text .entry)) (now (name .entry)) (now (out .entry)) r (now (out .exit)) ⌝ }
+{
+    let a = put_text(out, 0, text);
+    let b = put_byte(out, a, b' ');
+    let c = put_name(out, b, name);
     put_byte(out, c, b'\n')
 }

@@ -21,7 +21,7 @@ use Rattle.tens.specs.Tens.{fewOf}
 use Rattle.tens.proofs.Laws.{few-most}
 use Rattle.trail.specs.Trail.{colons, behindDot, extraShown, shownSeconds, shownClock, unitsOf, withDecimals, shownDegrees, momentShown, heightsShown, recordShown}
 
-clock-length : (t : ℕ) → length (colons (timeText t)) ≡ 8
+pub clock-length : (t : ℕ) → length (colons (timeText t)) ≡ 8
 unfolding colons digitsOf
 clock-length = by-pairs (λ l. length (colons l) ≡ 8) (λ a b c. refl)
 
@@ -43,7 +43,7 @@ moment-room line day t =
     let n = fewOf (t .decimals) in
     simp length-append (omega (arith, number-room line, number-room day, clock-length (plain (t .count) n), extra-room n (t .count), few-most (t .decimals)))
 
-degrees-room : (p : FinePosition) → length (shownDegrees p) ≤ 33
+pub degrees-room : (p : FinePosition) → length (shownDegrees p) ≤ 33
 unfolding shownDegrees withDecimals behindDot
 degrees-room p =
     let n = 6 + fewOf (p .decimals) in

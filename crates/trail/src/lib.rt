@@ -34,8 +34,8 @@ fn put_extra(out: &mut [u8], at: usize, n: usize, v: u64) -> usize
     put_behind_dot(out, at, n, v)
 }
 
-// A space and HH:MM:SS, of a count of seconds.
-fn put_seconds(out: &mut [u8], at: usize, t: u32) -> usize
+// A space and HH:MM:SS, of a count of seconds; 86,400 is 23:59:60. The answer is the place behind it; a full buffer takes no more.
+pub fn put_seconds(out: &mut [u8], at: usize, t: u32) -> usize
     ensures { λ r. ⌜ PiecePut (now (out .entry)) at (shownSeconds t) r (now (out .exit)) ⌝ }
 {
     let mut six = [48u8; 6];
@@ -74,8 +74,8 @@ fn put_decimals(out: &mut [u8], at: usize, n: u8, count: u64) -> usize
     put_behind_dot(out, a, 6 + n as usize, (count % whole * 50 + 1) / 3)
 }
 
-// A space and a position in degrees.
-fn put_degrees(out: &mut [u8], at: usize, p: FinePosition) -> usize
+// A space and a position in degrees, south and west with a minus. The answer is the place behind it; a full buffer takes no more.
+pub fn put_degrees(out: &mut [u8], at: usize, p: FinePosition) -> usize
     ensures { λ r. ⌜ PiecePut (now (out .entry)) at (shownDegrees p) r (now (out .exit)) ⌝ }
 {
     let n = tens::few(p.decimals);

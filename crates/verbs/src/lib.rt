@@ -8,6 +8,7 @@ pub enum Verb {
     List,
     Check,
     Track,
+    Summary,
     Merge,
     Help,
     Version,
@@ -71,6 +72,9 @@ pub fn verb_of(word: &[u8]) -> Verb
     }
     if is_same(word, b"track") {
         return Verb::Track;
+    }
+    if is_same(word, b"summary") {
+        return Verb::Summary;
     }
     if is_same(word, b"merge") {
         return Verb::Merge;

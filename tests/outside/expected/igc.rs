@@ -1,10 +1,10 @@
-//! What the program `igc` must print of the files that tests/igc/args names, in tests/igc/data: listed, checked, and their tracks; what the program `badge` must print of them;
+//! What the program `igc` must print of the files that tests/igc/args names, in tests/igc/data: listed, checked, their tracks and their summaries; what the program `badge` must print of them;
 //! and what both must say on standard error, each time, of those that they cannot read. A name without a file, and a folder, are among them.
 
 use super::words;
 use outside::reading::explained::explained;
 use outside::reading::listing::flight;
-use outside::reading::{Accepted, Answer, badge, check_usual, track, tracked};
+use outside::reading::{Accepted, Answer, badge, check_usual, outlined, track, tracked};
 use std::path::Path;
 
 /// The most lines that a file can have: a byte and CR LF each.
@@ -66,6 +66,16 @@ fn accepted(said: &Accepted) -> String {
     let date = format!("{}-{:02}-{:02}", d.year, d.month, d.day);
     let counts = format!("lines {}, fixes {}, K lines {}, N lines {}", said.lines, said.b_lines, said.k_lines, said.n_lines);
     format!("accepted, {date}, {counts}, {}\n", if said.signed { "signed" } else { "not signed" })
+}
+
+/// One line of an accepted file, with its name at the end; of another why it is refused.
+pub fn summaries() -> Vec<u8> {
+    let line = |(name, fate): &(String, Fate)| match fate {
+        Fate::Read { file, said: Ok(said), .. } => format!("{} {name}\n", outlined(&said.date, &track(file).unwrap())),
+        Fate::Read { file, said: Err(refused), .. } => format!("{name}: {}", explained(file, refused).unwrap()),
+        Fate::Unread(_) => String::new(),
+    };
+    named().iter().map(line).collect::<String>().into_bytes()
 }
 
 /// The badge list: each file's name, and behind it its date, recorder and fixes, or why the strict check refuses it.

@@ -26,7 +26,7 @@ fn data(program: &str, name: &[u8]) -> String {
 }
 
 /// Each expected output, and what it must be.
-fn outputs() -> [(&'static str, Vec<u8>); 8] {
+fn outputs() -> [(&'static str, Vec<u8>); 9] {
     let five = fs::read("crates/listing/stdin").expect("the listing's input");
     [
         ("crates/listing/stdout", listing(&five).into_bytes()),
@@ -34,6 +34,7 @@ fn outputs() -> [(&'static str, Vec<u8>); 8] {
         ("tests/igc/listed", igc::listed()),
         ("tests/igc/checked", igc::checked()),
         ("tests/igc/tracks", igc::tracks()),
+        ("tests/igc/summaries", igc::summaries()),
         ("tests/igc/badges", igc::badges()),
         ("tests/igc/said", igc::said()),
         ("c/expected/written", writes::written_from_c()),

@@ -5,7 +5,7 @@ use super::finer::Finer;
 use super::track::Record;
 
 /// HH:MM:SS, 23:59:60 for the leap second; then, where there are extra decimals, a point and these.
-fn clock(time: Finer) -> String {
+pub fn clock(time: Finer) -> String {
     let plain = time.plain();
     let seconds =
         if plain == LEAP.into() { "23:59:60".to_string() } else { format!("{:02}:{:02}:{:02}", plain / 3600, plain / 60 % 60, plain % 60) };
@@ -17,7 +17,7 @@ fn clock(time: Finer) -> String {
 
 /// Degrees with six decimals, and one more for each extra decimal of the count; south and west negative. The count over 60,000 is count x 50 / 3 millionths, and with extra decimals
 /// as many tenths of them: a whole number, or a third above or below one, and never half between two. Count 0 is plain zero under either letter.
-fn degrees(p: &Position) -> String {
+pub fn degrees(p: &Position) -> String {
     let Finer { count, decimals } = p.count;
     let (least, wide) = ((count * 50 + 1) / 3, 6 + usize::from(decimals));
     let one = 10u64.pow(wide as u32);

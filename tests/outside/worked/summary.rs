@@ -44,6 +44,25 @@ fn one_fix() {
     assert_eq!(summary(&file(&[A, DATE])), Ok(vec![0; 12]));
 }
 
+/// The line for people. Fails where a field is left out or changes its place, where the days are left out of the duration, where a leap second is the next midnight, or where a V fix has a box.
+#[test]
+fn outlines() {
+    let line = |lines: &[&str]| {
+        let file = flight(lines);
+        let said = outside::reading::check_usual_alone(&file).unwrap();
+        outside::reading::outlined(&said.date, &track(&file).unwrap())
+    };
+    assert_eq!(line(&[B35]), "2024-07-15 12:00:00 12:00:00 0:00:00 100 100 1 51.500000 51.500000 -0.250000 -0.250000");
+    assert_eq!(line(&["K120000"]), "2024-07-15 - - - - - 0 - - - -");
+    assert_eq!(line(&["B2359600000001S00000002WV-001200120"]), "2024-07-15 23:59:60 23:59:60 0:00:00 -12 -12 1 - - - -");
+    // 22:00:00 to 01:00:05 of the next day are 3 hours and 5 seconds; 30 minutes are half a degree
+    let night = ["B2200004530000S00030000WA0050000120", "B2300004600000S00030000EV9999900120", "B0100054700000S00130000EA-010000120"];
+    assert_eq!(line(&night), "2024-07-15 22:00:00 01:00:05+1 3:00:05 99999 -100 3 -47.000000 -45.500000 -0.500000 1.500000");
+    // a K line, from which the clock falls by 43,201, brings the first fix to day 1
+    let late = ["K235959", "B1159585130000N00015000WA0010000120"];
+    assert_eq!(line(&late), "2024-07-15 11:59:58+1 11:59:58+1 0:00:00 100 100 1 51.500000 51.500000 -0.250000 -0.250000");
+}
+
 /// First and last, highest and lowest, the corners. Fails where V fixes count for the position or not for altitudes, where highest and lowest or the corners begin from 0, or where the GNSS
 /// altitude is taken.
 #[test]

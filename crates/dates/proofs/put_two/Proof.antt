@@ -1,13 +1,13 @@
--- `dates::put_dashed` meets its contract. Assumes nothing.
+-- `dates::put_two` meets its contract. Assumes nothing.
 use borrow.Author.Needs.{needs}
 use Rattle.pieces.proofs.Laws.{pieces}
 use Rattle.dates.specs.Dates.{twoDigits}
-use Rattle.dates.proofs.put_dashed.Statement.{statement}
-use Rattle.dates.proofs.put_dashed.Tie as tie
+use Rattle.dates.proofs.put_two.Statement.{statement}
+use Rattle.dates.proofs.put_two.Tie as tie
 
-pub put-dashed-spec : {M : Type 1} → statement M
+pub put-two-spec : {M : Type 1} → statement M
 unfolding twoDigits
-put-dashed-spec =
+put-two-spec =
     tie.close
     (tie.spec
     (λ c κs. search needs)

@@ -1,0 +1,2 @@
+-- The line of a flight's summary, for people.
+pub mod Outline
