@@ -1,5 +1,5 @@
 -- Demand 2, what is claimed. Each claim is a line from the room that proves it; its words stand in specs/ (Grammar, Coming, Checks, Faults, Signed, FieldTexts, Readings,
--- BothWays, Endings, ReadersRefuse) and in the specs/ of words, the definitions that it is about in the rules. Assumes nothing.
+-- BothWays, Endings, ReadersRefuse, Looking) and in the specs/ of words, the definitions that it is about in the rules. Assumes nothing.
 --
 -- How these definitions are the library's answers: `file::check` answers `verdict seal file (some (length table))` and leaves `tableAfter seal file table` (promise FileChecked),
 -- `file::check_untabled` answers `verdict seal file none` (FileJudged); `cut::bounds` answers `boundsOf` (LineGiven), `Cursor::step` answers `stepAt` (LineStepped), the readers
@@ -63,8 +63,9 @@ use Rattle.demands.specs.Faults.{PassAfter, Refused}
 use Rattle.demands.specs.Signed.{HasGLine}
 use Rattle.demands.specs.FieldTexts.{FieldsTold}
 use Rattle.demands.specs.Coming.{Meant}
-use Rattle.demands.specs.Readings.{ReadsColumns, OnMap, Readable}
+use Rattle.demands.specs.Readings.{IsName, ReadsColumns, OnMap, Readable}
 use Rattle.demands.specs.ReadersRefuse.{ReadersRefuse, NamesMeant}
+use Rattle.demands.specs.Looking.{LooksExactly}
 use Rattle.demands.specs.Endings.{EndingsMeant, IsNumbered, IsStep}
 use Rattle.demands.specs.BothWays.{Slotted, ReadsAs, BothWays}
 use Rattle.demands.proofs.Leading.{fits-there, fits-so}
@@ -83,6 +84,7 @@ use Rattle.demands.proofs.Readers.{date-exactly, event-exactly, satelli
 use Rattle.demands.proofs.Writers.{both-ways, trip-ways}
 use Rattle.demands.proofs.Endings as endings
 use Rattle.demands.proofs.ReadersRefuse as readers
+use Rattle.demands.proofs.Looking as looks
 use Rattle.demands.proofs.Worked as worked
 
 -- ---- the verdict on a file by each check, the usual one and the strict one (`seal`), with a table of `room` entries or without one
@@ -214,6 +216,11 @@ module _ (i : Slotted) (l : List ℕ) where
 -- and the columns of such a line, by the look into the entries: the text and the number of each code that the layout carries, 19 for every other code
 pub columns-exactly : (family : Family) (i : Slotted) → allowed (firstStart family) (i .layout) ≡ true → (t : ℕ) (l : List ℕ) → IsColumned family (i .layout) t l → ReadsColumns family (i .layout) l
 columns-exactly family i g t l w = readings.line-columns family (i .layout) t l (record { right = g; full = i .slots }) w
+
+-- the look, whatever line and entries it is given: 17 exactly of a bad answer, else 19 exactly where no entry has the code, else the place and the text of the entry that has
+-- it; and as a number 20 exactly where that text spells none, else the number that it spells
+pub looks-exactly : (l : List ℕ) (es : Layout) (name : List ℕ) → IsName name → LooksExactly l es name
+looks-exactly = looks.looks-exactly
 
 -- I lines, J lines and M lines
 pub layouts-exactly : (family : Family) (layout : Layout) (l : List ℕ) → (layoutSaid family l ≡ says layout) ↔ IsLayoutLine family layout l

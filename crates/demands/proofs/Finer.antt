@@ -48,10 +48,10 @@ found-in x (e ∷ es) n s h = by (eqb (e .code) x) refl h (found-in x es (suc n)
         record { before = e ∷ c .before; entry = c .entry; after = c .after; order = ap (λ y. e ∷ y) (c .order); coded = c .coded }
 
 -- what is so of each entry is so of the one that has a code
-carried-so : {es : List Entry} {name : List ℕ} (P : Entry → Type 0) → Each P es → (c : Carries es name) → P (c .entry)
+pub carried-so : {es : List Entry} {name : List ℕ} (P : Entry → Type 0) → Each P es → (c : Carries es name) → P (c .entry)
 carried-so P h c = each-cut P (c .before) (c .entry ∷ c .after) (subst (Each P) (c .order) h) .1 .0
 
-one-code : (x y : ℕ) → codeText x ≡ codeText y → x ≡ y
+pub one-code : (x y : ℕ) → codeText x ≡ codeText y → x ≡ y
 one-code x y e = sym (packed-back x) ∙ ap packedOf e ∙ packed-back y
 
 -- ---- a text of digits

@@ -18,6 +18,7 @@ pub mod Writers
 pub mod Worked
 pub mod Endings
 pub mod ReadersRefuse
+pub mod Looking
 pub mod Demands
 pub mod Promised
 pub mod Left

@@ -103,7 +103,7 @@ module _ (i : Slotted) (l : List ℕ) where
 -- ---- the look into entries
 
 -- the tests of its 17, in the grammar's words
-once-same : (es : List Entry) → not (twice es) ≡ areOnce es
+pub once-same : (es : List Entry) → not (twice es) ≡ areOnce es
 unfolding twice areOnce
 once-same [] = refl
 once-same (e ∷ es) = not-or (carriedIn es (e .code)) (twice es) ∙ ap (λ b. not b && not (twice es)) (there (lookIn es (e .code)) ∙ found-has (e .code) es 0) ∙ ap (λ b. not (hasCode es (e .code)) && b) (once-same es)
@@ -116,7 +116,7 @@ once-same (e ∷ es) = not-or (carriedIn es (e .code)) (twice es) ∙ ap (λ b. 
     there none = refl
     there (some s) = refl
 
-within-same : (n : ℕ) (es : List Entry) (k : ℕ) → given (firstOf (λ (e : Entry). not (isInside n e)) (λ (k : ℕ) (e : Entry). k) es k) true (λ k. false) ≡ areWithin n es
+pub within-same : (n : ℕ) (es : List Entry) (k : ℕ) → given (firstOf (λ (e : Entry). not (isInside n e)) (λ (k : ℕ) (e : Entry). k) es k) true (λ k. false) ≡ areWithin n es
 unfolding isInside areWithin firstOf
 within-same n [] k = refl
 within-same n (e ∷ es) k = go (leb 1 (e .first)) (leb (e .first) (e .last)) (leb (e .last) n) (within-same n es (suc k))

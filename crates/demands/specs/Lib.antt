@@ -8,4 +8,5 @@ pub mod Readings
 pub mod BothWays
 pub mod Endings
 pub mod ReadersRefuse
+pub mod Looking
 pub mod Left

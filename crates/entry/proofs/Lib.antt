@@ -1,4 +1,5 @@
 -- Laws that the proofs share, and that each promise has one answer.
 pub mod Laws
 pub mod Turns
+pub mod Codes
 pub mod Only

@@ -2,7 +2,7 @@
 ghost use Prim.Native.Nat.{_≤_};
 ghost use mathlib.Core.Path.{_≡_};
 ghost use Rattle.rules.specs.Refusals.{no};
-ghost use Rattle.entry.specs.Parts.{SpotFound, CarriesTest, EntryPlaced, CodeGiven, EntryGiven, entryTold};
+ghost use Rattle.entry.specs.Parts.{isAmong, codedBy, SpotFound, CarriesTest, EntryPlaced, PlacedBehind, CodeGiven, EntryGiven, entryTold};
 pub use basics::empty_layout;
 use rules::Entry;
 use rules::Layout;
@@ -62,10 +62,9 @@ fn refuse(reason: Reason, byte: u32) -> EntryRead
     })
 }
 
-// An entry that has to start at `start`, behind those of a layout, refusals at the byte `first`: 10 where it does not start there or ends before it starts,
-// 11 where its code was there before, 12 where its code is listed and its width is wrong.
-pub fn placed(start: usize, before: Layout, e: Entry, first: u32) -> EntryRead
-    ensures { λ r. ⌜ EntryPlaced start before e first r ⌝ }
+// An entry that has to start at `start`, behind others, of which it is known whether one has its code; refusals at the byte `first`.
+fn behind(start: usize, again: bool, e: Entry, first: u32) -> EntryRead
+    ensures { λ r. ⌜ PlacedBehind start again e first r ⌝ }
 {
     if e.first as usize != start {
         return refuse(Reason::Tile, first);
@@ -73,13 +72,38 @@ pub fn placed(start: usize, before: Layout, e: Entry, first: u32) -> EntryRead
     if e.last < e.first {
         return refuse(Reason::Tile, first);
     }
-    if carries(before, e.code) {
+    if again {
         return refuse(Reason::Twice, first);
     }
     if !listed::width_fits(e.code, (e.last - e.first) as usize + 1) {
         return refuse(Reason::Width, first);
     }
     EntryRead::Is(e)
+}
+
+// An entry that has to start at `start`, behind those of a layout, refusals at the byte `first`: 10 where it does not start there or ends before it starts,
+// 11 where its code was there before, 12 where its code is listed and its width is wrong.
+pub fn placed(start: usize, before: Layout, e: Entry, first: u32) -> EntryRead
+    ensures { λ r. ⌜ EntryPlaced start before e first r ⌝ }
+{
+    behind(start, carries(before, e.code), e, first)
+}
+
+// Whether a code is among the first n of a list.
+fn is_among(codes: &[u32], n: usize, code: u32) -> bool
+    ensures { λ r. ⌜ r ≡ isAmong (now (codes .entry)) n code ⌝ }
+{
+    let mut i = 0;
+    while i < codes.len() {
+        if n <= i {
+            return false;
+        }
+        if codes[i] == code {
+            return true;
+        }
+        i += 1;
+    }
+    false
 }
 
 // A code's three characters as one number.
@@ -103,10 +127,10 @@ fn code_at(line: &[u8], at: usize) -> Letters
     ))
 }
 
-// The entry of a line behind i others, that has to start at `start` behind those of a layout. 9 at the first byte of SS, FF or CCC, whichever breaks its
-// rule first; then 10, 11 and 12 at the entry's first byte.
-pub fn entry_at(line: &[u8], i: u8, start: usize, before: Layout) -> EntryRead
-    ensures { λ r. ⌜ EntryGiven (now (line .entry)) i start before r ⌝ }
+// The entry of a line behind i others, whose codes are the first i of a list, and that has to start at `start`. 9 at the first byte of SS, FF or CCC, whichever
+// breaks its rule first; then 10, 11 and 12 at the entry's first byte. The codes are borrowed: a layout would be copied at each call.
+pub fn entry_at(line: &[u8], i: u8, start: usize, codes: &[u32]) -> EntryRead
+    ensures { λ r. ⌜ EntryGiven (now (line .entry)) i start (codedBy (now (codes .entry)) i) r ⌝ }
 {
     let at = 3 + 7 * (i as usize);
     let Number::Value(ss) = number::digits(line, at, 2) else {
@@ -120,5 +144,6 @@ pub fn entry_at(line: &[u8], i: u8, start: usize, before: Layout) -> EntryRead
     };
     let first = ss as u8;
     let last = ff as u8;
-    placed(start, before, Entry { first, last, code }, at as u32 + 1)
+    let again = is_among(codes, i as usize, code);
+    behind(start, again, Entry { first, last, code }, at as u32 + 1)
 }

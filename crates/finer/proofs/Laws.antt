@@ -1,19 +1,20 @@
 -- Where a column stands, how many digits it has and what they spell, from what the code found; and that no count wraps. Assumes nothing.
 use Prim.Native.Nat.{ℕ, _+_, _-_, _*_, _^_, _≤_, _<_}
-use mathlib.Core.Bool.{Bool, true, false}
+use mathlib.Core.Bool.{Bool, true, false, _&&_, cond}
 use mathlib.Core.List.{List}
-use mathlib.Core.Option.{Option, none, some}
+use mathlib.Core.Option.{Option}
 use mathlib.Core.Path.{_≡_, refl, sym, ap, _∙_}
 use native.Mathlib.Nat.{mul-le-mul-left}
 use native.Mathlib.Omega.{arith}
-use borrow.Author.Tests.{le-leb, lt-leb, leb-true, eq-eqb, ne-eqb}
-use lib.Dec.{leb}
-use lib.ListN.{length}
-use Rattle.rules.specs.Choice.{given, need, part, byte}
+use borrow.Author.Tests.{le-leb, lt-leb, leb-true, eq-eqb, ne-eqb, ltb-true, ltb-false}
+use lib.Dec.{eqb, leb, ltb}
+use lib.ListN.{length, getD, drop}
+use Rattle.rules.specs.Choice.{given, need, firstOf, part, byte}
 use Rattle.rules.specs.Fields.{mostLatitude, mostLongitude}
-use Rattle.rules.specs.Layouts.{look}
+use Rattle.rules.specs.Layouts.{unused, entriesOf, Span, spanOf, look}
 use Rattle.rules.specs.Numbers.{numberAt, numberTold}
 use Rattle.rules.specs.Fixes.{noReach, reachOf, decimalsOf, digitsAt, refined}
+use Rattle.rules.specs.declared.Entry.{Entry}
 use Rattle.rules.specs.declared.FinePosition.{FinePosition}
 use Rattle.rules.specs.declared.FineTime.{FineTime}
 use Rattle.rules.specs.declared.Finer.{Finer}
@@ -24,24 +25,58 @@ use Rattle.rules.specs.declared.Number.{Number}
 use Rattle.rules.specs.declared.Number.the-variants as number
 use Rattle.rules.specs.declared.Position.{Position}
 use Rattle.rules.specs.declared.Reach.{Reach}
-use Rattle.entry.specs.Parts.{spotTold}
-use Rattle.entry.specs.declared.Spot.{Spot}
-use Rattle.entry.specs.declared.Spot.the-variants as spot
+use Rattle.entry.proofs.Turns.{entry-hit, entry-miss, entry-past, entry-end}
 use Rattle.trips.proofs.Refined.{digits-below}
 use Rattle.tens.specs.Tens.{powerOf}
 use Rattle.tens.proofs.Laws.{power-all, power-most}
-use Rattle.finer.specs.Within.{within, timeWithin, positionWithin, fixWithin}
+use Rattle.finer.specs.Within.{reachedBy, within, timeWithin, positionWithin, fixWithin}
 
 -- ---- where a column stands
 
-module _ (layout : Layout) (x : ℕ) (r : Spot) (e : spotTold r ≡ look layout x) where
-  pub reach-at : (a z : ℕ) → r ≡ spot.At a z → record { first = a; last = z } ≡ reachOf layout x
-  unfolding spotTold reachOf
-  reach-at a z g = rw (← e, g)
+-- from the entry behind i others on
+module _ (l : Layout) (x : ℕ) where
+  abbrev pub reachFrom : ℕ → Reach
+  reachFrom i = given (firstOf (λ (e : Entry). eqb (e .code) x) (λ (k : ℕ) (e : Entry). spanOf e) (drop i (entriesOf l)) i) noReach λ s. record { first = s .first; last = s .last }
 
-  pub reach-none : r ≡ spot.Nowhere → noReach ≡ reachOf layout x
-  unfolding spotTold reachOf
-  reach-none g = rw (← e, g)
+  abbrev reachOr : Option Span → Reach
+  reachOr o = given o noReach λ s. record { first = s .first; last = s .last }
+
+  pub reach-end : length (l .entries) ≡ 13 → noReach ≡ reachFrom 13
+  reach-end e = sym (ap reachOr (entry-end (λ (e : Entry). eqb (e .code) x) (λ (k : ℕ) (e : Entry). spanOf e) l 13 e (omega arith)))
+
+  pub reach-first : reachFrom 0 ≡ reachOf l x
+  unfolding reachOf look
+  reach-first = refl
+
+  -- one entry more, at the front
+  pub reach-more : length (l .entries) ≡ 13 → (i : ℕ) → i < 13 → reachedBy (reachFrom (i + 1)) (ltb i (l .count)) (getD (l .entries) i unused) x ≡ reachFrom i
+  reach-more e i h = go (ltb i (l .count)) (eqb (getD (l .entries) i unused .code) x) refl refl
+    where
+      go : (t u : Bool) → ltb i (l .count) ≡ t → eqb (getD (l .entries) i unused .code) x ≡ u
+          → cond (t && u) (record { first = getD (l .entries) i unused .first; last = getD (l .entries) i unused .last }) (reachFrom (i + 1)) ≡ reachFrom i
+      go false u p q =
+          let k = ltb-false _ _ p in
+          ap reachOr (entry-past (λ (e : Entry). eqb (e .code) x) (λ (k : ℕ) (e : Entry). spanOf e) l (i + 1) (omega (arith, k)))
+          ∙ sym (ap reachOr (entry-past (λ (e : Entry). eqb (e .code) x) (λ (k : ℕ) (e : Entry). spanOf e) l i k))
+      go true true p q = sym (ap reachOr (entry-hit (λ (e : Entry). eqb (e .code) x) (λ (k : ℕ) (e : Entry). spanOf e) l i e h (ltb-true _ _ p) q))
+      go true false p q = sym (ap reachOr (entry-miss (λ (e : Entry). eqb (e .code) x) (λ (k : ℕ) (e : Entry). spanOf e) l i e h (ltb-true _ _ p) q))
+
+  -- the turn of a loop that goes to the front
+  pub reach-turn : length (l .entries) ≡ 13 → (i : ℕ) → 0 < i → i ≤ 13 → (was r : Reach) → was ≡ reachFrom i
+      → r ≡ reachedBy was (ltb (i - 1) (l .count)) (getD (l .entries) (i - 1) unused) x → r ≡ reachFrom (i - 1)
+  reach-turn e i a b was r h g =
+      let n : i ≡ i - 1 + 1 = omega arith in
+      g ∙ ap (λ y. reachedBy y (ltb (i - 1) (l .count)) (getD (l .entries) (i - 1) unused) x) (h ∙ ap reachFrom n) ∙ reach-more e (i - 1) (omega arith)
+
+module _ (was : Reach) (t : Bool) (e : Entry) (x : ℕ) where
+  pub reached-off : t ≡ false → was ≡ reachedBy was t e x
+  reached-off h = rw h
+
+  pub reached-here : t ≡ true → e .code ≡ x → record { first = e .first; last = e .last } ≡ reachedBy was t e x
+  reached-here h g = rw (h, eq-eqb _ _ g)
+
+  pub reached-not : t ≡ true → (e .code ≡ x → ⊥) → was ≡ reachedBy was t e x
+  reached-not h g = rw (h, ne-eqb _ _ g)
 
 pub three : (t a o t' a' o' : Reach) → t ≡ t' → a ≡ a' → o ≡ o' → _≡_ {A = Finer} (record { time = t; lat = a; lon = o }) (record { time = t'; lat = a'; lon = o' })
 three t a o t' a' o' e f g = rw (e, f, g)

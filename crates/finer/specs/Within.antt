@@ -1,12 +1,14 @@
 -- A fix made of any line, any columns of finer digits and any fields: `fixOf` of the rules, where the counts and the numbers of digits are within their limits, so that no number
 -- wraps. The promises of this crate.
 use Prim.Native.Nat.{ℕ}
+use mathlib.Core.Bool.{Bool, _&&_, cond}
 use mathlib.Core.List.{List}
 use mathlib.Core.Path.{_≡_}
-use lib.Dec.{leb}
+use lib.Dec.{eqb, leb}
 use Rattle.rules.specs.Choice.{need}
 use Rattle.rules.specs.Fields.{mostLatitude, mostLongitude}
 use Rattle.rules.specs.Fixes.{finerOf, decimalsOf, refined}
+use Rattle.rules.specs.declared.Entry.{Entry}
 use Rattle.rules.specs.declared.FinePosition.{FinePosition}
 use Rattle.rules.specs.declared.FineTime.{FineTime}
 use Rattle.rules.specs.declared.Finer.{Finer}
@@ -15,6 +17,10 @@ use Rattle.rules.specs.declared.FixFields.{FixFields}
 use Rattle.rules.specs.declared.Layout.{Layout}
 use Rattle.rules.specs.declared.Position.{Position}
 use Rattle.rules.specs.declared.Reach.{Reach}
+
+-- where a code's column stands, by an entry before those that told it: the entry's own place, where it counts and has the code
+abbrev pub reachedBy : Reach → Bool → Entry → ℕ → Reach
+reachedBy was counts e x = cond (counts && eqb (e .code) x) (record { first = e .first; last = e .last }) was
 
 -- a count of `most` at most with a column of at most so many digits is refined; any other is 0
 unfoldable pub within : ℕ → ℕ → ℕ → List ℕ → Reach → ℕ

@@ -1,9 +1,9 @@
 // The finer digits of a B line: where a layout has the columns TDS, LAD and LOD, and the fix that their digits make of the fields before the columns.
 ghost use Prim.Native.Nat.{_≤_};
 ghost use mathlib.Core.Path.{_≡_};
-ghost use Rattle.rules.specs.Fixes.{reachOf, decimalsOf, digitsAt, refined};
-ghost use Rattle.finer.specs.Within.{within, timeWithin, positionWithin, FinerGiven, DecimalsGiven, FixMade};
-use entry::Spot;
+ghost use Rattle.rules.specs.Fixes.{decimalsOf, digitsAt, refined};
+ghost use Rattle.finer.specs.Within.{reachedBy, within, timeWithin, positionWithin, FinerGiven, DecimalsGiven, FixMade};
+use rules::Entry;
 use rules::FinePosition;
 use rules::FineTime;
 use rules::Finer;
@@ -14,23 +14,42 @@ use rules::Number;
 use rules::Position;
 use rules::Reach;
 
-// Where the column of a code stands; 0 and 0 where the layout has none.
-fn reach_of(layout: Layout, code: u32) -> Reach
-    ensures { λ r. ⌜ r ≡ reachOf layout code ⌝ }
+// Where the column of a code stands: that of an entry, where it counts and has the code; else where it stood.
+fn reached(was: Reach, counts: bool, e: Entry, code: u32) -> Reach
+    ensures { λ r. ⌜ r ≡ reachedBy was counts e code ⌝ }
 {
-    match entry::look(layout, code) {
-        Spot::At(first, last) => Reach { first, last },
-        Spot::Nowhere => Reach { first: 0, last: 0 },
+    if !counts {
+        return was;
     }
+    if e.code == code {
+        return Reach {
+            first: e.first,
+            last: e.last,
+        };
+    }
+    was
 }
 
-// Where a layout for B lines has the columns of finer digits: TDS, LAD and LOD.
+// Where a layout for B lines has the columns of finer digits: TDS, LAD and LOD. The entries are gone through once, from the last to the first, so that the first one of a code
+// is what is told; each look by itself would copy the layout.
 pub fn finer_of(layout: Layout) -> Finer
     ensures { λ r. ⌜ FinerGiven layout r ⌝ }
 {
-    let time = reach_of(layout, listed::pack(b'T', b'D', b'S'));
-    let lat = reach_of(layout, listed::pack(b'L', b'A', b'D'));
-    let lon = reach_of(layout, listed::pack(b'L', b'O', b'D'));
+    let tds = listed::pack(b'T', b'D', b'S');
+    let lad = listed::pack(b'L', b'A', b'D');
+    let lod = listed::pack(b'L', b'O', b'D');
+    let n = layout.count;
+    let mut time = Reach { first: 0, last: 0 };
+    let mut lat = Reach { first: 0, last: 0 };
+    let mut lon = Reach { first: 0, last: 0 };
+    let mut i: usize = 13;
+    while 0 < i {
+        i -= 1;
+        let e = layout.entries[i];
+        time = reached(time, i < n, e, tds);
+        lat = reached(lat, i < n, e, lad);
+        lon = reached(lon, i < n, e, lod);
+    }
     Finer { time, lat, lon }
 }
 

@@ -1,13 +1,8 @@
-// Layouts: the columns that an I, a J or an M line tells. A layout read from its line, and what a layout says as a value; its entries and the listed codes behind it.
+// Layouts: the columns that an I, a J or an M line tells. A layout read from its line, and what a layout says as a value.
 mod reading;
 mod values;
 
-pub use entry::Spot;
 pub use entry::empty_layout;
-pub use entry::look;
-pub use listed::keeps_rule;
-pub use listed::listed_at;
-pub use listed::pack;
 pub use reading::layout_line;
 pub use reading::refused;
 pub use values::allowed;

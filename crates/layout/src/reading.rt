@@ -1,8 +1,7 @@
 // An I, a J or an M line: its shape, then its number of entries, then its entries from the left.
-ghost use Prim.Native.Nat.{_<_, _≤_};
-ghost use mathlib.Core.Path.{_≡_};
+ghost use Prim.Native.Nat.{_≤_};
 ghost use lib.ListN.{length};
-ghost use Rattle.rules.specs.Layouts.{LayoutTold, emptyLayout, withEntry, entriesFrom, layoutFields};
+ghost use Rattle.rules.specs.Layouts.{LayoutTold, emptyLayout, entriesFrom, layoutFields};
 ghost use Rattle.rules.specs.Promises.{LayoutChecked};
 ghost use Rattle.layout.specs.Parts.{LayoutRefused};
 use entry::EntryRead;
@@ -28,30 +27,25 @@ pub fn refused(why: Refusal) -> LayoutRead
     }
 }
 
-// One entry more, behind those that are there.
-pub(crate) fn with_entry(l: Layout, e: Entry) -> Layout
-    requires { ⌜ l .count < 13 ⌝ }
-    ensures { λ r. ⌜ r ≡ withEntry l e ⌝ }
-{
-    let n = l.count;
-    let mut next = l;
-    next.entries[n] = e;
-    next.count = n + 1;
-    next
-}
-
-// The entries of a line, `count` of them, the first of which has to start at `origin`.
+// The entries of a line, `count` of them, the first of which has to start at `origin`. The codes stand by themselves too, so that they can be lent.
 fn entries(line: &[u8], count: usize, origin: usize) -> LayoutRead
     requires { ⌜ count ≤ 13 ⌝ }
     ensures { λ r. ⌜ LayoutTold (entriesFrom count (now (line .entry)) 3 origin emptyLayout) r ⌝ }
 {
-    let mut layout = empty_layout();
+    let unused = Entry {
+        first: 0,
+        last: 0,
+        code: 0,
+    };
+    let mut entries = [unused; 13];
+    let mut codes: [u32; 13] = [0; 13];
     let mut start = origin;
     let mut i = 0;
     while i < count {
-        match entry::entry_at(line, i as u8, start, layout) {
+        match entry::entry_at(line, i as u8, start, &codes) {
             EntryRead::Is(e) => {
-                layout = with_entry(layout, e);
+                entries[i] = e;
+                codes[i] = e.code;
                 start = e.last as usize + 1;
             }
             EntryRead::Refused(why) => {
@@ -62,7 +56,7 @@ fn entries(line: &[u8], count: usize, origin: usize) -> LayoutRead
     }
     LayoutRead {
         outcome: Outcome::Accepted,
-        layout,
+        layout: Layout { count, entries },
     }
 }
 

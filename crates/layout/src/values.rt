@@ -1,13 +1,12 @@
 // A layout as a value: whether a line can tell it, and what it says of a line's length and columns.
-ghost use Prim.Native.Nat.{_-_, _≤_};
+ghost use Prim.Native.Nat.{_-_, _<_, _≤_};
 ghost use mathlib.Core.Path.{_≡_};
 ghost use lib.ListN.{drop, getD};
 ghost use Rattle.rules.specs.Choice.{leads};
 ghost use Rattle.rules.specs.Listed.{isCodeWord, listed, unlisted};
-ghost use Rattle.rules.specs.Layouts.{entriesOf, emptyLayout, isSpelt, isUnused, allPlaced, bit, wordFrom};
+ghost use Rattle.rules.specs.Layouts.{entriesOf, emptyLayout, withEntry, isSpelt, isUnused, allPlaced, bit, wordFrom};
 ghost use Rattle.rules.specs.Promises.{AllowedTest, LengthGiven, PresenceGiven};
 ghost use Rattle.layout.specs.Parts.{EntryTest, LineLength};
-use crate::reading::with_entry;
 use entry::EntryRead;
 use entry::carries;
 use entry::empty_layout;
@@ -61,6 +60,18 @@ fn follows(start: usize, before: Layout, e: Entry) -> bool
         return false;
     };
     true
+}
+
+// One entry more, behind those that are there.
+fn with_entry(l: Layout, e: Entry) -> Layout
+    requires { ⌜ l .count < 13 ⌝ }
+    ensures { λ r. ⌜ r ≡ withEntry l e ⌝ }
+{
+    let n = l.count;
+    let mut next = l;
+    next.entries[n] = e;
+    next.count = n + 1;
+    next
 }
 
 // Whether each entry follows those before it, the first one at `origin`.

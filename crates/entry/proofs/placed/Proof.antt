@@ -1,28 +1,12 @@
--- `entry::placed` meets its contract: its tests are those of the definition, in their order. Assumes nothing.
+-- `entry::placed` meets its contract: whether the code was there before is what `carries` says. Assumes nothing.
 use borrow.Author.Needs.{needs}
-use borrow.Author.Tests.{not-true, not-false}
-use Rattle.rules.specs.Layouts.{placed}
-use Rattle.rules.proofs.Links.{need-eq, need-ne, need-le, need-gt, need-true, need-false, need-not-true, need-not-false}
-use Rattle.entry.specs.Parts.{entryTold}
 use Rattle.entry.proofs.placed.Statement.{statement}
 use Rattle.entry.proofs.placed.Tie as tie
 
 pub placed-spec : {M : Type 1} → statement M
-unfolding placed entryTold
 placed-spec =
     tie.close
     (tie.spec
-    (λ c. search needs)
-    (λ c κs. search needs)
-    (λ c. search (need-eq, need-ne, need-le, need-gt, needs) depth 8)
-    (λ c κs. search needs)
-    (λ c. search (need-eq, need-ne, need-le, need-gt, needs) depth 8)
     (λ c κs. search needs)
     (λ c κs. search needs)
-    (λ c. search (need-eq, need-le, need-not-true, needs) depth 8)
-    (λ c. search needs)
-    (λ c. search needs)
-    (λ c κs. search needs)
-    (λ c κs. search needs)
-    (λ c. search (need-eq, need-le, need-not-false, need-false, not-true, needs) depth 8)
-    (λ c. search (need-eq, need-le, need-not-false, need-true, not-false, needs) depth 8))
+    (λ c. c .behind .ensures _ (c .before .carries .ensures)))
