@@ -195,7 +195,9 @@ uint32_t hive_summary(const uint8_t *file, size_t file_length, uint32_t old,
 
 /* A shelf is a buffer of 768 to 16,777,216 bytes: a table of contents of 64 entries of 12 bytes, then the bodies of the flights from offset 768 on. An entry is flight number, start and
    length, each a uint32_t with its low byte first; an entry whose flight number is 0 is free, and its other bytes are 0. Bodies have at least one byte, lie inside the part from 768 on and
-   don't overlap, and no flight number is used twice. A buffer of zeros is an empty shelf. Any other buffer is refused with HIVE_SHELF, before anything else, by each of the four calls.
+   don't overlap, and no flight number is used twice. A buffer of zeros is an empty shelf. A buffer that
+   breaks one of these rules is refused with HIVE_SHELF by each of the four calls, before all but 17 for the answer's length. A start that was told holds until the shelf is next changed; and a body
+   on the shelf is not lent as the file that is added to it, as nothing that is lent for writing overlaps what else is lent.
    What a body says isn't looked at again. Every refusal but the file's own comes with line 0 and byte 0, and the shelf is changed by none. */
 enum { HIVE_SHELF_LEAST = 768, HIVE_SHELF_MOST = 16777216, HIVE_SHELF_FLIGHTS = 64 };
 

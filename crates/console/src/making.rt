@@ -22,19 +22,13 @@ fn fill(name: &[u8], fd: i32, made: &[u8]) -> bool {
     kept
 }
 
-// A new file of these bytes; where there is one by that name, it stays as it is. One that cannot be written whole is removed again: cut off behind a note, it would pass for a
-// file that has no more.
-pub fn make(name: &[u8], made: &[u8]) -> bool {
+// A new file, open for writing; where there is one by that name, it stays as it is. Below 0, and said, where it cannot be made.
+pub fn open_new(name: &[u8]) -> i32 {
     let fd = os::create(name);
     if fd < 0 {
         say_unmade(name);
-        return false;
     }
-    if fill(name, fd, made) {
-        return true;
-    }
-    drop_made(name);
-    false
+    fd
 }
 
 // What was written of a file is removed again.
@@ -44,23 +38,36 @@ fn drop_made(name: &[u8]) {
     }
 }
 
-// The bytes written whole to a new file, which then takes a name that another has.
-fn put_over(beside: &[u8], name: &[u8], made: &[u8]) -> bool {
-    if !make(beside, made) {
+// A new file that is open is closed, and removed again.
+pub fn give_up(name: &[u8], fd: i32) {
+    libc::close(fd);
+    drop_made(name);
+}
+
+// A new file of these bytes; where there is one by that name, it stays as it is. One that cannot be written whole is removed again: cut off behind a note, it would pass for a
+// file that has no more.
+pub fn make(name: &[u8], made: &[u8]) -> bool {
+    let fd = open_new(name);
+    if fd < 0 {
         return false;
     }
-    if os::rename(beside, name) < 0 {
+    if fill(name, fd, made) {
+        return true;
+    }
+    drop_made(name);
+    false
+}
+
+// The bytes in the place of a file: a new file, which is open, is written whole and then takes the other's name. Where that fails the new one is removed, and the old one stays as it is.
+pub fn replace(name: &[u8], new: &[u8], fd: i32, made: &[u8]) -> bool {
+    if !fill(new, fd, made) {
+        drop_made(new);
+        return false;
+    }
+    if os::rename(new, name) < 0 {
         say_unplaced(name);
-        drop_made(beside);
+        drop_made(new);
         return false;
     }
     true
-}
-
-// The bytes in the place of a file: a new file beside it, with `.new` at the end of its name, is written whole, and then takes the name. Where that fails the old one stays as it is; where
-// there is a file by the new one's name already, that stays too, and nothing is done.
-pub fn replace(name: &[u8], made: &[u8]) -> bool {
-    let mut beside = [0u8; 4608];
-    let n = notice::beside(name, &mut beside);
-    put_over(&beside[..n], name, made)
 }

@@ -73,7 +73,7 @@ fn pack_sound(shelf: &mut [u8])
     }
 }
 
-// A shelf packed: its bodies moved to the front in order of start, without gaps, and no other byte changed. Refused with 27 where the buffer breaks the rules of a
+// A shelf packed: its bodies moved to the front in order of start, without gaps, their starts told anew, and no other byte changed. Refused with 27 where the buffer breaks the rules of a
 // shelf, and then nothing changes.
 pub fn pack(shelf: &mut [u8]) -> Outcome
     ensures { λ r. ⌜ ShelfPacked (now (shelf .entry)) r (now (shelf .exit)) ⌝ }

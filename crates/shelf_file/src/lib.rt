@@ -18,12 +18,15 @@ fn refuse(name: &[u8], why: Refusal) -> Fate {
     fate_of(print_refused(name, b"", why), Fate::Refused)
 }
 
-// A changed shelf in the old one's place, or why it is not changed.
-fn keep(name: &[u8], shelf: &[u8], done: Outcome) -> Fate {
+// A changed shelf in the old one's place; or why it is not changed, and then the new file is given up.
+fn keep(name: &[u8], new: &[u8], fd: i32, shelf: &[u8], done: Outcome) -> Fate {
     match done {
-        Outcome::Refused(why) => refuse(name, why),
+        Outcome::Refused(why) => {
+            console::give_up(new, fd);
+            refuse(name, why)
+        }
         Outcome::Accepted => {
-            if !console::replace(name, shelf) {
+            if !console::replace(name, new, fd, shelf) {
                 return Fate::Unwritten;
             }
             Fate::Accepted
@@ -31,22 +34,18 @@ fn keep(name: &[u8], shelf: &[u8], done: Outcome) -> Fate {
     }
 }
 
-// Whether a refusal of adding is the file's own, by the usual check: those of the shelf come behind them.
+// Whether a refusal of adding is the file's own, by the usual check: the shelf's own numbers are greater.
 fn is_of_file(why: Refusal) -> bool {
     let reason = why.reason;
     refusals::number(reason) < 26
 }
 
-fn add(name: &[u8], shelf: &mut [u8], number: u32, from: &[u8], file: &[u8]) -> Fate {
-    match shelf::add(shelf, number, file) {
-        Added::At(_) => keep(name, shelf, Outcome::Accepted),
-        Added::Refused(why) => {
-            if is_of_file(why) {
-                return fate_of(print_refused(from, file, why), Fate::Refused);
-            }
-            refuse(name, why)
-        }
+// Why a file is not added, told of the file or of the shelf.
+fn refuse_added(name: &[u8], from: &[u8], file: &[u8], why: Refusal) -> Fate {
+    if is_of_file(why) {
+        return fate_of(print_refused(from, file, why), Fate::Refused);
     }
+    refuse(name, why)
 }
 
 // A body as `igc check` tells a file.
@@ -77,6 +76,14 @@ fn tell_entry(shelf: &[u8], n: usize) -> Fate {
     tell(number, body)
 }
 
+// Nothing more can be said where the output could not be written.
+fn is_unwritten(fate: Fate) -> bool {
+    match fate {
+        Fate::Unwritten => true,
+        _ => false,
+    }
+}
+
 // Each flight, in the order of the table of contents; the worst of what became of them.
 fn list(shelf: &[u8]) -> u32 {
     let mut status = 0;
@@ -84,6 +91,9 @@ fn list(shelf: &[u8]) -> u32 {
     while n < 64 {
         let fate = tell_entry(shelf, n);
         status = verbs::worse(status, verbs::status_of(fate));
+        if is_unwritten(fate) {
+            return status;
+        }
         n += 1;
     }
     status
@@ -104,32 +114,108 @@ fn get(name: &[u8], shelf: &[u8], number: u32) -> Fate {
     }
 }
 
-// What is asked of a shelf with a flight number.
-fn on_flight(deed: Deed, name: &[u8], shelf: &mut [u8], number: u32) -> Fate {
+// What is asked of a shelf that is only read.
+fn on_read(deed: Deed, number: u32, name: &[u8], input: &mut [u8]) -> u32 {
+    let got = read_named(name, input);
+    if !got.whole {
+        return verbs::status_of(Fate::Unread);
+    }
+    let n = got.count;
     match deed {
-        Deed::Get => get(name, shelf, number),
-        _ => {
-            let done = shelf::remove(shelf, number);
-            keep(name, shelf, done)
-        }
+        Deed::List => list_sound(name, &input[..n]),
+        _ => verbs::status_of(get(name, &input[..n], number)),
     }
 }
 
-fn pack_named(name: &[u8], shelf: &mut [u8]) -> Fate {
-    let done = pack::pack(shelf);
-    keep(name, shelf, done)
-}
-
 // A file put on the shelf, by the word that names it.
-fn add_at(i: usize, name: &[u8], shelf: &mut [u8], number: u32, other: &mut [u8]) -> Fate {
+fn add_flight(
+    i: usize,
+    number: u32,
+    name: &[u8],
+    new: &[u8],
+    fd: i32,
+    shelf: &mut [u8],
+    other: &mut [u8],
+) -> Fate {
     let mut from = io::buffer();
     let k = os::arg(i, &mut from);
     let got = read_named(&from[..k], other);
     if !got.whole {
+        console::give_up(new, fd);
         return Fate::Unread;
     }
     let n = got.count;
-    add(name, shelf, number, &from[..k], &other[..n])
+    match shelf::add(shelf, number, &other[..n]) {
+        Added::At(_) => keep(name, new, fd, shelf, Outcome::Accepted),
+        Added::Refused(why) => {
+            console::give_up(new, fd);
+            refuse_added(name, &from[..k], &other[..n], why)
+        }
+    }
+}
+
+fn remove_flight(number: u32, name: &[u8], new: &[u8], fd: i32, shelf: &mut [u8]) -> Fate {
+    let done = shelf::remove(shelf, number);
+    keep(name, new, fd, shelf, done)
+}
+
+fn pack_flights(name: &[u8], new: &[u8], fd: i32, shelf: &mut [u8]) -> Fate {
+    let done = pack::pack(shelf);
+    keep(name, new, fd, shelf, done)
+}
+
+// What is asked of a shelf that is changed, when the new file is made: from then on no one else changes the shelf in this way.
+fn change(
+    deed: Deed,
+    i: usize,
+    number: u32,
+    name: &[u8],
+    new: &[u8],
+    fd: i32,
+    input: &mut [u8],
+    other: &mut [u8],
+) -> Fate {
+    let got = read_named(name, input);
+    if !got.whole {
+        console::give_up(new, fd);
+        return Fate::Unread;
+    }
+    let n = got.count;
+    match deed {
+        Deed::Add => add_flight(i, number, name, new, fd, &mut input[..n], other),
+        Deed::Pack => pack_flights(name, new, fd, &mut input[..n]),
+        _ => remove_flight(number, name, new, fd, &mut input[..n]),
+    }
+}
+
+fn claim(
+    deed: Deed,
+    i: usize,
+    number: u32,
+    name: &[u8],
+    new: &[u8],
+    input: &mut [u8],
+    other: &mut [u8],
+) -> Fate {
+    let fd = console::open_new(new);
+    if fd < 0 {
+        return Fate::Unwritten;
+    }
+    change(deed, i, number, name, new, fd, input, other)
+}
+
+// The new file stands beside the old one, with `.new` at the end of its name.
+fn on_changed(
+    deed: Deed,
+    i: usize,
+    number: u32,
+    name: &[u8],
+    input: &mut [u8],
+    other: &mut [u8],
+) -> u32 {
+    let mut new = [0u8; 4608];
+    let n = notice::beside(name, &mut new);
+    verbs::status_of(claim(deed, i, number, name, &new[..n], input, other))
 }
 
 fn deed_at(i: usize) -> Deed {
@@ -155,34 +241,24 @@ fn words_of(deed: Deed) -> usize {
     }
 }
 
-// What is asked of a shelf with a flight number, and with a file where it is added.
-fn with_flight(deed: Deed, dashes: usize, name: &[u8], shelf: &mut [u8], other: &mut [u8]) -> u32 {
-    let Flight::Is(number) = flight_at(console::place_of(4, dashes)) else {
-        return console::refuse_words();
-    };
+// The flight number that a word is, where one is asked for.
+fn number_for(deed: Deed, i: usize) -> Flight {
     match deed {
-        Deed::Add => verbs::status_of(add_at(
-            console::place_of(5, dashes),
-            name,
-            shelf,
-            number,
-            other,
-        )),
-        _ => verbs::status_of(on_flight(deed, name, shelf, number)),
+        Deed::List => Flight::Is(0),
+        Deed::Pack => Flight::Is(0),
+        _ => flight_at(i),
     }
 }
 
-// What is asked of the shelf that a name is of.
-fn on_shelf(deed: Deed, dashes: usize, name: &[u8], input: &mut [u8], other: &mut [u8]) -> u32 {
-    let got = read_named(name, input);
-    if !got.whole {
-        return verbs::status_of(Fate::Unread);
-    }
-    let n = got.count;
+// What is asked of the shelf that a word names.
+fn on_shelf(deed: Deed, dashes: usize, number: u32, input: &mut [u8], other: &mut [u8]) -> u32 {
+    let mut name = io::buffer();
+    let k = os::arg(console::place_of(2, dashes), &mut name);
+    let i = console::place_of(5, dashes);
     match deed {
-        Deed::List => list_sound(name, &input[..n]),
-        Deed::Pack => verbs::status_of(pack_named(name, &mut input[..n])),
-        _ => with_flight(deed, dashes, name, &mut input[..n], other),
+        Deed::List => on_read(deed, number, &name[..k], input),
+        Deed::Get => on_read(deed, number, &name[..k], input),
+        _ => on_changed(deed, i, number, &name[..k], input, other),
     }
 }
 
@@ -198,7 +274,8 @@ pub fn run(n: usize, input: &mut [u8], other: &mut [u8]) -> u32 {
     if names.count != words_of(deed) {
         return console::refuse_words();
     }
-    let mut name = io::buffer();
-    let k = os::arg(console::place_of(2, dashes), &mut name);
-    on_shelf(deed, dashes, &name[..k], input, other)
+    let Flight::Is(number) = number_for(deed, console::place_of(4, dashes)) else {
+        return console::refuse_words();
+    };
+    on_shelf(deed, dashes, number, input, other)
 }

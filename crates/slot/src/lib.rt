@@ -116,7 +116,7 @@ pub fn put_slot(b: &mut [u8], n: usize, s: Slot)
     put_word(b, 12 * n + 4 + 4, s.size);
 }
 
-// n bytes moved to a place that is not behind theirs, the first byte first. They lie inside the buffer, or nothing changes.
+// n bytes moved to a place that is not behind theirs, the first byte first. Nothing changes where it is behind theirs, or they do not lie inside the buffer.
 pub fn move_down(b: &mut [u8], to: usize, from: usize, n: usize)
     ensures { λ _. ⌜ BytesMoved to from n (now (b .entry)) (now (b .exit)) ⌝ }
 {

@@ -5,10 +5,10 @@
 -- and byte; the file's own are the grammar's (demands: `refused-first`, `accepted-exactly`). A flight number is a u32.
 use Prim.Native.Nat.{ℕ, _+_, _-_, _≤_, _<_}
 use mathlib.Core.Bool.{true}
-use mathlib.Core.List.{List, []}
+use mathlib.Core.List.{List, [], _∷_}
 use mathlib.Core.Logic.{_⊎_, _↔_}
 use mathlib.Core.Option.{some}
-use mathlib.Core.Path.{_≡_}
+use mathlib.Core.Path.{_≡_, refl}
 use lib.ListN.{length, getD}
 use Rattle.rules.specs.Refusals.{says, refuses, outcomeTold}
 use Rattle.rules.specs.declared.Outcome.{Outcome}
@@ -16,7 +16,7 @@ use Rattle.rules.specs.declared.Seal.the-variants as seal
 use Rattle.rules.proofs.Damaged.{fiveLines}
 use Rattle.demands.specs.Grammar.{Meets, linesIn, flightOf}
 use Rattle.demands.specs.Readings.{Readable}
-use Rattle.shelved.specs.Contents.{startOf, sizeOf, held, sound}
+use Rattle.shelved.specs.Contents.{word, wordBytes, startOf, sizeOf, held, sound}
 use Rattle.pack.specs.Pack.{ShelfPacked}
 use Rattle.shelf.specs.Calls.{addedTold, askedTold, FlightAdded, FlightAsked, BodyGiven, FlightRemoved}
 use Rattle.shelf.specs.declared.Added.{Added}
@@ -142,7 +142,7 @@ module _ (b : List ℕ) (r : Outcome) (after : List ℕ) (w : ShelfPacked b r af
     pub pack-keeps-rules : IsShelf after
     pack-keeps-rules = promised.pack-keeps-rules b r after w s
 
-    -- all free bytes are then one run behind the bodies: a body that is no longer fits there, and a longer one nowhere
+    -- all free bytes are then one run behind the bodies: a body fits there where it is no longer than that run, and a longer one fits nowhere
     pub packed-free-run : (size : ℕ) → ((at : ℕ) × FreeRun after at size) ↔ (768 + held b + size ≤ length b)
     packed-free-run = promised.packed-free-run b r after w s
 
@@ -161,11 +161,18 @@ module _ (calls : List Call) (b : List ℕ) (k : Reached calls b) where
   pub body-is-file : (number n : ℕ) → HeldIn b number n → (body : List ℕ) → BodyGiven b number body → (lastAdded calls number ≡ some body) × Meets seal.Usual body
   body-is-file = books.body-is-file calls b k
 
--- "Demands 2 and 3 speak of each body alone": all that can be read of a file can be read of a body, with any table that has an entry for each of its lines (demands: `readable`)
-pub body-is-readable : (body table : List ℕ) (m : Meets seal.Usual body) → length (linesIn (m .parts)) ≤ length table → Readable seal.Usual body table (flightOf m)
-body-is-readable = books.readable-with
+  -- "Demands 2 and 3 speak of each body alone": all that can be read of a file can be read of a body, with any table that has an entry for each of its lines (demands: `readable`). Demand 3
+  -- (wider: `widened`) speaks of files that the check takes, and so of a body
+  pub body-is-readable : (number n : ℕ) (h : HeldIn b number n) (body : List ℕ) (g : BodyGiven b number body) (table : List ℕ)
+      → length (linesIn (body-is-file number n h body g .1 .parts)) ≤ length table → Readable seal.Usual body table (flightOf (body-is-file number n h body g .1))
+  body-is-readable number n h body g table = books.readable-with body table (body-is-file number n h body g .1)
 
 -- ---- a weekend worked out
+
+-- "each a u32 with its low byte first"
+pub low-byte-first : (wordBytes 16909060 ≡ 4 ∷ 3 ∷ 2 ∷ 1 ∷ []) × (word (4 ∷ 3 ∷ 2 ∷ 1 ∷ []) 0 ≡ 16909060)
+unfolding word wordBytes
+low-byte-first = (refl, refl)
 
 -- a buffer of zeros is an empty shelf
 pub zeros-are-empty : (n : ℕ) → 768 ≤ n → n ≤ 16777216 → Empty (worked.zeros n)
