@@ -40,29 +40,31 @@ static void least(double *shortest, double took)
 }
 
 /* Each call on the flight that was added last, whose entry is looked at last. */
-static void run_once(size_t length, double *check, double *copying, double *ask, double *remove_and_add)
+static void run_once(size_t length, double *check, double *copying, double *ask, double *removing, double *adding)
 {
     uint32_t last = HIVE_SHELF_FLIGHTS;
-    double began = now();
-    for (int n = 0; n < TURNS; n++)
+    double began;
+    for (int n = 0; n < TURNS; n++) {
+        began = now();
         hold(hive_check(file, length, table, FILE_SIZE / 3, answer, HIVE_ANSWER) == 0, "the file is refused");
-    least(check, (now() - began) / TURNS);
-    began = now();
-    for (int n = 0; n < TURNS; n++) {
+        double checked = now();
         memcpy(copy, file, length);
-        copy[n] ^= 1;
-    }
-    least(copying, (now() - began) / TURNS);
-    began = now();
-    for (int n = 0; n < TURNS; n++)
+        double copied = now();
+        hold(memcmp(copy, file, length) == 0, "a copy is not the same");
+        least(check, checked - began);
+        least(copying, copied - checked);
+        began = now();
         hold(hive_shelf_ask(shelf, sizeof shelf, last, answer, HIVE_ANSWER) == 0 && answer[HIVE_LINE_LENGTH] == length, "a flight is not found");
-    least(ask, (now() - began) / TURNS);
-    began = now();
-    for (int n = 0; n < TURNS; n++) {
-        hold(hive_shelf_remove(shelf, sizeof shelf, last, answer, HIVE_ANSWER) == 0, "a flight is not removed");
-        hold(hive_shelf_add(shelf, sizeof shelf, last, file, length, answer, HIVE_ANSWER) == 0, "a flight is not added");
+        least(ask, now() - began);
     }
-    least(remove_and_add, (now() - began) / TURNS);
+    for (int n = 0; n < TURNS; n++) {
+        began = now();
+        hold(hive_shelf_remove(shelf, sizeof shelf, last, answer, HIVE_ANSWER) == 0, "a flight is not removed");
+        double removed = now();
+        hold(hive_shelf_add(shelf, sizeof shelf, last, file, length, answer, HIVE_ANSWER) == 0, "a flight is not added");
+        least(removing, removed - began);
+        least(adding, now() - removed);
+    }
 }
 
 /* Every second flight removed, the shelf packed, and the flights put back. */
@@ -89,22 +91,23 @@ static void pack_once(size_t length, double *pack)
 int main(int count, char **words)
 {
     int repetitions = count > 1 ? atoi(words[1]) : 15;
-    double check = 0, copying = 0, ask = 0, both = 0, pack = 0;
+    double check = 0, copying = 0, ask = 0, removing = 0, adding = 0, pack = 0;
     if (repetitions < 1 || repetitions > MOST_REPETITIONS)
         return 2;
     size_t length = make_flight(file, FILE_SIZE, &flights[0]);
     for (uint32_t n = 1; n <= HIVE_SHELF_FLIGHTS; n++)
         hold(hive_shelf_add(shelf, sizeof shelf, n, file, length, answer, HIVE_ANSWER) == 0, "a flight is not added");
     for (int n = 0; n < repetitions; n++)
-        run_once(length, &check, &copying, &ask, &both);
+        run_once(length, &check, &copying, &ask, &removing, &adding);
     for (int n = 0; n < repetitions; n++)
         pack_once(length, &pack);
     printf("%-50s | %9s\n", "a shelf of 64 flights of 64 KiB", "us");
     printf("%-50s | %9.2f\n", "ask", ask * 1e6);
-    printf("%-50s | %9.2f\n", "remove and add", both * 1e6);
+    printf("%-50s | %9.2f\n", "remove", removing * 1e6);
+    printf("%-50s | %9.2f\n", "add", adding * 1e6);
     printf("%-50s | %9.2f\n", "of that the file's check", check * 1e6);
     printf("%-50s | %9.2f\n", "of that the copying, by memcpy", copying * 1e6);
-    printf("%-50s | %9.2f\n", "left for the two calls", (both - check - copying) * 1e6);
+    printf("%-50s | %9.2f\n", "left of it", (adding - check - copying) * 1e6);
     printf("%-50s | %9.2f\n", "pack, 32 flights moved", pack * 1e6);
     printf("%-50s | %9.2f\n", "their copying, by memcpy", 32 * copying * 1e6);
     return 0;
