@@ -396,6 +396,66 @@ static void summaries(void) {
     say_figures("summary, answer of 15", hive_summary(TEXT(NIGHT), 0, figures, 25, answer, 15));
 }
 
+/* Two files of 22 bytes, which the usual check takes. */
+static const char PAIR[] = "AXYZ001\r\nHFDTE150724\r\n";
+static const char OTHER[] = "AXYZ002\r\nHFDTE160724\r\n";
+
+/* A shelf with room for three bodies of 22 bytes, and one with room for 65. */
+static uint8_t shelf[768 + 3 * 22];
+static uint8_t wide[768 + 65 * 22];
+
+/* The bytes of each entry that is not all zero; then the part of the bodies, a zero byte as a dot. */
+static void say_shelf(const char *name, uint32_t returned) {
+    static const uint8_t none[12];
+    for (int n = 0; n < 64; n++)
+        if (memcmp(shelf + 12 * n, none, 12) != 0) {
+            printf("%s: entry %d:", name, n);
+            for (int i = 0; i < 12; i++)
+                printf(" %02x", shelf[12 * n + i]);
+            printf("\n");
+        }
+    printf("%s: bodies ", name);
+    for (size_t i = 768; i < sizeof shelf; i++)
+        shelf[i] == '\r' ? printf("<CR>") : shelf[i] == '\n' ? printf("<LF>") : printf("%c", shelf[i] == 0 ? '.' : shelf[i]);
+    printf("\n");
+    say(name, returned);
+}
+
+static void shelves(void) {
+    say_shelf("shelf, first flight", hive_shelf_add(shelf, sizeof shelf, 7, TEXT(PAIR), answer, HIVE_ANSWER));
+    say_shelf("shelf, second flight", hive_shelf_add(shelf, sizeof shelf, 0x01020304, TEXT(OTHER), answer, HIVE_ANSWER));
+    say_shelf("shelf, full to the byte", hive_shelf_add(shelf, sizeof shelf, 4294967295, TEXT(PAIR), answer, HIVE_ANSWER));
+    say_shelf("shelf, no run", hive_shelf_add(shelf, sizeof shelf, 8, TEXT(PAIR), answer, HIVE_ANSWER));
+    say("shelf, number in use", hive_shelf_add(shelf, sizeof shelf, 7, TEXT(PAIR), answer, HIVE_ANSWER));
+    say("shelf, number 0", hive_shelf_add(shelf, sizeof shelf, 0, TEXT(PAIR), answer, HIVE_ANSWER));
+    say("shelf, file refused", hive_shelf_add(shelf, sizeof shelf, 0, TEXT(OPEN), answer, HIVE_ANSWER));
+    say("shelf, asked", hive_shelf_ask(shelf, sizeof shelf, 0x01020304, answer, HIVE_ANSWER));
+    say("shelf, asked for 0", hive_shelf_ask(shelf, sizeof shelf, 0, answer, HIVE_ANSWER));
+    say("shelf, asked for 8", hive_shelf_ask(shelf, sizeof shelf, 8, answer, HIVE_ANSWER));
+    say("shelf, asked with an answer of 15", hive_shelf_ask(shelf, sizeof shelf, 7, answer, 15));
+    say_shelf("shelf, answer of 15, removed", hive_shelf_remove(shelf, sizeof shelf, 7, answer, 15));
+    say_shelf("shelf, removed", hive_shelf_remove(shelf, sizeof shelf, 7, answer, HIVE_ANSWER));
+    say("shelf, removed again", hive_shelf_remove(shelf, sizeof shelf, 7, answer, HIVE_ANSWER));
+    say("shelf, removed 0", hive_shelf_remove(shelf, sizeof shelf, 0, answer, HIVE_ANSWER));
+    say_shelf("shelf, answer of 15, packed", hive_shelf_pack(shelf, sizeof shelf, answer, 15));
+    say_shelf("shelf, packed", hive_shelf_pack(shelf, sizeof shelf, answer, HIVE_ANSWER));
+    say_shelf("shelf, answer of 15, added", hive_shelf_add(shelf, sizeof shelf, 9, TEXT(OTHER), answer, 15));
+    say_shelf("shelf, longer than what is free", hive_shelf_add(shelf, sizeof shelf, 9, TEXT(FOUR), answer, HIVE_ANSWER));
+    say_shelf("shelf, just what is free", hive_shelf_add(shelf, sizeof shelf, 9, TEXT(OTHER), answer, HIVE_ANSWER));
+    shelf[12 * 63 + 11] = 1; /* the last entry is free, and one of its bytes is not 0 */
+    say_shelf("shelf, broken, added", hive_shelf_add(shelf, sizeof shelf, 0, TEXT(OPEN), answer, HIVE_ANSWER));
+    say("shelf, broken, asked", hive_shelf_ask(shelf, sizeof shelf, 9, answer, HIVE_ANSWER));
+    say("shelf, broken, removed", hive_shelf_remove(shelf, sizeof shelf, 9, answer, HIVE_ANSWER));
+    say("shelf, broken, packed", hive_shelf_pack(shelf, sizeof shelf, answer, HIVE_ANSWER));
+    say("shelf of 767 bytes", hive_shelf_pack(wide, 767, answer, HIVE_ANSWER));
+    say("shelf of 768 bytes", hive_shelf_pack(wide, 768, answer, HIVE_ANSWER));
+    say("shelf of 768 bytes, added", hive_shelf_add(wide, 768, 1, TEXT(PAIR), answer, HIVE_ANSWER));
+    for (uint32_t n = 1; n < 64; n++)
+        hive_shelf_add(wide, sizeof wide, n, TEXT(PAIR), answer, HIVE_ANSWER);
+    say("shelf, 64 flights", hive_shelf_add(wide, sizeof wide, 64, TEXT(PAIR), answer, HIVE_ANSWER));
+    say("shelf, 65 flights", hive_shelf_add(wide, sizeof wide, 65, TEXT(PAIR), answer, HIVE_ANSWER));
+}
+
 static void words(void) {
     say_out("name 9", hive_name(9, out, sizeof out, answer, HIVE_ANSWER));
     say_out("name 21, text of 10", hive_name(21, out, 10, answer, HIVE_ANSWER));
@@ -403,7 +463,8 @@ static void words(void) {
     say_out("name 0", hive_name(0, out, sizeof out, answer, HIVE_ANSWER));
     say_out("name 25", hive_name(25, out, sizeof out, answer, HIVE_ANSWER));
     say_out("name 26", hive_name(26, out, sizeof out, answer, HIVE_ANSWER));
-    say_out("name 27, no text", hive_name(27, NULL, 0, answer, HIVE_ANSWER));
+    say_out("name 31", hive_name(31, out, sizeof out, answer, HIVE_ANSWER));
+    say_out("name 32, no text", hive_name(32, NULL, 0, answer, HIVE_ANSWER));
     say_out("name, answer of 15", hive_name(9, out, sizeof out, answer, 15));
     say_text("explain", hive_explain(TEXT(FIVE), 9, 4, 8, text, sizeof text, answer, HIVE_ANSWER));
     say_text("explain, no line", hive_explain(NULL, 0, 1, 0, 0, text, 26, answer, HIVE_ANSWER));
@@ -412,7 +473,8 @@ static void words(void) {
     say_text("explain, past the last line", hive_explain(TEXT(FIVE), 16, 6, 0, text, sizeof text, answer, HIVE_ANSWER));
     say_text("explain, byte 121", hive_explain(TEXT(FIVE), 3, 4, 121, text, sizeof text, answer, HIVE_ANSWER));
     say_text("explain 26", hive_explain(TEXT(FIVE), 26, 0, 0, text, sizeof text, answer, HIVE_ANSWER));
-    say_text("explain 27", hive_explain(TEXT(FIVE), 27, 4, 8, text, sizeof text, answer, HIVE_ANSWER));
+    say_text("explain 29", hive_explain(TEXT(FIVE), 29, 0, 0, text, sizeof text, answer, HIVE_ANSWER));
+    say_text("explain 32", hive_explain(TEXT(FIVE), 32, 4, 8, text, sizeof text, answer, HIVE_ANSWER));
     say_text("explain, answer of 15", hive_explain(TEXT(FIVE), 9, 4, 8, text, sizeof text, answer, 15));
 }
 
@@ -426,6 +488,7 @@ int main(void) {
     merging();
     tracks();
     summaries();
+    shelves();
     words();
     return 0;
 }

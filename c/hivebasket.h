@@ -70,7 +70,12 @@ enum {
     HIVE_POSITION = 23,
     HIVE_ALTITUDE = 24,
     HIVE_DATE = 25,
-    HIVE_NOT_SAME = 26
+    HIVE_NOT_SAME = 26,
+    HIVE_SHELF = 27,
+    HIVE_ID = 28,
+    HIVE_ENTRIES_FULL = 29,
+    HIVE_NO_RUN = 30,
+    HIVE_NOT_FOUND = 31
 };
 
 /* Places in every answer. */
@@ -185,6 +190,38 @@ enum {
 uint32_t hive_summary(const uint8_t *file, size_t file_length, uint32_t old,
                       int32_t *list, size_t list_length,
                       uint64_t *answer, size_t answer_length);
+
+/* ---- a shelf of flights, in one lent buffer */
+
+/* A shelf is a buffer of 768 to 16,777,216 bytes: a table of contents of 64 entries of 12 bytes, then the bodies of the flights from offset 768 on. An entry is flight number, start and
+   length, each a uint32_t with its low byte first; an entry whose flight number is 0 is free, and its other bytes are 0. Bodies have at least one byte, lie inside the part from 768 on and
+   don't overlap, and no flight number is used twice. A buffer of zeros is an empty shelf. A buffer that
+   breaks one of these rules is refused with HIVE_SHELF by each of the four calls, before all but 17 for the answer's length. A start that was told holds until the shelf is next changed; and a body
+   on the shelf is not lent as the file that is added to it, as nothing that is lent for writing overlaps what else is lent.
+   What a body says isn't looked at again. Every refusal but the file's own comes with line 0 and byte 0, and the shelf is changed by none. */
+enum { HIVE_SHELF_LEAST = 768, HIVE_SHELF_MOST = 16777216, HIVE_SHELF_FLIGHTS = 64 };
+
+/* A file put on the shelf under a flight number: its bytes at the smallest start where they fit between the other bodies, and its entry, the first that is free. Nothing else of the shelf
+   changes. Refused with HIVE_SHELF, then with what hive_check refuses of the file (without 15), with line and byte; then HIVE_ID for number 0 or one in use, HIVE_ENTRIES_FULL where no
+   entry is free (29 ENTRIES), HIVE_NO_RUN where no free run is long enough.
+       2 start of the body */
+uint32_t hive_shelf_add(uint8_t *shelf, size_t shelf_length, uint32_t number,
+                        const uint8_t *file, size_t file_length,
+                        uint64_t *answer, size_t answer_length);
+
+/* Where the body of a flight number stands: shelf + answer[HIVE_START]. Refused with HIVE_SHELF, then HIVE_NOT_FOUND for number 0 or one that is not held.
+       2 start  3 length */
+uint32_t hive_shelf_ask(const uint8_t *shelf, size_t shelf_length, uint32_t number,
+                        uint64_t *answer, size_t answer_length);
+
+/* The 12 bytes of a flight number's entry zeroed. Refused as hive_shelf_ask. There is no value. */
+uint32_t hive_shelf_remove(uint8_t *shelf, size_t shelf_length, uint32_t number,
+                           uint64_t *answer, size_t answer_length);
+
+/* The bodies moved to the front in order of start, without gaps; each flight's bytes stay the same, and entries keep their places in the table of contents. Only starts change, and the bytes
+   that the moved bodies now cover. Refused with HIVE_SHELF alone. There is no value. */
+uint32_t hive_shelf_pack(uint8_t *shelf, size_t shelf_length,
+                         uint64_t *answer, size_t answer_length);
 
 /* ---- a line: 17 for another kind of line or a layout that is not allowed, then with the byte 7, 8, a field's (9, 22 to 24), 13 */
 

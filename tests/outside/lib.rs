@@ -1,7 +1,8 @@
 //! The independent reading of documents 01 and 02, and files to try it on. Uses the standard library alone, and no part of Hivebasket.
 //!
 //!     reading/    the rules, a concern to a file
-//!     files/      files to try it on: valid, damaged, at the limits, with refined fixes, with many fixes; copies of a file with different notes; looks into any entries
+//!     files/      files to try it on: valid, damaged, at the limits, with refined fixes, with many fixes; copies of a file with different notes; looks into any entries;
+//!                 shelves, sound and spoiled, and calls on them
 //!
 //! Programs over it, a folder each (tests/outside/build):
 //!

@@ -217,6 +217,10 @@ mod c {
         pub fn hive_merge(f: *const u8, fl: usize, s: *const u8, sl: usize, o: *mut u8, ol: usize, a: *mut u64, al: usize) -> u32;
         pub fn hive_track(f: *const u8, fl: usize, r: *mut Record, rl: usize, a: *mut u64, al: usize) -> u32;
         pub fn hive_summary(f: *const u8, fl: usize, old: u32, n: *mut i32, nl: usize, a: *mut u64, al: usize) -> u32;
+        pub fn hive_shelf_add(s: *mut u8, sl: usize, number: u32, f: *const u8, fl: usize, a: *mut u64, al: usize) -> u32;
+        pub fn hive_shelf_ask(s: *const u8, sl: usize, number: u32, a: *mut u64, al: usize) -> u32;
+        pub fn hive_shelf_remove(s: *mut u8, sl: usize, number: u32, a: *mut u64, al: usize) -> u32;
+        pub fn hive_shelf_pack(s: *mut u8, sl: usize, a: *mut u64, al: usize) -> u32;
         pub fn hive_name(number: u32, t: *mut u8, tl: usize, a: *mut u64, al: usize) -> u32;
         pub fn hive_explain(
             f: *const u8,
@@ -421,6 +425,27 @@ pub fn summary_answering(file: &[u8], old: u32, list: &mut [i32], answer: &mut [
     unsafe { c::hive_summary(file.as_ptr(), file.len(), old, list.as_mut_ptr(), list.len(), answer.as_mut_ptr(), answer.len()) }
 }
 
+/// A file added to a shelf, with an answer of any length. The answer's value is the start of its body.
+pub fn shelf_add(shelf: &mut [u8], number: u32, file: &[u8], answer: &mut [u64]) -> u32 {
+    let (a, al) = (answer.as_mut_ptr(), answer.len());
+    unsafe { c::hive_shelf_add(shelf.as_mut_ptr(), shelf.len(), number, file.as_ptr(), file.len(), a, al) }
+}
+
+/// A flight of a shelf asked for. The answer's values are the start and the length of its body.
+pub fn shelf_ask(shelf: &[u8], number: u32, answer: &mut [u64]) -> u32 {
+    unsafe { c::hive_shelf_ask(shelf.as_ptr(), shelf.len(), number, answer.as_mut_ptr(), answer.len()) }
+}
+
+/// A flight removed from a shelf.
+pub fn shelf_remove(shelf: &mut [u8], number: u32, answer: &mut [u64]) -> u32 {
+    unsafe { c::hive_shelf_remove(shelf.as_mut_ptr(), shelf.len(), number, answer.as_mut_ptr(), answer.len()) }
+}
+
+/// A shelf packed.
+pub fn shelf_pack(shelf: &mut [u8], answer: &mut [u64]) -> u32 {
+    unsafe { c::hive_shelf_pack(shelf.as_mut_ptr(), shelf.len(), answer.as_mut_ptr(), answer.len()) }
+}
+
 /// The name of a number, at the start of a text.
 pub fn name(number: u32, text: &mut [u8]) -> Told {
     told(|a, al| unsafe { c::hive_name(number, text.as_mut_ptr(), text.len(), a, al) })
@@ -537,7 +562,7 @@ pub fn write_point(latitude: (u64, u8), longitude: (u64, u8), text: &[u8], place
 }
 
 /// Every operation that a run must have asked.
-pub const OPERATIONS: [&str; 26] = [
+pub const OPERATIONS: [&str; 30] = [
     "hive_check",
     "hive_check_strict",
     "hive_line",
@@ -562,6 +587,10 @@ pub const OPERATIONS: [&str; 26] = [
     "hive_merge",
     "hive_track",
     "hive_summary",
+    "hive_shelf_add",
+    "hive_shelf_ask",
+    "hive_shelf_remove",
+    "hive_shelf_pack",
     "hive_name",
     "hive_explain",
 ];

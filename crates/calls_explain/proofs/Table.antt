@@ -7,7 +7,7 @@ use borrow.Author.Tests.{eqb-true}
 use lib.Dec.{eqb}
 use Rattle.rules.specs.Refusals.{number}
 use Rattle.rules.specs.declared.Reason.{Reason}
-use Rattle.rules.specs.declared.Reason.the-variants.{Empty, TooLong, LineEnd, EmptyLine, Kind, Order, Length, Character, Form, Tile, Twice, Width, Column, Back, TableFull, EndsEarly, BadValue, NoRoom, Absent, NotNumber, InputOver, Time, Position, Altitude, Date, NotSame}
+use Rattle.rules.specs.declared.Reason.the-variants.{Empty, TooLong, LineEnd, EmptyLine, Kind, Order, Length, Character, Form, Tile, Twice, Width, Column, Back, TableFull, EndsEarly, BadValue, NoRoom, Absent, NotNumber, InputOver, Time, Position, Altitude, Date, NotSame, Shelf, Id, Entries, NoRun, NotFound}
 use Rattle.rules.proofs.Inverse.{none-some}
 use Rattle.calls_explain.specs.Reasons.{reasonNumbered}
 
@@ -39,6 +39,11 @@ reason-of-number Position = refl
 reason-of-number Altitude = refl
 reason-of-number Date = refl
 reason-of-number NotSame = refl
+reason-of-number Shelf = refl
+reason-of-number Id = refl
+reason-of-number Entries = refl
+reason-of-number NoRun = refl
+reason-of-number NotFound = refl
 
 -- a number that no refusal has, has no reason
 module _ (n : ℕ) (r : Reason) where
@@ -74,4 +79,9 @@ module _ (n : ℕ) (r : Reason) where
       (step (eqb n 23) Position _ (λ e. sym (eqb-true n 23 e))
       (step (eqb n 24) Altitude _ (λ e. sym (eqb-true n 24 e))
       (step (eqb n 25) Date _ (λ e. sym (eqb-true n 25 e))
-      (step (eqb n 26) NotSame none (λ e. sym (eqb-true n 26 e)) (λ e. absurd (none-some e)))))))))))))))))))))))))))
+      (step (eqb n 26) NotSame _ (λ e. sym (eqb-true n 26 e))
+      (step (eqb n 27) Shelf _ (λ e. sym (eqb-true n 27 e))
+      (step (eqb n 28) Id _ (λ e. sym (eqb-true n 28 e))
+      (step (eqb n 29) Entries _ (λ e. sym (eqb-true n 29 e))
+      (step (eqb n 30) NoRun _ (λ e. sym (eqb-true n 30 e))
+      (step (eqb n 31) NotFound none (λ e. sym (eqb-true n 31 e)) (λ e. absurd (none-some e))))))))))))))))))))))))))))))))

@@ -4,7 +4,7 @@ use mathlib.Core.Bool.{cond}
 use mathlib.Core.Option.{Option, none, some}
 use lib.Dec.{eqb}
 use Rattle.rules.specs.declared.Reason.{Reason}
-use Rattle.rules.specs.declared.Reason.the-variants.{Empty, TooLong, LineEnd, EmptyLine, Kind, Order, Length, Character, Form, Tile, Twice, Width, Column, Back, TableFull, EndsEarly, BadValue, NoRoom, Absent, NotNumber, InputOver, Time, Position, Altitude, Date, NotSame}
+use Rattle.rules.specs.declared.Reason.the-variants.{Empty, TooLong, LineEnd, EmptyLine, Kind, Order, Length, Character, Form, Tile, Twice, Width, Column, Back, TableFull, EndsEarly, BadValue, NoRoom, Absent, NotNumber, InputOver, Time, Position, Altitude, Date, NotSame, Shelf, Id, Entries, NoRun, NotFound}
 use Rattle.calls_explain.specs.declared.Numbered.{Numbered}
 use Rattle.calls_explain.specs.declared.Numbered.the-variants as numbered
 
@@ -36,7 +36,12 @@ reasonNumbered n =
     (cond (eqb n 23) (some Position)
     (cond (eqb n 24) (some Altitude)
     (cond (eqb n 25) (some Date)
-    (cond (eqb n 26) (some NotSame) none)))))))))))))))))))))))))
+    (cond (eqb n 26) (some NotSame)
+    (cond (eqb n 27) (some Shelf)
+    (cond (eqb n 28) (some Id)
+    (cond (eqb n 29) (some Entries)
+    (cond (eqb n 30) (some NoRun)
+    (cond (eqb n 31) (some NotFound) none))))))))))))))))))))))))))))))
 
 -- the answer, in the paper's terms
 unfoldable pub numberedTold : Numbered → Option Reason

@@ -34,6 +34,11 @@ pub(crate) fn reason_of(number: u32) -> Numbered
         24 => Numbered::Is(Reason::Altitude),
         25 => Numbered::Is(Reason::Date),
         26 => Numbered::Is(Reason::NotSame),
+        27 => Numbered::Is(Reason::Shelf),
+        28 => Numbered::Is(Reason::Id),
+        29 => Numbered::Is(Reason::Entries),
+        30 => Numbered::Is(Reason::NoRun),
+        31 => Numbered::Is(Reason::NotFound),
         _ => Numbered::NoReason,
     }
 }

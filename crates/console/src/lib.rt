@@ -4,23 +4,28 @@ mod words;
 
 use libc::STDERR_FILENO;
 use libc::STDOUT_FILENO;
+pub use making::give_up;
 pub use making::make;
+pub use making::open_new;
+pub use making::replace;
 use rules::Flight;
 use rules::Refusal;
 use verbs::Fate;
 pub use words::Names;
 pub use words::names_from;
+pub use words::place_of;
 pub use words::refuse_words;
 pub use words::tell;
 pub use words::verb_at;
 
-const USAGE: [u8; 767] = *b"\
-    usage: igc [list] FILE...\n       igc check FILE...\n       igc track FILE...\n       igc summary FILE...\n       igc merge FIRST SECOND NEW\n       igc help | version\n\
+const USAGE: [u8; 1000] = *b"\
+    usage: igc [list] FILE...\n       igc check FILE...\n       igc track FILE...\n       igc summary FILE...\n       igc merge FIRST SECOND NEW\n       igc shelf SHELF add NUMBER FILE | list | get NUMBER | remove NUMBER | pack\n       igc help | version\n\
     list     each file's OK, FIX and COL lines, or why it is refused\n\
     check    one line a file: accepted, with its date and counts, or why it is refused\n\
     track    one line a fix: line, day, time, latitude and longitude in degrees, A or V, both altitudes\n\
     summary  one line a file: date, first and last fix, duration, highest, lowest, fixes, least and greatest latitude and longitude, name\n\
     merge    two copies of a file into NEW, with the evening notes of both; NEW must not exist\n\
+    shelf    flights kept in one file: one added, all told, one written out or removed, the space before them closed; 768 zeros or more are an empty shelf\n\
     Behind -- every word is a file's name.\n\
     Status: 0 all accepted, 1 some file refused, 2 not all was read or written, or wrong words.\n\
 ";
@@ -120,6 +125,10 @@ pub(crate) fn say_unmade(name: &[u8]) {
 
 pub(crate) fn say_unfilled(name: &[u8]) {
     say_failed(name, b"cannot be written whole");
+}
+
+pub(crate) fn say_unplaced(name: &[u8]) {
+    say_failed(name, b"cannot be replaced");
 }
 
 pub(crate) fn say_left(name: &[u8]) {

@@ -81,3 +81,12 @@ pub fn tell(version: bool, n: usize) -> u32 {
     }
     verbs::status_of(fate_of(print_usage(STDOUT_FILENO), Fate::Accepted))
 }
+
+// The place of a word that names a file, where it is known without `--`: one further where that stands before it.
+pub fn place_of(i: u32, dashes: usize) -> usize {
+    let place = i as usize;
+    if place < dashes {
+        return place;
+    }
+    place + 1
+}

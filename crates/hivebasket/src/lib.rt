@@ -4,6 +4,7 @@ mod columns;
 mod files;
 mod lines;
 mod refusals;
+mod shelves;
 mod summaries;
 mod tracks;
 mod writers;

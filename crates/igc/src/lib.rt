@@ -1,11 +1,10 @@
-// Checks, lists or merges the IGC files that its words name, or prints their tracks or their summaries: igc check FILE..., igc list FILE..., igc track FILE..., igc summary FILE..., igc merge FIRST SECOND NEW
+// Checks, lists or merges the IGC files that its words name, or prints their tracks or their summaries: igc check FILE..., igc list FILE..., igc track FILE..., igc summary FILE..., igc merge FIRST SECOND NEW; or keeps flights in a shelf: igc shelf SHELF ...
 // It is one exported function: C's `main` lends the memory and returns the status (c/igc.c).
 mod files;
 mod merging;
 mod summaries;
 mod tracks;
 
-ghost use Prim.Native.Nat.{_≤_};
 use files::check_named;
 use files::show_named;
 use merging::merge_named;
@@ -79,16 +78,6 @@ fn on_files(verb: Verb, first: usize, n: usize, input: &mut [u8], table: &mut [u
     on_each(verb, first, n, names.dashes, 1 < names.count, input, table)
 }
 
-// The place of a word that names a file, of those from the verb on: one further where `--` stands before it.
-fn place_of(i: usize, dashes: usize) -> usize
-    requires { ⌜ i ≤ 4 ⌝ }
-{
-    if i < dashes {
-        return i;
-    }
-    i + 1
-}
-
 // The two files that two words name, merged into the one that a third names.
 fn merge_at(
     i: usize,
@@ -113,9 +102,9 @@ fn on_three(n: usize, input: &mut [u8], other: &mut [u8], out: &mut [u8]) -> u32
     if names.count != 3 {
         return console::refuse_words();
     }
-    let i = place_of(2, names.dashes);
-    let j = place_of(3, names.dashes);
-    let k = place_of(4, names.dashes);
+    let i = console::place_of(2, names.dashes);
+    let j = console::place_of(3, names.dashes);
+    let k = console::place_of(4, names.dashes);
     verbs::status_of(merge_at(i, j, k, input, other, out))
 }
 
@@ -136,6 +125,7 @@ pub extern "C" fn igc_run(
     let verb = console::verb_at(1);
     match verb {
         Verb::Merge => on_three(n, input, other, out),
+        Verb::Shelf => shelf_file::run(n, input, other),
         Verb::Help => console::tell(false, n),
         Verb::Version => console::tell(true, n),
         Verb::NoVerb => on_files(Verb::List, 1, n, input, table),

@@ -5,7 +5,7 @@ use mathlib.Core.Path.{_≡_}
 use Rattle.rules.specs.declared.Flight.{Flight}
 use Rattle.rules.specs.declared.Refusal.{Refusal}
 use Rattle.pieces.proofs.Only.{only-piece-put}
-use Rattle.notice.specs.Notice.{HeadingPut, AcceptedPut, FitPut, RefusedPut, FailedPut, BothPut, NotedPut, TabledPut}
+use Rattle.notice.specs.Notice.{HeadingPut, AcceptedPut, FitPut, RefusedPut, FailedPut, BothPut, BesidePut, NotedPut, TabledPut}
 
 module _ (name out : List ℕ) (r r′ : ℕ) (after after′ : List ℕ) where
   pub only-heading-put : HeadingPut name out r after → HeadingPut name out r′ after′ → (r ≡ r′) × (after ≡ after′)
@@ -25,6 +25,9 @@ module _ (name out : List ℕ) (r r′ : ℕ) (after after′ : List ℕ) where
 
   pub only-both-put : (second : List ℕ) → BothPut name second out r after → BothPut name second out r′ after′ → (r ≡ r′) × (after ≡ after′)
   only-both-put second = only-piece-put out r r′ after after′ 0 _
+
+  pub only-beside-put : BesidePut name out r after → BesidePut name out r′ after′ → (r ≡ r′) × (after ≡ after′)
+  only-beside-put = only-piece-put out r r′ after after′ 0 _
 
   pub only-noted-put : (notes : ℕ) → NotedPut name notes out r after → NotedPut name notes out r′ after′ → (r ≡ r′) × (after ≡ after′)
   only-noted-put notes = only-piece-put out r r′ after after′ 0 _

@@ -79,6 +79,10 @@ FailedPut name why out r after = PiecePut out 0 (nameShown name ++ (bytes ": " +
 abbrev pub BothPut : List ℕ → List ℕ → List ℕ → ℕ → List ℕ → Type 0
 BothPut first second out r after = PiecePut out 0 (nameShown first ++ (bytes " and " ++ nameShown second)) r after
 
+-- the name as it is, with `.new` at its end
+abbrev pub BesidePut : List ℕ → List ℕ → ℕ → List ℕ → Type 0
+BesidePut name out r after = PiecePut out 0 (name ++ bytes ".new") r after
+
 -- a file's notes, counted
 abbrev pub NotedPut : List ℕ → ℕ → List ℕ → ℕ → List ℕ → Type 0
 NotedPut name notes out r after = PiecePut out 0 (nameShown name ++ (bytes ": notes" ++ (shown notes ++ lf))) r after

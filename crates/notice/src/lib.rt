@@ -1,7 +1,7 @@
 // What the programs say of a file by its name: the heading of its listing, the line of its check, its line in the badge list, its line in a table, its refusal explained, its notes counted, why it was not read. Each is put at the
 // start of a lent buffer, and the answer is how many bytes that is; a full buffer takes no more.
 ghost use Rattle.pieces.specs.Buffer.{PiecePut};
-ghost use Rattle.notice.specs.Notice.{nameShown, counted, countsShown, extrasShown, signedShown, acceptedShown, recorderShown, flownShown, fitShown, HeadingPut, AcceptedPut, FitPut, RefusedPut, FailedPut, BothPut, NotedPut, TabledPut};
+ghost use Rattle.notice.specs.Notice.{nameShown, counted, countsShown, extrasShown, signedShown, acceptedShown, recorderShown, flownShown, fitShown, HeadingPut, AcceptedPut, FitPut, RefusedPut, FailedPut, BothPut, BesidePut, NotedPut, TabledPut};
 use dates::put_date;
 use pieces::put_byte;
 use pieces::put_shown;
@@ -140,6 +140,14 @@ pub fn both(first: &[u8], second: &[u8], out: &mut [u8]) -> usize
     let a = put_name(out, 0, first);
     let b = put_text(out, a, b" and ");
     put_name(out, b, second)
+}
+
+// The name of the new file that a changed one is first written to: it stands beside it.
+pub fn beside(name: &[u8], out: &mut [u8]) -> usize
+    ensures { λ r. ⌜ BesidePut (now (name .entry)) (now (out .entry)) r (now (out .exit)) ⌝ }
+{
+    let a = put_text(out, 0, name);
+    put_text(out, a, b".new")
 }
 
 // A file's name, and behind it how many notes it has.

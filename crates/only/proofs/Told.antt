@@ -14,7 +14,7 @@ use Rattle.rules.specs.Reads.{Answer, fixFieldsTold, fixTold, timeReadTold, fix
 use Rattle.rules.specs.Writes.{wroteTold}
 use Rattle.rules.specs.Promises.{foundTold}
 use Rattle.rules.specs.declared.Reason.{Reason}
-use Rattle.rules.specs.declared.Reason.the-variants.{Empty, TooLong, LineEnd, EmptyLine, Kind, Order, Length, Character, Form, Tile, Twice, Width, Column, Back, TableFull, EndsEarly, BadValue, NoRoom, Absent, NotNumber, InputOver, Time, Position, Altitude, Date, NotSame}
+use Rattle.rules.specs.declared.Reason.the-variants.{Empty, TooLong, LineEnd, EmptyLine, Kind, Order, Length, Character, Form, Tile, Twice, Width, Column, Back, TableFull, EndsEarly, BadValue, NoRoom, Absent, NotNumber, InputOver, Time, Position, Altitude, Date, NotSame, Shelf, Id, Entries, NoRun, NotFound}
 use Rattle.rules.specs.declared.Refusal.{Refusal}
 use Rattle.rules.specs.declared.Outcome.the-variants as outcome
 use Rattle.rules.specs.declared.Found.the-variants as found
@@ -56,12 +56,12 @@ module _ {T B : Type 0} where
 abbrev pub reasons : List Reason
 reasons =
     Empty ∷ Empty ∷ TooLong ∷ LineEnd ∷ EmptyLine ∷ Kind ∷ Order ∷ Length ∷ Character ∷ Form ∷ Tile ∷ Twice ∷ Width ∷ Column ∷ Back ∷ TableFull ∷ EndsEarly
-    ∷ BadValue ∷ NoRoom ∷ Absent ∷ NotNumber ∷ InputOver ∷ Time ∷ Position ∷ Altitude ∷ Date ∷ NotSame ∷ []
+    ∷ BadValue ∷ NoRoom ∷ Absent ∷ NotNumber ∷ InputOver ∷ Time ∷ Position ∷ Altitude ∷ Date ∷ NotSame ∷ Shelf ∷ Id ∷ Entries ∷ NoRun ∷ NotFound ∷ []
 
 reason-back : (r : Reason) → getD reasons (number r) Empty ≡ r
 unfolding number
 reason-back =
-    elim [ Empty ↦ refl | TooLong ↦ refl | LineEnd ↦ refl | EmptyLine ↦ refl | Kind ↦ refl | Order ↦ refl | Length ↦ refl | Character ↦ refl | Form ↦ refl | Tile ↦ refl | Twice ↦ refl | Width ↦ refl | Column ↦ refl | Back ↦ refl | TableFull ↦ refl | EndsEarly ↦ refl | BadValue ↦ refl | NoRoom ↦ refl | Absent ↦ refl | NotNumber ↦ refl | InputOver ↦ refl | Time ↦ refl | Position ↦ refl | Altitude ↦ refl | Date ↦ refl | NotSame ↦ refl ]
+    elim [ Empty ↦ refl | TooLong ↦ refl | LineEnd ↦ refl | EmptyLine ↦ refl | Kind ↦ refl | Order ↦ refl | Length ↦ refl | Character ↦ refl | Form ↦ refl | Tile ↦ refl | Twice ↦ refl | Width ↦ refl | Column ↦ refl | Back ↦ refl | TableFull ↦ refl | EndsEarly ↦ refl | BadValue ↦ refl | NoRoom ↦ refl | Absent ↦ refl | NotNumber ↦ refl | InputOver ↦ refl | Time ↦ refl | Position ↦ refl | Altitude ↦ refl | Date ↦ refl | NotSame ↦ refl | Shelf ↦ refl | Id ↦ refl | Entries ↦ refl | NoRun ↦ refl | NotFound ↦ refl ]
 
 -- "No. | Name": no two names have one number
 pub number-one : OneToOne number

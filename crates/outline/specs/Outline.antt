@@ -82,7 +82,7 @@ lasting day seconds day′ seconds′ = (day′ * 86400 + seconds′) - (day * 8
 unfoldable pub lastingShown : ℕ → List ℕ
 lastingShown n = shown (n / 3600) ++ (twoDigits (code ":") (n / 60 % 60) ++ twoDigits (code ":") (n % 60))
 
--- a signed count as a position: the letter is that of its latitude, and no letter is shown
+-- a signed count as a position, latitude or longitude: N or S stands for the sign alone, and no letter is shown
 abbrev pub pointOf : ℤ → FinePosition
 pointOf (pos n) = record { count = n; letter = code "N"; decimals = 0 }
 pointOf (negsuc n) = record { count = n + 1; letter = code "S"; decimals = 0 }
@@ -94,7 +94,7 @@ pointShown z = shownDegrees (pointOf z)
 -- ---- the line
 
 module _ (l : List ℤ) where
-  -- take-off and landing as the first and the last fix, and the time between them
+  -- the first and the last fix, and the time between them
   unfoldable pub timesShown : List ℕ
   timesShown =
       whenShown (firstDay l) (firstSeconds l)

@@ -11,7 +11,7 @@ use Rattle.pieces.specs.Buffer.{PiecePut}
 use Rattle.rules.specs.Choice.{bytes}
 use Rattle.rules.specs.Refusals.{number}
 use Rattle.rules.specs.declared.Reason.{Reason}
-use Rattle.rules.specs.declared.Reason.the-variants.{Empty, TooLong, LineEnd, EmptyLine, Kind, Order, Length, Character, Form, Tile, Twice, Width, Column, Back, TableFull, EndsEarly, BadValue, NoRoom, Absent, NotNumber, InputOver, Time, Position, Altitude, Date, NotSame}
+use Rattle.rules.specs.declared.Reason.the-variants.{Empty, TooLong, LineEnd, EmptyLine, Kind, Order, Length, Character, Form, Tile, Twice, Width, Column, Back, TableFull, EndsEarly, BadValue, NoRoom, Absent, NotNumber, InputOver, Time, Position, Altitude, Date, NotSame, Shelf, Id, Entries, NoRun, NotFound}
 use Rattle.refusals.specs.Table.{rows, names, meanings, name, meaning, NamePut, MeaningPut, wordAt, WordIn}
 
 -- ---- words one after the other
@@ -111,6 +111,11 @@ number-in Position = (omega arith, omega arith)
 number-in Altitude = (omega arith, omega arith)
 number-in Date = (omega arith, omega arith)
 number-in NotSame = (omega arith, omega arith)
+number-in Shelf = (omega arith, omega arith)
+number-in Id = (omega arith, omega arith)
+number-in Entries = (omega arith, omega arith)
+number-in NoRun = (omega arith, omega arith)
+number-in NotFound = (omega arith, omega arith)
 
 module _ (reason : Reason) (n : ℕ) (e : n ≡ number reason) where
   pub name-in : WordIn (joined names) (endsFrom 0 names) n

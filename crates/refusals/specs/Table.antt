@@ -48,6 +48,13 @@ rows =
     ∷ row "DATE" "date against its rule"
     -- "Given two accepted files equal in every byte up to the end of the last G line"; "26 NOT_SAME"
     ∷ row "NOT_SAME" "files differ before the end of the last G line"
+    -- "27 SHELF if the buffer breaks these rules, then the file's own, then 28 ID for number 0 or one in use, 29 ENTRIES when none is free, 30 NO_RUN exactly when no free run is long enough,
+    -- 31 NOT_FOUND for asking for or removing 0 or a number not held"
+    ∷ row "SHELF" "buffer breaks the rules of a shelf"
+    ∷ row "ID" "flight number is 0 or in use"
+    ∷ row "ENTRIES" "no entry is free"
+    ∷ row "NO_RUN" "no free run is long enough"
+    ∷ row "NOT_FOUND" "flight number is 0 or not held"
     ∷ []
 
 unfoldable pub names : List (List ℕ)

@@ -5,7 +5,7 @@ use pieces::put_text;
 use rules::Reason;
 
 // The names, that of number 1 first; where the first begins, and where each ends.
-const NAMES: [u8; 177] = *b"\
+const NAMES: [u8; 206] = *b"\
     EMPTY\
     TOO_LONG\
     LINE_END\
@@ -32,9 +32,14 @@ const NAMES: [u8; 177] = *b"\
     ALTITUDE\
     DATE\
     NOT_SAME\
+    SHELF\
+    ID\
+    ENTRIES\
+    NO_RUN\
+    NOT_FOUND\
 ";
 
-const NAME_ENDS: [usize; 27] = [
+const NAME_ENDS: [usize; 32] = [
     0,
     5,
     13,
@@ -62,10 +67,15 @@ const NAME_ENDS: [usize; 27] = [
     165,
     169,
     177,
+    182,
+    184,
+    191,
+    197,
+    206,
 ];
 
 // When each number is given, in the same way.
-const MEANINGS: [u8; 706] = *b"\
+const MEANINGS: [u8; 840] = *b"\
     no bytes\
     over the limit\
     first CR or LF is not CR LF, or none comes\
@@ -92,9 +102,14 @@ const MEANINGS: [u8; 706] = *b"\
     altitude against its rule\
     date against its rule\
     files differ before the end of the last G line\
+    buffer breaks the rules of a shelf\
+    flight number is 0 or in use\
+    no entry is free\
+    no free run is long enough\
+    flight number is 0 or not held\
 ";
 
-const MEANING_ENDS: [usize; 27] = [
+const MEANING_ENDS: [usize; 32] = [
     0,
     8,
     22,
@@ -122,6 +137,11 @@ const MEANING_ENDS: [usize; 27] = [
     639,
     660,
     706,
+    740,
+    768,
+    784,
+    810,
+    840,
 ];
 
 // The number of a refusal, by the table.
@@ -155,6 +175,11 @@ pub fn number(reason: Reason) -> u8
         Reason::Altitude => 24,
         Reason::Date => 25,
         Reason::NotSame => 26,
+        Reason::Shelf => 27,
+        Reason::Id => 28,
+        Reason::Entries => 29,
+        Reason::NoRun => 30,
+        Reason::NotFound => 31,
     }
 }
 

@@ -3,7 +3,7 @@ use Prim.Native.Nat.{ℕ}
 use Rattle.rules.specs.declared.Class.{Class}
 use Rattle.rules.specs.declared.Class.the-variants as class
 use Rattle.rules.specs.declared.Reason.{Reason}
-use Rattle.rules.specs.declared.Reason.the-variants.{Empty, TooLong, LineEnd, EmptyLine, Kind, Order, Length, Character, Form, Tile, Twice, Width, Column, Back, TableFull, EndsEarly, BadValue, NoRoom, Absent, NotNumber, InputOver, Time, Position, Altitude, Date, NotSame}
+use Rattle.rules.specs.declared.Reason.the-variants.{Empty, TooLong, LineEnd, EmptyLine, Kind, Order, Length, Character, Form, Tile, Twice, Width, Column, Back, TableFull, EndsEarly, BadValue, NoRoom, Absent, NotNumber, InputOver, Time, Position, Altitude, Date, NotSame, Shelf, Id, Entries, NoRun, NotFound}
 use Rattle.rules.specs.declared.Refusal.{Refusal}
 use Rattle.rules.specs.declared.Outcome.{Outcome}
 use Rattle.rules.specs.declared.Outcome.the-variants.{Accepted, Refused}
@@ -38,6 +38,12 @@ number Altitude = 24
 number Date = 25
 -- "26 NOT_SAME"
 number NotSame = 26
+-- "27 SHELF", "28 ID", "29 ENTRIES", "30 NO_RUN", "31 NOT_FOUND"
+number Shelf = 27
+number Id = 28
+number Entries = 29
+number NoRun = 30
+number NotFound = 31
 
 -- what an answer says: a value, or the number, line and byte of a refusal
 pub data Said (A : Type 0) : Type 0 where

@@ -28,6 +28,11 @@ pub enum Reason {
     Altitude,
     Date,
     NotSame,
+    Shelf,
+    Id,
+    Entries,
+    NoRun,
+    NotFound,
 }
 
 // The classes of fields, by which a field that breaks its rule is refused.

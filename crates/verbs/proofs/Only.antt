@@ -2,9 +2,14 @@
 use Prim.Native.Nat.{ℕ}
 use mathlib.Core.Bool.{Bool}
 use mathlib.Core.List.{List}
-use mathlib.Core.Path.{_≡_, sym, _∙_}
+use mathlib.Core.Option.{Option, none, some}
+use mathlib.Core.Path.{_≡_, refl, sym, ap, _∙_}
 use Rattle.verbs.specs.Words.{VerbGiven, OptionTest, NamesTest}
+use Rattle.verbs.specs.Deeds.{flightTold, DeedGiven, FlightGiven}
 use Rattle.verbs.specs.Status.{StatusGiven, WorseGiven}
+use Rattle.verbs.specs.declared.deeds.Deed.{Deed}
+use Rattle.verbs.specs.declared.deeds.Flight.{Flight}
+use Rattle.verbs.specs.declared.deeds.Flight.the-variants.{Is, NoFlight}
 use Rattle.verbs.specs.declared.Fate.{Fate}
 use Rattle.verbs.specs.declared.Verb.{Verb}
 
@@ -22,3 +27,19 @@ only-status-given fate r r′ e e′ = e ∙ sym e′
 
 pub only-worse-given : (a b r r′ : ℕ) → WorseGiven a b r → WorseGiven a b r′ → r ≡ r′
 only-worse-given a b r r′ e e′ = e ∙ sym e′
+
+pub only-deed-given : (word : List ℕ) (r r′ : Deed) → DeedGiven word r → DeedGiven word r′ → r ≡ r′
+only-deed-given word r r′ e e′ = e ∙ sym e′
+
+-- the way back from what is told of a flight number
+back : Option ℕ → Flight
+back (some v) = Is v
+back none = NoFlight
+
+back-told : (r : Flight) → back (flightTold r) ≡ r
+unfolding flightTold back
+back-told (Is v) = refl
+back-told NoFlight = refl
+
+pub only-flight-given : (word : List ℕ) (r r′ : Flight) → FlightGiven word r → FlightGiven word r′ → r ≡ r′
+only-flight-given word r r′ e e′ = sym (back-told r) ∙ ap back (e ∙ sym e′) ∙ back-told r′

@@ -8,7 +8,7 @@ use lib.Dec.{eqb}
 use lib.ListN.{getD}
 use Rattle.rules.specs.Choice.{bytes}
 use Rattle.verbs.specs.declared.Verb.{Verb}
-use Rattle.verbs.specs.declared.Verb.the-variants.{List as Listing, Check, Track, Summary, Merge, Help, Version, NoVerb}
+use Rattle.verbs.specs.declared.Verb.the-variants.{List as Listing, Check, Track, Summary, Merge, Shelf, Help, Version, NoVerb}
 
 -- two texts are the same, byte for byte
 unfoldable pub same : List ℕ → List ℕ → Bool
@@ -26,7 +26,7 @@ aboutOf word =
     (cond (same word (bytes "version")) Version
     (cond (same word (bytes "--version")) Version NoVerb)))
 
--- the verbs on files: list, check, track, summary and merge; or one about the program
+-- the verbs on files: list, check, track, summary, merge and shelf; or one about the program
 unfoldable pub verbOf : List ℕ → Verb
 unfolding bytes
 verbOf word =
@@ -34,7 +34,8 @@ verbOf word =
     (cond (same word (bytes "check")) Check
     (cond (same word (bytes "track")) Track
     (cond (same word (bytes "summary")) Summary
-    (cond (same word (bytes "merge")) Merge (aboutOf word)))))
+    (cond (same word (bytes "merge")) Merge
+    (cond (same word (bytes "shelf")) Shelf (aboutOf word))))))
 
 -- a word that begins with a dash
 unfoldable pub dashed : List ℕ → Bool

@@ -1,7 +1,13 @@
 // What the words of the program igc mean, and with which status it ends.
+mod deeds;
+
 ghost use mathlib.Core.Path.{_≡_};
 ghost use Rattle.verbs.specs.Words.{same, aboutOf, VerbGiven, OptionTest, NamesTest};
 ghost use Rattle.verbs.specs.Status.{StatusGiven, WorseGiven};
+pub use deeds::Deed;
+pub use deeds::Flight;
+pub use deeds::deed_of;
+pub use deeds::flight_of;
 
 // What is asked of the program; `NoVerb` where the word is none.
 pub enum Verb {
@@ -10,6 +16,7 @@ pub enum Verb {
     Track,
     Summary,
     Merge,
+    Shelf,
     Help,
     Version,
     NoVerb,
@@ -24,7 +31,7 @@ pub enum Fate {
 }
 
 // Whether two texts are the same.
-fn is_same(a: &[u8], b: &[u8]) -> bool
+pub(crate) fn is_same(a: &[u8], b: &[u8]) -> bool
     ensures { λ r. ⌜ r ≡ same (now (a .entry)) (now (b .entry)) ⌝ }
 {
     let n = a.len();
@@ -78,6 +85,9 @@ pub fn verb_of(word: &[u8]) -> Verb
     }
     if is_same(word, b"merge") {
         return Verb::Merge;
+    }
+    if is_same(word, b"shelf") {
+        return Verb::Shelf;
     }
     about(word)
 }

@@ -170,7 +170,7 @@ fn put(words: Option<&str>, size: usize) -> (Told, Vec<u8>) {
 /// The file's refusal in words, and another one, which the check did not give: into a text that has room, one that has just room, and one that is a byte short.
 pub fn in_words(tally: &mut Tally, random: &mut Random, file: &[u8], answer: &Answer<reading::Accepted>) -> Held<()> {
     let met = answer.as_ref().err().copied().unwrap_or(Refusal::of(16));
-    let other = Refusal { number: random.below(30) as u32, line: random.below(9) as u64, byte: random.below(300) as u64 };
+    let other = Refusal { number: random.below(34) as u32, line: random.below(9) as u64, byte: random.below(300) as u64 };
     for r in [met, other] {
         let words = reading::explained(file, &r);
         let length = words.as_deref().map_or(0, str::len);

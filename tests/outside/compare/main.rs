@@ -1,6 +1,6 @@
 //! Holds the library against the independent reading of documents 01 and 02 on generated files, valid and damaged:
 //!     compare [--seed N] [--files N] [--out FILE]
-//! Stops at the first difference, with that file's bytes, or both copies', in FILE. Fails too where some refusal of a file was never met, or some field that a refusal names, or some operation
+//! Stops at the first difference, with that file's bytes, or both copies', or a shelf's and the file's, in FILE. Fails too where some refusal of a file was never met, or some field that a refusal names, or some operation
 //! never asked.
 
 mod columns;
@@ -8,6 +8,7 @@ mod hold;
 #[path = "../library.rs"]
 mod library;
 mod pairs;
+mod shelf;
 mod summary;
 mod track;
 
@@ -19,9 +20,11 @@ use outside::files::pairs::{Pair, at_limit, many, pair};
 use outside::files::random::Random;
 use outside::files::reached::Reached;
 use outside::files::reached_pairs;
+use outside::files::reached_shelves;
 use outside::files::reached_signed;
 use outside::files::reached_summary;
 use outside::files::reached_track;
+use outside::files::shelf_runs::{self, Broken};
 use outside::files::{Known, Run, examples};
 use outside::options::Options;
 use outside::reading::{LIMIT, Refusal};
@@ -35,6 +38,7 @@ struct Met {
     pairs: reached_pairs::Reached,
     tracks: reached_track::Reached,
     summaries: reached_summary::Reached,
+    shelves: reached_shelves::Reached,
     lines: u64,
     aimed: u64,
 }
@@ -138,6 +142,28 @@ fn flights(met: &mut Met, options: &Options) {
     }
 }
 
+/// Runs of calls on shelves, one for so many files; for every fourth of them calls on shelves that are spoiled in each way; then calls on shelves at the size limit.
+fn shelves(met: &mut Met, options: &Options) {
+    let Met { tally, shelves, .. } = met;
+    let stop = |held: Result<(), Broken>, told: &str| {
+        if let Err(broken) = held {
+            let both = [&*broken.shelf, b"== AND ==", &*broken.file].concat();
+            stop_at(Err(format!("shelf {told} of seed {}: {}", options.seed, broken.difference)), &both, &options.out);
+        }
+    };
+    for n in 0..options.files / 30 {
+        let mut random = Random::new(options.seed.wrapping_mul(1_000_039).wrapping_add(n));
+        let mut hold = |shelf: &[u8], call: &_, answer: &_, after: &[u8]| shelf::call(tally, shelf, call, answer, after);
+        stop(shelf_runs::any(&mut random, shelves, &mut hold), &n.to_string());
+        if n % 4 == 0 {
+            stop(shelf_runs::on_spoiled(&mut random, shelves, &mut hold), &format!("spoiled behind {n}"));
+            stop(shelf::wrong_answers(tally, &mut random), &format!("with wrong answers behind {n}"));
+        }
+    }
+    let mut hold = |shelf: &[u8], call: &_, answer: &_, after: &[u8]| shelf::call(tally, shelf, call, answer, after);
+    stop(shelf_runs::at_limit(&mut Random::new(options.seed ^ 0x5E1F), shelves, &mut hold), "at the limit");
+}
+
 /// Ends the run at a difference, with the file kept.
 fn stop_at(held: Held<()>, file: &[u8], out: &str) {
     if let Err(difference) = held {
@@ -161,6 +187,7 @@ fn main() {
     }
     copies(&mut met, &options);
     flights(&mut met, &options);
+    shelves(&mut met, &options);
     tell(&met, &options);
 }
 
@@ -184,6 +211,7 @@ fn tell(met: &Met, options: &Options) {
     println!("outside: looks: {}", met.tally.looks.told());
     println!("outside: refined fixes: {}", met.tally.finer.told());
     println!("outside: {} pairs of copies brought together, {} refused: {}", met.pairs.merged, met.pairs.refused, met.pairs.told());
+    println!("outside: {} calls on shelves good, {} refused: {}", met.shelves.good, met.shelves.refused, met.shelves.told());
     for (operation, count) in &met.tally.answers {
         let numbers: Vec<String> =
             met.tally.refusals.iter().filter(|((o, _), _)| o == operation).map(|((_, n), c)| format!("{n}: {c}")).collect();
@@ -193,6 +221,7 @@ fn tell(met: &Met, options: &Options) {
     let (mut never, strange) = (met.reached.never(&[]), met.reached.strange());
     let others = [met.pairs.never(true), met.tracks.never(), met.summaries.never(), met.ends.never()];
     never.extend(others.concat().into_iter().map(str::to_string));
+    never.extend(met.shelves.never(true));
     never.extend(met.tally.looks.never());
     never.extend(met.tally.finer.never());
     if !never.is_empty() || !strange.is_empty() || !unasked.is_empty() || accepted == 0 {

@@ -15,16 +15,21 @@ pub fn filled(random: &mut Random, size: usize, make: fn(&mut Random, usize) -> 
 
 /// L lines that have so many bytes with their CR LF, which are not 1 or 2.
 pub fn remarks(bytes: usize) -> Vec<Line> {
+    lengths(bytes).into_iter().map(|length| Line { role: Role::Remark, text: vec![b'L'; length] }).collect()
+}
+
+/// How long those lines are.
+pub fn lengths(bytes: usize) -> Vec<usize> {
     let mut missing = bytes;
-    let mut lines = Vec::new();
+    let mut lengths = Vec::new();
     while missing > 0 {
         let whole = match missing {
             ..=101 => missing,
             102..=104 => 50,
             _ => 101,
         };
-        lines.push(Line { role: Role::Remark, text: vec![b'L'; whole - 2] });
+        lengths.push(whole - 2);
         missing -= whole;
     }
-    lines
+    lengths
 }

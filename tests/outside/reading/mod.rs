@@ -19,6 +19,7 @@ pub mod outlined;
 pub mod places;
 pub mod readers;
 pub mod refusals;
+pub mod shelf;
 pub mod summary;
 pub mod track;
 pub mod tracked;

@@ -35,6 +35,11 @@ refusals! {
     24 ALTITUDE "altitude against its rule"
     25 DATE "date against its rule"
     26 NOT_SAME "files differ before the end of the last G line"
+    27 SHELF "buffer breaks the rules of a shelf"
+    28 ID "flight number is 0 or in use"
+    29 ENTRIES "no entry is free"
+    30 NO_RUN "no free run is long enough"
+    31 NOT_FOUND "flight number is 0 or not held"
 }
 
 #[derive(Clone, Copy, PartialEq, Eq, Debug)]

@@ -15,6 +15,7 @@ mod places;
 mod printed;
 mod programs;
 mod readers;
+mod shelf;
 mod signed;
 mod summary;
 mod track;

@@ -32,17 +32,21 @@ fn listings() {
 #[test]
 fn explanations() {
     assert_eq!(
-        [0, 1, 9, 21, 22, 25, 26, 27].map(name),
+        [0, 1, 9, 21, 22, 25, 26, 32].map(name),
         [None, Some("EMPTY"), Some("FORM"), Some("INPUT_OVER"), Some("TIME"), Some("DATE"), Some("NOT_SAME"), None]
     );
+    assert_eq!([27, 28, 29, 30, 31].map(name), [Some("SHELF"), Some("ID"), Some("ENTRIES"), Some("NO_RUN"), Some("NOT_FOUND")]);
     let of = |file: &[u8], number, line, byte| explained(file, &Refusal { number, line, byte });
-    assert_eq!(of(b"", 27, 0, 0), None);
+    assert_eq!(of(b"", 32, 0, 0), None);
     assert_eq!(of(b"", 1, 0, 0).unwrap(), "REFUSED 1 EMPTY: no bytes\n");
     let data = b"AB\r\nC\x00D\nE\r\nF";
     assert_eq!(of(data, 7, 1, 0).unwrap(), "REFUSED 7 LENGTH, line 1: outside its limits\nAB\n");
     assert_eq!(of(data, 8, 2, 2).unwrap(), "REFUSED 8 CHARACTER, line 2, byte 2: first invalid one\nC?D\n ^\n");
     // line 2 does not end with CR LF, so that nothing is known of a line 3
-    assert_eq!(of(data, 16, 3, 0).unwrap(), "REFUSED 16 ENDS_EARLY, line 3: end inside a declaration, before line 2, or in the strict check without G\n");
+    assert_eq!(
+        of(data, 16, 3, 0).unwrap(),
+        "REFUSED 16 ENDS_EARLY, line 3: end inside a declaration, before line 2, or in the strict check without G\n"
+    );
     assert_eq!(of(data, 6, 3, 1).unwrap(), "REFUSED 6 ORDER, line 3, byte 1: kind not allowed here\n\n^\n");
     let long: Vec<u8> = (0..200u8).map(|n| b'0' + n % 10).collect();
     let wanted = format!(

@@ -26,5 +26,8 @@ verb-of-spec =
     (λ c. search needs)
     (λ c κs. search needs)
     (λ c. search (tests, needs) depth 16)
+    (λ c. search needs)
+    (λ c κs. search needs)
+    (λ c. search (tests, needs) depth 16)
     (λ c κs. search needs)
     (λ c. search (tests, needs) depth 16))

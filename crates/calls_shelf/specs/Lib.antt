@@ -1,0 +1,2 @@
+-- What the calls on a shelf of flights answer.
+pub mod Calls

@@ -1,0 +1,2 @@
+-- What is asked of a table of contents.
+pub mod Questions

@@ -1,0 +1,2 @@
+-- Where a body fits.
+pub mod Runs

@@ -1,0 +1,3 @@
+-- A shelf packed: the steps, and that the promise has one answer.
+pub mod Nexts
+pub mod Only

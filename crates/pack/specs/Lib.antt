@@ -1,0 +1,2 @@
+-- A shelf packed.
+pub mod Pack

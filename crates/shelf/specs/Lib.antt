@@ -1,0 +1,2 @@
+-- The calls on a shelf of flights.
+pub mod Calls

@@ -1,0 +1,2 @@
+-- An entry of a shelf, read and put.
+pub mod Entries
