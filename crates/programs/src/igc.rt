@@ -1,81 +1,35 @@
 // Checks, lists or merges the IGC files that its words name, or prints their tracks or their summaries: igc check FILE..., igc list FILE..., igc track FILE..., igc summary FILE..., igc merge FIRST SECOND NEW; or keeps flights in a shelf: igc shelf SHELF ...
 // It is one exported function: C's `main` lends the memory and returns the status (c/igc.c).
-mod files;
-mod merging;
-mod summaries;
-mod tracks;
-
-use files::check_named;
-use files::show_named;
-use merging::merge_named;
-use summaries::summarize_named;
+use crate::on_each;
+use errands::Errand;
 use verbs::Fate;
 use verbs::Verb;
 
-// A verb on the file that a word names.
-fn on_file(verb: Verb, i: usize, several: bool, input: &mut [u8], table: &mut [u32]) -> Fate {
-    let mut name = io::buffer();
-    let k = os::arg(i, &mut name);
+// What a verb wants of each file that is named.
+fn errand_of(verb: Verb) -> Errand {
     match verb {
-        Verb::Check => check_named(&name[..k], input, table),
-        Verb::Summary => summarize_named(&name[..k], input),
-        _ => show_named(verb, &name[..k], several, input, table),
+        Verb::Check => Errand::Check,
+        Verb::Track => Errand::Track,
+        Verb::Summary => Errand::Summary,
+        _ => Errand::List,
     }
 }
 
-// The word `--` names no file.
-fn on_word(
-    verb: Verb,
-    i: usize,
-    dashes: usize,
-    several: bool,
-    input: &mut [u8],
-    table: &mut [u32],
-) -> Fate {
-    if i == dashes {
-        return Fate::Accepted;
-    }
-    on_file(verb, i, several, input, table)
-}
-
-// Nothing more can be said where the output could not be written.
-fn is_unwritten(fate: Fate) -> bool {
-    match fate {
-        Fate::Unwritten => true,
-        _ => false,
-    }
-}
-
-// A verb on each file that is named.
-fn on_each(
-    verb: Verb,
-    first: usize,
-    n: usize,
-    dashes: usize,
-    several: bool,
-    input: &mut [u8],
-    table: &mut [u32],
-) -> u32 {
-    let mut status = 0;
-    let mut i = first;
-    while i < n {
-        let fate = on_word(verb, i, dashes, several, input, table);
-        status = verbs::worse(status, verbs::status_of(fate));
-        if is_unwritten(fate) {
-            return status;
-        }
-        i += 1;
-    }
-    status
-}
-
-// A verb on the files that the words from a place on name. A word that begins with a dash names none, but for those behind `--`.
-fn on_files(verb: Verb, first: usize, n: usize, input: &mut [u8], table: &mut [u32]) -> u32 {
+// An errand on the files that the words from a place on name. A word that begins with a dash names none, but for those behind `--`.
+fn on_files(errand: Errand, first: usize, n: usize, input: &mut [u8], table: &mut [u32]) -> u32 {
     let names = console::names_from(first, n);
     if names.count == 0 {
         return console::refuse_words();
     }
-    on_each(verb, first, n, names.dashes, 1 < names.count, input, table)
+    on_each(
+        errand,
+        first,
+        n,
+        names.dashes,
+        1 < names.count,
+        input,
+        table,
+    )
 }
 
 // The two files that two words name, merged into the one that a third names.
@@ -93,7 +47,7 @@ fn merge_at(
     let b = os::arg(j, &mut second);
     let mut new = io::buffer();
     let c = os::arg(k, &mut new);
-    merge_named(&first[..a], &second[..b], &new[..c], input, other, out)
+    errands::merge_named(&first[..a], &second[..b], &new[..c], input, other, out)
 }
 
 // The verb merge, where there are just three names behind it.
@@ -128,7 +82,7 @@ pub extern "C" fn igc_run(
         Verb::Shelf => shelf_file::run(n, input, other),
         Verb::Help => console::tell(false, n),
         Verb::Version => console::tell(true, n),
-        Verb::NoVerb => on_files(Verb::List, 1, n, input, table),
-        _ => on_files(verb, 2, n, input, table),
+        Verb::NoVerb => on_files(Errand::List, 1, n, input, table),
+        _ => on_files(errand_of(verb), 2, n, input, table),
     }
 }

@@ -1,10 +1,10 @@
--- `igc::tracks::print_sheets` meets its contract: the part of the block that it writes is the sheet, and each sheet leaves fewer fixes. Assumes nothing.
+-- `errands::tracks::print_sheets` meets its contract: the part of the block that it writes is the sheet, and each sheet leaves fewer fixes. Assumes nothing.
 use mathlib.Core.Path.{_≡_}
 use borrow.Author.Needs.{needs}
 use lib.ListN.{length}
 use Rattle.sheet.proofs.Callers.{sheet-fits, sheet-counts, sheet-less}
-use Rattle.igc.proofs.tracks.print_sheets.Statement.{statement}
-use Rattle.igc.proofs.tracks.print_sheets.Tie as tie
+use Rattle.errands.proofs.tracks.print_sheets.Statement.{statement}
+use Rattle.errands.proofs.tracks.print_sheets.Tie as tie
 
 abbrev Inv-loop : tie.InvT-loop
 Inv-loop file count block₀ from₀ left₀ block from left = length block ≡ 65536

@@ -1,7 +1,6 @@
 // A file's summary on standard output: one line, with the file's name at its end; or why the file is refused.
 use console::fate_of;
 use console::print_refused;
-use named::read_named;
 use rules::Date;
 use rules::Seal;
 use summary::Summed;
@@ -15,7 +14,7 @@ fn print_line(name: &[u8], date: Date, list: &[i32]) -> bool {
 }
 
 // The most that an accepted file has is 453,437 fixes, since a B line has at least 37 bytes with its ending: 1,772 runs, and 12 numbers for the whole and for each of them.
-fn print_summary(name: &[u8], file: &[u8]) -> Fate {
+pub(crate) fn print_summary(name: &[u8], file: &[u8]) -> Fate {
     let mut list = [0i32; 21276];
     let answer = summary::summary(file, 0, &mut list);
     let checked = file::check_untabled(Seal::Usual, file);
@@ -23,14 +22,4 @@ fn print_summary(name: &[u8], file: &[u8]) -> Fate {
         Summed::Refused(why) => fate_of(print_refused(name, file, why), Fate::Refused),
         _ => fate_of(print_line(name, checked.flight.date, &list), Fate::Accepted),
     }
-}
-
-// The verb summary: one line of an accepted file, or why it is refused, with its name before it.
-pub(crate) fn summarize_named(name: &[u8], input: &mut [u8]) -> Fate {
-    let got = read_named(name, input);
-    if !got.whole {
-        return Fate::Unread;
-    }
-    let n = got.count;
-    print_summary(name, &input[..n])
 }

@@ -1,8 +1,8 @@
--- `igc::summaries::print_line` meets its contract: the part of the buffer that it writes is the line. Assumes nothing.
+-- `errands::summaries::print_line` meets its contract: the part of the buffer that it writes is the line. Assumes nothing.
 use borrow.Author.Needs.{needs}
 use Rattle.notice.proofs.Callers.{piece-fits, piece-counts}
-use Rattle.igc.proofs.summaries.print_line.Statement.{statement}
-use Rattle.igc.proofs.summaries.print_line.Tie as tie
+use Rattle.errands.proofs.summaries.print_line.Statement.{statement}
+use Rattle.errands.proofs.summaries.print_line.Tie as tie
 
 pub print-line-spec : {M : Type 1} → statement M
 print-line-spec =

@@ -44,8 +44,9 @@ fn bring(first: &[u8], second: &[u8], new: &[u8], one: &[u8], two: &[u8], out: &
     }
 }
 
-// The verb merge: the new file is made, and the notes of all three are counted; or why one of the two is refused, or both together, and then no file is made.
-pub(crate) fn merge_named(
+// Two copies of a file by their names, merged into a new file: it is made, and the notes of all three are counted; or why one of the two is refused, or both together, and then no file is
+// made. `input` and `other` each take one of the two, and have one byte more than the most that a file may have; `out` takes the new one. The answer tells what became of it.
+pub fn merge_named(
     first: &[u8],
     second: &[u8],
     new: &[u8],

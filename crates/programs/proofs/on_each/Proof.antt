@@ -1,16 +1,16 @@
--- `igc::on_each` meets its contract: the words left grow fewer, and the lent memory keeps its lengths. Assumes nothing.
+-- `programs::on_each` meets its contract: the words left grow fewer, and the lent memory keeps its lengths. Assumes nothing.
 use Prim.Native.Nat.{_-_}
 use mathlib.Core.Path.{_≡_}
 use borrow.Author.Needs.{needs}
 use lib.ListN.{length}
-use Rattle.igc.proofs.on_each.Statement.{statement}
-use Rattle.igc.proofs.on_each.Tie as tie
+use Rattle.programs.proofs.on_each.Statement.{statement}
+use Rattle.programs.proofs.on_each.Tie as tie
 
 abbrev Inv-loop : tie.InvT-loop
-Inv-loop verb first n dashes several input₀ table₀ status₀ i₀ input table status i = (length input ≡ length input₀) × (length table ≡ length table₀)
+Inv-loop errand first n dashes several input₀ table₀ status₀ i₀ input table status i = (length input ≡ length input₀) × (length table ≡ length table₀)
 
 abbrev μ-loop : tie.MeasureT-loop
-μ-loop verb first n dashes several input₀ table₀ status₀ i₀ input table status i = n - i
+μ-loop errand first n dashes several input₀ table₀ status₀ i₀ input table status i = n - i
 
 pub on-each-spec : {M : Type 1} → statement M
 on-each-spec =

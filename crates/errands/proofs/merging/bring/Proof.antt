@@ -1,8 +1,8 @@
--- `igc::merging::bring` meets its contract: the part of the output that is written to the new file is the merged file. Assumes nothing.
+-- `errands::merging::bring` meets its contract: the part of the output that is written to the new file is the merged file. Assumes nothing.
 use borrow.Author.Needs.{needs}
 use Rattle.merge.proofs.Whole.{whole-fits, whole-counts}
-use Rattle.igc.proofs.merging.bring.Statement.{statement}
-use Rattle.igc.proofs.merging.bring.Tie as tie
+use Rattle.errands.proofs.merging.bring.Statement.{statement}
+use Rattle.errands.proofs.merging.bring.Tie as tie
 
 pub bring-spec : {M : Type 1} → statement M
 bring-spec =
