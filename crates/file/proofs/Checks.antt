@@ -27,7 +27,7 @@ use Rattle.enter.specs.Turns.{roomOf, entered, Here}
 use Rattle.enter.proofs.Turns.{put-long, here-few, here-next}
 use Rattle.enter.specs.Entering.{Reached, Turned}
 use Rattle.enter.specs.declared.Turn.{Turn}
-use Rattle.turn.specs.Turns.{turnAt, TurnTaken}
+use Rattle.file.specs.Turns.{turnAt, TurnTaken}
 use Rattle.finish.specs.Finishes.{Finished}
 use Rattle.finish.proofs.Finishing.{finish-few}
 use Rattle.file.specs.Checks.{LinesChecked}

@@ -23,7 +23,7 @@ use Rattle.judge.specs.Lines.{judgeFew}
 use Rattle.judge.proofs.Judging.{judge-few}
 use Rattle.enter.specs.Entering.{Reached, goodLine, leftFew}
 use Rattle.enter.proofs.Entering.{left-few}
-use Rattle.turn.specs.Turns.{turnIn, mayTake, MayTake}
+use Rattle.file.specs.Turns.{turnIn, mayTake, MayTake}
 
 -- ---- a place where a line may be taken
 

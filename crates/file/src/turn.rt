@@ -4,7 +4,7 @@ ghost use lib.ListN.{drop};
 ghost use Rattle.rules.specs.Split.{linesOf};
 ghost use Rattle.enter.specs.Turns.{roomOf};
 ghost use Rattle.enter.specs.Entering.{Turned};
-ghost use Rattle.turn.specs.Turns.{mayTake, MayTake, turnIn, TurnTaken};
+ghost use Rattle.file.specs.Turns.{mayTake, MayTake, turnIn, TurnTaken};
 use cut::Ended;
 use enter::Turn;
 use rules::Outcome;

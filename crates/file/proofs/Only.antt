@@ -5,7 +5,7 @@ use mathlib.Core.List.{List}
 use Rattle.rules.specs.declared.State.{State}
 use Rattle.only.proofs.Only.{OnlyBoth}
 use Rattle.enter.proofs.Only.{turned-only}
-use Rattle.turn.specs.Turns.{TurnTaken}
+use Rattle.file.specs.Turns.{TurnTaken}
 
 pub only-turn-taken : (file : List ℕ) (lent : Bool) (table : List ℕ) (at : ℕ) (st : State) → OnlyBoth (TurnTaken file lent table at st)
 only-turn-taken file lent table at st = turned-only

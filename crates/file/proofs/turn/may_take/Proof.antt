@@ -1,4 +1,4 @@
--- `turn::may_take` meets its contract. Assumes nothing.
+-- `file::turn::may_take` meets its contract. Assumes nothing.
 use Prim.Native.Nat.{ℕ, _+_, _≤_, _<_}
 use mathlib.Core.Bool.{true, false}
 use mathlib.Core.Path.{_≡_}
@@ -6,9 +6,9 @@ use native.Mathlib.Omega.{arith}
 use borrow.Author.Needs.{needs}
 use borrow.Author.Tests.{le-leb, lt-leb}
 use lib.Dec.{leb}
-use Rattle.turn.specs.Turns.{mayTake}
-use Rattle.turn.proofs.may_take.Statement.{statement}
-use Rattle.turn.proofs.may_take.Tie as tie
+use Rattle.file.specs.Turns.{mayTake}
+use Rattle.file.proofs.turn.may_take.Statement.{statement}
+use Rattle.file.proofs.turn.may_take.Tie as tie
 
 past : (at size : ℕ) → size ≤ at → leb (at + 1) size ≡ false
 past at size h = lt-leb (at + 1) size (omega arith)

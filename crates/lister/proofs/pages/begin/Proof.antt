@@ -1,8 +1,8 @@
--- `pages::begin` meets its contract: the first line is that of the check's answer. Assumes nothing.
+-- `lister::pages::begin` meets its contract: the first line is that of the check's answer. Assumes nothing.
 use borrow.Author.Needs.{needs}
-use Rattle.pages.proofs.Laws.{over-most, began-ok, began-refused}
-use Rattle.pages.proofs.begin.Statement.{statement}
-use Rattle.pages.proofs.begin.Tie as tie
+use Rattle.lister.proofs.Laws.{over-most, began-ok, began-refused}
+use Rattle.lister.proofs.pages.begin.Statement.{statement}
+use Rattle.lister.proofs.pages.begin.Tie as tie
 
 pub begin-spec : {M : Type 1} → statement M
 begin-spec =

@@ -1,12 +1,12 @@
--- `turn::take` meets its contract. Assumes nothing.
+-- `file::turn::take` meets its contract. Assumes nothing.
 use mathlib.Core.Path.{refl, sym, _∙_}
 use borrow.Author.Needs.{needs}
 use borrow.Author.Tests.{not-true, not-false}
 use Rattle.enter.proofs.Entering.{halts}
-use Rattle.turn.specs.Turns.{turnAt}
-use Rattle.turn.proofs.Turns.{may-known}
-use Rattle.turn.proofs.take.Statement.{statement}
-use Rattle.turn.proofs.take.Tie as tie
+use Rattle.file.specs.Turns.{turnAt}
+use Rattle.file.proofs.Taking.{may-known}
+use Rattle.file.proofs.turn.take.Statement.{statement}
+use Rattle.file.proofs.turn.take.Tie as tie
 
 pub take-spec : {M : Type 1} → statement M
 unfolding turnAt

@@ -1,11 +1,11 @@
--- `turn::take_line` meets its contract: a line is cut off and judged, or torn. Assumes nothing.
+-- `file::turn::take_line` meets its contract: a line is cut off and judged, or torn. Assumes nothing.
 use mathlib.Core.Path.{sym, _∙_}
 use native.Mathlib.Omega.{arith}
 use borrow.Author.Needs.{needs}
 use Rattle.cut.proofs.Cuts.{cut, torn}
-use Rattle.turn.proofs.Turns.{turn-line, turn-torn}
-use Rattle.turn.proofs.take_line.Statement.{statement}
-use Rattle.turn.proofs.take_line.Tie as tie
+use Rattle.file.proofs.Taking.{turn-line, turn-torn}
+use Rattle.file.proofs.turn.take_line.Statement.{statement}
+use Rattle.file.proofs.turn.take_line.Tie as tie
 
 pub take-line-spec : {M : Type 1} → statement M
 take-line-spec =
