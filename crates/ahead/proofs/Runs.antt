@@ -23,7 +23,7 @@ use Rattle.sure.specs.Sure.{patternOf}
 use Rattle.clock.specs.declared.Pace.{Pace}
 use Rattle.clock.specs.declared.Taken.{Taken}
 use Rattle.clock.specs.declared.Taken.the-variants as taken
-use Rattle.pace.specs.Paces.{paced, Going, Takes, TakenAs}
+use Rattle.ahead.specs.Paces.{paced, Going, Takes, TakenAs}
 use Rattle.ahead.specs.Runs.{Ran}
 use Rattle.ahead.specs.declared.Ahead.{Ahead}
 

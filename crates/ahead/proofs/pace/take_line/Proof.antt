@@ -1,7 +1,7 @@
--- `pace::take_line` meets its contract: the line is taken as its first byte says. Assumes nothing.
+-- `ahead::pace::take_line` meets its contract: the line is taken as its first byte says. Assumes nothing.
 use borrow.Author.Needs.{needs}
-use Rattle.pace.proofs.take_line.Statement.{statement}
-use Rattle.pace.proofs.take_line.Tie as tie
+use Rattle.ahead.proofs.pace.take_line.Statement.{statement}
+use Rattle.ahead.proofs.pace.take_line.Tie as tie
 
 pub take-line-spec : {M : Type 1} → statement M
 take-line-spec =

@@ -42,7 +42,7 @@ use Rattle.clock.specs.declared.Pace.{Pace}
 use Rattle.clock.specs.declared.Taken.{Taken}
 use Rattle.clock.specs.declared.Taken.the-variants as taken
 use Rattle.clock.proofs.Moving.{timed-is}
-use Rattle.pace.specs.Paces.{paced, Going, Known, Judges, JudgedAs, MildAs, Takes, TakenAs}
+use Rattle.ahead.specs.Paces.{paced, Going, Known, Judges, JudgedAs, MildAs, Takes, TakenAs}
 
 -- ---- a line judged
 

@@ -1,8 +1,8 @@
--- `pace::columned_line` meets its contract: a line that is taken is one that the check judges good. Assumes nothing.
+-- `ahead::pace::columned_line` meets its contract: a line that is taken is one that the check judges good. Assumes nothing.
 use borrow.Author.Needs.{needs}
-use Rattle.pace.proofs.Lines.{columned-told}
-use Rattle.pace.proofs.columned_line.Statement.{statement}
-use Rattle.pace.proofs.columned_line.Tie as tie
+use Rattle.ahead.proofs.Lines.{columned-told}
+use Rattle.ahead.proofs.pace.columned_line.Statement.{statement}
+use Rattle.ahead.proofs.pace.columned_line.Tie as tie
 
 pub columned-line-spec : {M : Type 1} → statement M
 columned-line-spec =

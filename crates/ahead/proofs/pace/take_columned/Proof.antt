@@ -1,11 +1,11 @@
--- `pace::take_columned` meets its contract: CR LF stands where the length says, and the line before it is taken where it is sure. Assumes nothing.
+-- `ahead::pace::take_columned` meets its contract: CR LF stands where the length says, and the line before it is taken where it is sure. Assumes nothing.
 use Prim.Native.Nat.{_+_, _≤_, _<_}
 use native.Mathlib.Omega.{arith}
 use borrow.Author.Needs.{needs}
 use lib.ListN.{length}
-use Rattle.pace.proofs.Lines.{first-is, cut-long, taken-mild}
-use Rattle.pace.proofs.take_columned.Statement.{statement}
-use Rattle.pace.proofs.take_columned.Tie as tie
+use Rattle.ahead.proofs.Lines.{first-is, cut-long, taken-mild}
+use Rattle.ahead.proofs.pace.take_columned.Statement.{statement}
+use Rattle.ahead.proofs.pace.take_columned.Tie as tie
 
 returns : tie.Need-returns-6
 returns c =

@@ -3,7 +3,7 @@ ghost use Prim.Native.Nat.{_<_};
 ghost use mathlib.Core.Path.{_≡_};
 ghost use lib.ListN.{length, getD};
 ghost use Rattle.rules.specs.Families.{lineLetter};
-ghost use Rattle.pace.specs.Paces.{ColumnedTold, OtherTold, FamilyTaken, OtherTaken, LineTaken};
+ghost use Rattle.ahead.specs.Paces.{ColumnedTold, OtherTold, FamilyTaken, OtherTaken, LineTaken};
 use clock::Pace;
 use clock::Taken;
 use cut::Ended;
@@ -98,7 +98,7 @@ fn take_other(file: &[u8], p: Pace) -> Taken
 
 // The line behind the pace's bytes, by its first one: the numbers after it where it is surely good, by the lengths of B, K and N lines and the patterns of their columns.
 // Unsure for a line that is refused, and for any line that is not B, K, N, E, F or L.
-pub fn take_line(
+pub(crate) fn take_line(
     file: &[u8],
     p: Pace,
     b: usize,

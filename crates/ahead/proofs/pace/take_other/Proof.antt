@@ -1,11 +1,11 @@
--- `pace::take_other` meets its contract: the line is cut off, and taken where it is sure. Assumes nothing.
+-- `ahead::pace::take_other` meets its contract: the line is cut off, and taken where it is sure. Assumes nothing.
 use mathlib.Core.Path.{refl, sym, _∙_}
 use borrow.Author.Needs.{needs}
 use native.Mathlib.Omega.{arith}
 use Rattle.cut.proofs.Cuts.{cut}
-use Rattle.pace.proofs.Lines.{first-is, cut-long, taken-by}
-use Rattle.pace.proofs.take_other.Statement.{statement}
-use Rattle.pace.proofs.take_other.Tie as tie
+use Rattle.ahead.proofs.Lines.{first-is, cut-long, taken-by}
+use Rattle.ahead.proofs.pace.take_other.Statement.{statement}
+use Rattle.ahead.proofs.pace.take_other.Tie as tie
 
 returns : tie.Need-returns-3
 returns c =

@@ -1,9 +1,9 @@
--- `pace::other_line` meets its contract: a line that is taken is one that the check judges good. Assumes nothing.
+-- `ahead::pace::other_line` meets its contract: a line that is taken is one that the check judges good. Assumes nothing.
 use mathlib.Core.Path.{_∙_}
 use borrow.Author.Needs.{needs}
-use Rattle.pace.proofs.Lines.{remark-told, event-told, satellites-told}
-use Rattle.pace.proofs.other_line.Statement.{statement}
-use Rattle.pace.proofs.other_line.Tie as tie
+use Rattle.ahead.proofs.Lines.{remark-told, event-told, satellites-told}
+use Rattle.ahead.proofs.pace.other_line.Statement.{statement}
+use Rattle.ahead.proofs.pace.other_line.Tie as tie
 
 remark : tie.Need-returns-2
 remark c = λ st g e n. remark-told _ st _ _ g n _ _ (e ∙ c .before .before .before .before .if1 .taken) (c .before .before .before .shaped .ensures) (c .before .enum-told2 .given .1) (c .after-time .ensures)
