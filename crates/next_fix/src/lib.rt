@@ -62,7 +62,7 @@ fn is_timed(r: Role) -> bool
 fn time_on(line: &[u8]) -> Time
     ensures { λ r. ⌜ timeTold r ≡ timeOn (now (line .entry)) ⌝ }
 {
-    let role = order::role_of(line::kind_of(chars::byte(line, 0)));
+    let role = order::role_of(kind::kind_of(chars::byte(line, 0)));
     if !is_timed(role) {
         return Time::NoTime;
     }

@@ -1,4 +1,4 @@
--- `line::kind_of` meets its contract. Assumes nothing.
+-- `kind::kind_of` meets its contract. Assumes nothing.
 use Prim.Native.Nat.{ℕ, _<_}
 use mathlib.Core.Bool.{cond}
 use mathlib.Core.Path.{_≡_, sym, _∙_}
@@ -7,8 +7,8 @@ use borrow.Author.Tests.{ne-eqb, lt-ltb, le-ltb, le-leb, lt-leb}
 use lib.Dec.{ltb, leb}
 use Rattle.rules.specs.Lines.{kindOf}
 use Rattle.rules.specs.declared.Kind.the-variants as kind
-use Rattle.line.proofs.kind_of.Statement.{statement}
-use Rattle.line.proofs.kind_of.Tie as tie
+use Rattle.kind.proofs.kind_of.Statement.{statement}
+use Rattle.kind.proofs.kind_of.Tie as tie
 
 -- the byte is none of A to N
 abbrev Rest : ℕ → Type 0

@@ -1,9 +1,9 @@
--- `after::refused` meets its contract. Assumes nothing.
+-- `settle::refused` meets its contract. Assumes nothing.
 use borrow.Author.Needs.{needs}
 use mathlib.Core.Path.{refl}
 use Rattle.rules.specs.Refusals.{outcomeTold}
-use Rattle.after.proofs.refused.Statement.{statement}
-use Rattle.after.proofs.refused.Tie as tie
+use Rattle.settle.proofs.refused.Statement.{statement}
+use Rattle.settle.proofs.refused.Tie as tie
 
 pub refused-spec : {M : Type 1} → statement M
 unfolding outcomeTold

@@ -1,8 +1,8 @@
--- `after::after_outcome` meets its contract. Assumes nothing.
+-- `settle::after_outcome` meets its contract. Assumes nothing.
 use borrow.Author.Needs.{needs}
 use Rattle.rules.specs.Refusals.{outcomeTold}
-use Rattle.after.proofs.after_outcome.Statement.{statement}
-use Rattle.after.proofs.after_outcome.Tie as tie
+use Rattle.settle.proofs.after_outcome.Statement.{statement}
+use Rattle.settle.proofs.after_outcome.Tie as tie
 
 pub after-outcome-spec : {M : Type 1} → statement M
 unfolding outcomeTold

@@ -1,8 +1,8 @@
--- `after::passed` meets its contract. Assumes nothing.
+-- `settle::passed` meets its contract. Assumes nothing.
 use mathlib.Core.Path.{refl}
 use Rattle.rules.specs.Refusals.{outcomeTold}
-use Rattle.after.proofs.passed.Statement.{statement}
-use Rattle.after.proofs.passed.Tie as tie
+use Rattle.settle.proofs.passed.Statement.{statement}
+use Rattle.settle.proofs.passed.Tie as tie
 
 pub passed-spec : {M : Type 1} → statement M
 unfolding outcomeTold

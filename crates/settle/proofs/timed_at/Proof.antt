@@ -1,9 +1,9 @@
--- `after::timed_at` meets its contract. Assumes nothing.
+-- `settle::timed_at` meets its contract. Assumes nothing.
 use borrow.Author.Needs.{needs}
 use mathlib.Core.Path.{sym, _∙_}
 use Rattle.rules.specs.Order.{timed}
-use Rattle.after.proofs.timed_at.Statement.{statement}
-use Rattle.after.proofs.timed_at.Tie as tie
+use Rattle.settle.proofs.timed_at.Statement.{statement}
+use Rattle.settle.proofs.timed_at.Tie as tie
 
 pub timed-at-spec : {M : Type 1} → statement M
 unfolding timed

@@ -1,8 +1,8 @@
--- `after::after_time` meets its contract. Assumes nothing.
+-- `settle::after_time` meets its contract. Assumes nothing.
 use borrow.Author.Needs.{needs}
 use Rattle.rules.specs.Reads.{timeReadTold}
-use Rattle.after.proofs.after_time.Statement.{statement}
-use Rattle.after.proofs.after_time.Tie as tie
+use Rattle.settle.proofs.after_time.Statement.{statement}
+use Rattle.settle.proofs.after_time.Tie as tie
 
 pub after-time-spec : {M : Type 1} → statement M
 unfolding timeReadTold
