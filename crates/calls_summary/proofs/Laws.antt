@@ -5,8 +5,9 @@ use mathlib.Core.Path.{_≡_, ap, _∙_}
 use borrow.Author.Tests.{eq-eqb, ne-eqb}
 use lib.IntN.{ℤ}
 use lib.ListN.{length}
-use Rattle.summary.specs.Summaries.{summedTold, FileSummed}
-use Rattle.summary.specs.declared.Summed.{Summed}
+use Rattle.reckon.specs.Reckoned.{summedTold}
+use Rattle.summary.specs.Summaries.{FileSummed}
+use Rattle.reckon.specs.declared.Summed.{Summed}
 use Rattle.answers.specs.Answers.{size, inNumbers, hasRoom, AnswerGiven}
 use Rattle.answers.specs.declared.Numbers.{Numbers}
 use Rattle.answers.proofs.Laws.{no-room, same-numbers}

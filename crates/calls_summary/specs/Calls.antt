@@ -5,7 +5,7 @@ use mathlib.Core.List.{List, [], _∷_}
 use mathlib.Core.Path.{_≡_}
 use lib.IntN.{ℤ}
 use lib.ListN.{length}
-use Rattle.summary.specs.Summary.{summarySaid, summaryAfter}
+use Rattle.reckon.specs.Summary.{summarySaid, summaryAfter}
 use Rattle.answers.specs.Answers.{size, inNumbers, hasRoom, AnswerGiven}
 
 -- how many runs there are

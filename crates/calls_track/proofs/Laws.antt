@@ -4,9 +4,9 @@ use mathlib.Core.List.{List}
 use mathlib.Core.Path.{_≡_, refl, ap}
 use borrow.Author.Tests.{eq-eqb, ne-eqb}
 use lib.ListN.{length}
-use Rattle.next_fix.specs.declared.Record.{Record}
+use Rattle.records.specs.declared.Record.{Record}
 use Rattle.track.specs.Tracks.{FileTracked}
-use Rattle.track.specs.declared.Tracked.{Tracked}
+use Rattle.course.specs.declared.Tracked.{Tracked}
 use Rattle.answers.specs.Answers.{size, inNumbers, hasRoom}
 use Rattle.answers.proofs.Laws.{no-room, same-numbers}
 use Rattle.calls_track.specs.Calls.{countNumbers, TrackTold, TrackAnswered}

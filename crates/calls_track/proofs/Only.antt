@@ -2,8 +2,8 @@
 use Prim.Native.Nat.{ℕ}
 use mathlib.Core.List.{List}
 use mathlib.Core.Path.{_≡_, sym, _∙_}
-use Rattle.next_fix.specs.declared.Record.{Record}
-use Rattle.track.specs.declared.Tracked.{Tracked}
+use Rattle.records.specs.declared.Record.{Record}
+use Rattle.course.specs.declared.Tracked.{Tracked}
 use Rattle.answers.proofs.Only.{only-answered}
 use Rattle.calls_track.specs.Calls.{TrackTold, TrackAnswered}
 

@@ -1,6 +1,6 @@
 -- `calls_summary::numbers` meets its contract. Assumes nothing.
 use borrow.Author.Needs.{needs}
-use Rattle.summary.specs.Summaries.{summedTold}
+use Rattle.reckon.specs.Reckoned.{summedTold}
 use Rattle.calls_summary.proofs.numbers.Statement.{statement}
 use Rattle.calls_summary.proofs.numbers.Tie as tie
 

@@ -1,6 +1,6 @@
 -- `numbers` meets its contract. Assumes nothing.
 use borrow.Author.Needs.{needs}
-use Rattle.track.specs.Tracks.{trackedTold}
+use Rattle.course.specs.Courses.{trackedTold}
 use Rattle.calls_track.proofs.numbers.Statement.{statement}
 use Rattle.calls_track.proofs.numbers.Tie as tie
 
