@@ -20,7 +20,7 @@ use Rattle.rules.proofs.Inverse.{refuses-says, false-true}
 use Rattle.demands.specs.Faults.{Refused}
 use Rattle.demands.specs.Grammar.{Meets, flightOf}
 use Rattle.demands.proofs.Demands.{accepted-as, refused-first}
-use Rattle.evening.proofs.NeverFull.{check-never-full}
+use Rattle.untabled.proofs.NeverFull.{check-never-full}
 use Rattle.records.specs.Track.{trackSeal, trackOf, flightTracked, trackSaid, listAfter}
 use Rattle.records.specs.declared.Record.{Record}
 use Rattle.course.specs.Courses.{trackedTold}

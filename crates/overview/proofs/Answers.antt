@@ -26,7 +26,7 @@ use Rattle.demands.specs.Faults.{Refused}
 use Rattle.demands.specs.Grammar.{Meets, flightOf, linesIn, beginning}
 use Rattle.demands.proofs.Demands.{refused-first}
 use Rattle.demands.proofs.Reading.{lines-are}
-use Rattle.evening.proofs.NeverFull.{check-never-full}
+use Rattle.untabled.proofs.NeverFull.{check-never-full}
 use Rattle.records.specs.Track.{zeroRecord}
 use Rattle.records.specs.Track.{trackSeal, trackOf}
 use Rattle.records.specs.declared.Record.{Record}

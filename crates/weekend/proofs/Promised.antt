@@ -13,7 +13,7 @@ use Rattle.rules.specs.declared.Outcome.{Outcome}
 use Rattle.rules.specs.declared.Seal.the-variants as seal
 use Rattle.rules.proofs.Inverse.{refuses-says, false-true, then-inv}
 use Rattle.demands.proofs.Demands.{refused-first}
-use Rattle.evening.proofs.NeverFull.{check-never-full}
+use Rattle.untabled.proofs.NeverFull.{check-never-full}
 use Rattle.shelved.specs.Contents.{startOf, sizeOf, slotOf, held}
 use Rattle.shelved.specs.Packing.{Packed}
 use Rattle.shelved.specs.Shelf.{addSaid, afterAdd, heldAt, afterRemove, askSaid, partOf}
