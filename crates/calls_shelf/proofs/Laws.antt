@@ -9,8 +9,8 @@ use Rattle.rules.specs.Refusals.{outcomeTold}
 use Rattle.rules.specs.declared.Outcome.{Outcome}
 use Rattle.rules.proofs.Inverse.{false-true}
 use Rattle.pack.specs.Pack.{ShelfPacked}
-use Rattle.shelf.specs.Calls.{addedTold, FlightAdded, FlightRemoved}
-use Rattle.shelf.specs.declared.Added.{Added}
+use Rattle.shelved.specs.Calls.{addedTold, FlightAdded, FlightRemoved}
+use Rattle.shelved.specs.declared.Added.{Added}
 use Rattle.answers.specs.Answers.{size, inNumbers, hasRoom, AnswerGiven}
 use Rattle.answers.specs.declared.Numbers.{Numbers}
 use Rattle.answers.proofs.Laws.{no-room, same-numbers}

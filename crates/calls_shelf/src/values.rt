@@ -1,13 +1,13 @@
 // What the calls on a shelf answer, in numbers.
 ghost use mathlib.Core.Path.{_≡_};
 ghost use Rattle.rules.specs.Refusals.{outcomeTold};
-ghost use Rattle.shelf.specs.Calls.{addedTold, askedTold};
+ghost use Rattle.shelved.specs.Calls.{addedTold, askedTold};
 ghost use Rattle.answers.specs.Answers.{inNumbers};
 ghost use Rattle.calls_shelf.specs.Calls.{startNumbers, bodyNumbers, noNumbers};
 use answers::Numbers;
 use rules::Outcome;
-use shelf::Added;
-use shelf::Asked;
+use shelved::Added;
+use shelved::Asked;
 
 // The start of the body that was added.
 pub(crate) fn added(a: Added) -> Numbers

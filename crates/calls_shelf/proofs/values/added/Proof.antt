@@ -1,6 +1,6 @@
 -- `calls_shelf::values::added` meets its contract. Assumes nothing.
 use borrow.Author.Needs.{needs}
-use Rattle.shelf.specs.Calls.{addedTold}
+use Rattle.shelved.specs.Calls.{addedTold}
 use Rattle.calls_shelf.proofs.values.added.Statement.{statement}
 use Rattle.calls_shelf.proofs.values.added.Tie as tie
 

@@ -1,6 +1,6 @@
 -- `calls_shelf::values::asked` meets its contract. Assumes nothing.
 use borrow.Author.Needs.{needs}
-use Rattle.shelf.specs.Calls.{askedTold}
+use Rattle.shelved.specs.Calls.{askedTold}
 use Rattle.calls_shelf.proofs.values.asked.Statement.{statement}
 use Rattle.calls_shelf.proofs.values.asked.Tie as tie
 

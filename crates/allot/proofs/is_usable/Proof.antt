@@ -1,11 +1,11 @@
--- `shelf::is_usable` meets its contract: each way out is a way through `usable`. Assumes nothing.
+-- `allot::is_usable` meets its contract: each way out is a way through `usable`. Assumes nothing.
 use Rattle.rules.proofs.Links.{found-at, found-nothing}
 use Rattle.shelved.specs.Shelf.{usable}
 use Rattle.shelved.proofs.Tests.{and-yes, and-no}
-use Rattle.shelf.proofs.Ends.{not-zero, is-zero}
+use Rattle.allot.proofs.Links.{not-zero, is-zero}
 use borrow.Author.Needs.{needs}
-use Rattle.shelf.proofs.is_usable.Statement.{statement}
-use Rattle.shelf.proofs.is_usable.Tie as tie
+use Rattle.allot.proofs.is_usable.Statement.{statement}
+use Rattle.allot.proofs.is_usable.Tie as tie
 
 returns : tie.Need-returns
 unfolding usable

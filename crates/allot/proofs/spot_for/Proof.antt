@@ -1,12 +1,12 @@
--- `shelf::spot_for` meets its contract: each way out is a way through `spotFor`. Assumes nothing.
+-- `allot::spot_for` meets its contract: each way out is a way through `spotFor`. Assumes nothing.
 use Rattle.rules.proofs.Links.{fields}
 use Rattle.cut.proofs.Places.{refuses-unplaced}
 use Rattle.shelved.specs.Shelf.{spotFor}
-use Rattle.shelf.specs.Calls.{planTold}
-use Rattle.shelf.proofs.Ends.{links}
+use Rattle.allot.specs.Plans.{planTold}
+use Rattle.allot.proofs.Links.{links}
 use borrow.Author.Needs.{needs}
-use Rattle.shelf.proofs.spot_for.Statement.{statement}
-use Rattle.shelf.proofs.spot_for.Tie as tie
+use Rattle.allot.proofs.spot_for.Statement.{statement}
+use Rattle.allot.proofs.spot_for.Tie as tie
 
 returns : tie.Need-returns
 unfolding spotFor planTold

@@ -4,16 +4,12 @@ use mathlib.Core.List.{List}
 use mathlib.Core.Path.{_≡_}
 use Rattle.rules.specs.Refusals.{Said, says, refusal, andThen, outcomeTold}
 use Rattle.rules.specs.declared.Outcome.{Outcome}
-use Rattle.shelved.specs.Shelf.{Spot, addSaid, afterAdd, heldAt, askSaid, partOf, removeSaid, afterRemove}
+use Rattle.shelved.specs.Shelf.{addSaid, afterAdd, heldAt, askSaid, partOf, removeSaid, afterRemove}
 use Rattle.shelved.specs.declared.Slot.{Slot}
-use Rattle.shelf.specs.declared.Added.{Added}
-use Rattle.shelf.specs.declared.Added.the-variants as added
-use Rattle.shelf.specs.declared.Asked.{Asked}
-use Rattle.shelf.specs.declared.Asked.the-variants as asked
-use Rattle.shelf.specs.declared.Held.{Held}
-use Rattle.shelf.specs.declared.Held.the-variants as held
-use Rattle.shelf.specs.declared.Plan.{Plan}
-use Rattle.shelf.specs.declared.Plan.the-variants as plan
+use Rattle.shelved.specs.declared.Added.{Added}
+use Rattle.shelved.specs.declared.Added.the-variants as added
+use Rattle.shelved.specs.declared.Asked.{Asked}
+use Rattle.shelved.specs.declared.Asked.the-variants as asked
 
 -- ---- the answers, in the paper's terms
 
@@ -32,14 +28,6 @@ extentOf s = record { start = s .start; size = s .size }
 unfoldable pub askedTold : Asked → Said Extent
 askedTold (asked.Body a n) = says (record { start = a; size = n })
 askedTold (asked.Refused r) = refusal r
-
-unfoldable pub heldTold : Held → Said ℕ
-heldTold (held.At n) = says n
-heldTold (held.Refused r) = refusal r
-
-unfoldable pub planTold : Plan → Said Spot
-planTold (plan.Spot k at) = says (record { entry = k; start = at })
-planTold (plan.Refused r) = refusal r
 
 -- ---- the promises
 
