@@ -1,8 +1,8 @@
 -- `span` meets its contract. Assumes nothing.
 use borrow.Author.Needs.{needs}
 use Rattle.rules.specs.Layouts.{columnTold}
-use Rattle.lent_look.proofs.span.Statement.{statement}
-use Rattle.lent_look.proofs.span.Tie as tie
+use Rattle.seek.proofs.span.Statement.{statement}
+use Rattle.seek.proofs.span.Tie as tie
 
 pub span-spec : {M : Type 1} → statement M
 unfolding columnTold

@@ -1,15 +1,16 @@
--- What the look goes through, in the order of the code: the numbers where they stand.
+-- What a look into entries goes through that are lent as numbers, in the order of the code; and its promise.
 use Prim.Native.Nat.{ℕ, zero, suc, _+_}
 use mathlib.Core.Bool.{Bool, true, false, not, cond}
 use mathlib.Core.List.{List}
 use mathlib.Core.Option.{Option, none, some}
+use mathlib.Core.Path.{_≡_}
 use lib.Dec.{eqb, leb}
 use lib.ListN.{length, getD}
 use Rattle.rules.specs.Choice.{given, need}
-use Rattle.rules.specs.Layouts.{Span}
-use Rattle.rules.specs.Listed.{packedOf}
+use Rattle.rules.specs.Layouts.{Span, columnTold}
 use Rattle.rules.specs.Looks.{isInside}
 use Rattle.rules.specs.Refusals.{Said, says, no}
+use Rattle.rules.specs.declared.ColumnRead.{ColumnRead}
 use Rattle.rules.specs.declared.Entry.{Entry}
 use Rattle.rules.specs.declared.Reason.the-variants.{BadValue, Absent}
 use Rattle.lent_entries.specs.Lent.{entriesSize}
@@ -47,11 +48,14 @@ fitIn bytes (suc left) ns at =
 abbrev pub spanIn : List ℕ → ℕ → Span
 spanIn ns at = record { first = getD ns (at + 1) 0; last = getD ns (at + 2) 0 }
 
--- the look, number by number
-unfoldable pub columnIn : List ℕ → List ℕ → List ℕ → Said Span
-columnIn line ns name =
+-- the look for a packed code x in a line of so many bytes, number by number
+unfoldable pub columnIn : ℕ → List ℕ → ℕ → Said Span
+columnIn bytes ns x =
     need (eqb (length ns) entriesSize) (no BadValue 0) λ _.
     need (leb (getD ns 0 0) 13) (no BadValue 0) λ _.
-    need (fitIn (length line) (getD ns 0 0) ns 1) (no BadValue 0) λ _.
-    given (placeIn (getD ns 0 0) ns 1 (packedOf name)) (no Absent 0) λ p.
+    need (fitIn bytes (getD ns 0 0) ns 1) (no BadValue 0) λ _.
+    given (placeIn (getD ns 0 0) ns 1 x) (no Absent 0) λ p.
     says (spanIn ns p)
+
+abbrev pub ColumnSought : ℕ → List ℕ → ℕ → ColumnRead → Type 0
+ColumnSought bytes ns x r = columnTold r ≡ columnIn bytes ns x

@@ -11,7 +11,7 @@ use lib.ListN.{getD}
 use Rattle.rules.specs.Choice.{given, need}
 use Rattle.rules.specs.Looks.{isInside}
 use Rattle.rules.proofs.Inverse.{need-inv, none-some, false-true}
-use Rattle.lent_look.specs.Parts.{entryOf, standsIn, placeIn, isIn, fitIn}
+use Rattle.seek.specs.Parts.{entryOf, standsIn, placeIn, isIn, fitIn}
 
 module _ (left : ℕ) (ns : List ℕ) (at : ℕ) where
   one-more : 0 < left → left ≡ suc (left - 1)

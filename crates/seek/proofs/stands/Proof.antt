@@ -3,9 +3,9 @@ use borrow.Author.Needs.{needs}
 use Rattle.rules.specs.Looks.{isInside}
 use Rattle.rules.proofs.Links.{need-le, need-gt}
 use Rattle.chars.proofs.Laws.{joined}
-use Rattle.lent_look.specs.Parts.{standsIn}
-use Rattle.lent_look.proofs.stands.Statement.{statement}
-use Rattle.lent_look.proofs.stands.Tie as tie
+use Rattle.seek.specs.Parts.{standsIn}
+use Rattle.seek.proofs.stands.Statement.{statement}
+use Rattle.seek.proofs.stands.Tie as tie
 
 pub stands-spec : {M : Type 1} → statement M
 unfolding standsIn isInside

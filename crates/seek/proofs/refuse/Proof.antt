@@ -1,8 +1,8 @@
 -- `refuse` meets its contract. Assumes nothing.
 use mathlib.Core.Path.{refl}
 use Rattle.rules.specs.Layouts.{columnTold}
-use Rattle.lent_look.proofs.refuse.Statement.{statement}
-use Rattle.lent_look.proofs.refuse.Tie as tie
+use Rattle.seek.proofs.refuse.Statement.{statement}
+use Rattle.seek.proofs.refuse.Tie as tie
 
 pub refuse-spec : {M : Type 1} → statement M
 unfolding columnTold

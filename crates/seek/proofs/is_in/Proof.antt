@@ -1,8 +1,8 @@
 -- `is_in` meets its contract. Assumes nothing.
 use borrow.Author.Needs.{needs}
 use Rattle.rules.proofs.Links.{found-at, found-nothing}
-use Rattle.lent_look.proofs.is_in.Statement.{statement}
-use Rattle.lent_look.proofs.is_in.Tie as tie
+use Rattle.seek.proofs.is_in.Statement.{statement}
+use Rattle.seek.proofs.is_in.Tie as tie
 
 pub is-in-spec : {M : Type 1} → statement M
 is-in-spec =

@@ -6,10 +6,10 @@ use borrow.Author.Needs.{needs}
 use lib.ListN.{length}
 use Rattle.rules.specs.Promises.{foundTold}
 use Rattle.lent_entries.specs.Lent.{entriesSize}
-use Rattle.lent_look.specs.Parts.{placeIn}
-use Rattle.lent_look.proofs.Turns.{place-here, place-next, place-none}
-use Rattle.lent_look.proofs.place.Statement.{statement}
-use Rattle.lent_look.proofs.place.Tie as tie
+use Rattle.seek.specs.Parts.{placeIn}
+use Rattle.seek.proofs.Turns.{place-here, place-next, place-none}
+use Rattle.seek.proofs.place.Statement.{statement}
+use Rattle.seek.proofs.place.Tie as tie
 
 abbrev Inv-loop : tie.InvT-loop
 Inv-loop list start count code at₀ left₀ at left = (at + 3 * left ≤ entriesSize) × (length list ≡ entriesSize) × (placeIn left list at code ≡ placeIn count list start code)

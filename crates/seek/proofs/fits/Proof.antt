@@ -6,10 +6,10 @@ use borrow.Author.Needs.{needs}
 use borrow.Author.Tests.{not-true, not-false}
 use lib.ListN.{length}
 use Rattle.lent_entries.specs.Lent.{entriesSize}
-use Rattle.lent_look.specs.Parts.{fitIn}
-use Rattle.lent_look.proofs.Turns.{fit-outside, fit-again, fit-next, fit-done}
-use Rattle.lent_look.proofs.fits.Statement.{statement}
-use Rattle.lent_look.proofs.fits.Tie as tie
+use Rattle.seek.specs.Parts.{fitIn}
+use Rattle.seek.proofs.Turns.{fit-outside, fit-again, fit-next, fit-done}
+use Rattle.seek.proofs.fits.Statement.{statement}
+use Rattle.seek.proofs.fits.Tie as tie
 
 abbrev Inv-loop : tie.InvT-loop
 Inv-loop list count bytes at₀ left₀ at left = (at + 3 * left ≤ entriesSize) × (length list ≡ entriesSize) × (fitIn bytes left list at ≡ fitIn bytes count list 1)
