@@ -15,9 +15,9 @@ use Rattle.notes.proofs.Texts.{texts}
 use Rattle.merge.specs.Merge.{mergeTold, FilesMerged}
 use Rattle.merge.specs.declared.Brought.{Brought}
 use Rattle.merge.proofs.Merging.{woven-notes}
-use Rattle.next_fix.specs.declared.Record.{Record}
+use Rattle.records.specs.declared.Record.{Record}
 use Rattle.track.specs.Tracks.{FileTracked}
-use Rattle.track.specs.declared.Tracked.{Tracked}
+use Rattle.course.specs.declared.Tracked.{Tracked}
 use Rattle.pack.specs.Pack.{ShelfPacked}
 use Rattle.answers.specs.Answers.{size, inNumbers, hasRoom, AnswerGiven}
 use Rattle.answers.specs.declared.Numbers.{Numbers}

@@ -10,8 +10,8 @@ use Rattle.sorted.proofs.Pairs.{together-once}
 use Rattle.notes.specs.Notes.{notesIn}
 use Rattle.notes.specs.Merging.{Merged, mergedFile, mergeSaid, outMerged}
 use Rattle.notes.proofs.Texts.{texts}
-use Rattle.next_fix.specs.declared.Record.{Record}
-use Rattle.track.specs.declared.Tracked.{Tracked}
+use Rattle.records.specs.declared.Record.{Record}
+use Rattle.course.specs.declared.Tracked.{Tracked}
 use Rattle.pack.proofs.Only.{only-packed-or-same}
 use Rattle.answers.specs.Answers.{size, hasRoom, AnsweredBeside}
 use Rattle.answers.proofs.Only.{only-answered, only-beside}

@@ -6,7 +6,7 @@ use mathlib.Core.Path.{_≡_}
 use Rattle.rules.specs.Refusals.{says, andThen}
 use Rattle.shelved.specs.Shelf.{addSaid, afterAdd, heldAt, askSaid, removeSaid, afterRemove}
 use Rattle.shelved.specs.Packing.{packSaid, PackedOrSame}
-use Rattle.shelf.specs.Calls.{Extent, extentOf}
+use Rattle.shelved.specs.Calls.{Extent, extentOf}
 use Rattle.answers.specs.Answers.{size, inNumbers, hasRoom, AnsweredBeside, AnswerGiven}
 
 -- the start of a body

@@ -3,7 +3,7 @@ use Prim.Native.Nat.{ℕ}
 use mathlib.Core.List.{List, [], _∷_}
 use lib.IntN.{ℤ}
 use lib.ListN.{length}
-use Rattle.summary.specs.Summary.{summarySaid, summaryAfter}
+use Rattle.reckon.specs.Summary.{summarySaid, summaryAfter}
 use Rattle.answers.specs.Answers.{size, inNumbers, hasRoom, AnsweredBeside}
 
 -- how many runs there are

@@ -2,10 +2,10 @@
 use Prim.Native.Nat.{ℕ}
 use mathlib.Core.List.{List, [], _∷_}
 use lib.ListN.{length}
-use Rattle.next_fix.specs.Track.{trackSaid, listAfter}
-use Rattle.next_fix.specs.declared.Record.{Record}
-use Rattle.track.specs.Tracks.{trackedTold}
-use Rattle.track.specs.declared.Tracked.{Tracked}
+use Rattle.records.specs.Track.{trackSaid, listAfter}
+use Rattle.records.specs.declared.Record.{Record}
+use Rattle.course.specs.Courses.{trackedTold}
+use Rattle.course.specs.declared.Tracked.{Tracked}
 use Rattle.answers.specs.Answers.{size, inNumbers, hasRoom, AnsweredBeside, AnswerGiven}
 
 -- "the count is the number of B lines"

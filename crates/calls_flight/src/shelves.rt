@@ -1,14 +1,14 @@
 // The calls from C on a shelf of flights in a lent buffer.
 ghost use mathlib.Core.Path.{_≡_};
 ghost use Rattle.rules.specs.Refusals.{outcomeTold};
-ghost use Rattle.shelf.specs.Calls.{addedTold, askedTold};
+ghost use Rattle.shelved.specs.Calls.{addedTold, askedTold};
 ghost use Rattle.answers.specs.Answers.{inNumbers};
 ghost use Rattle.calls_flight.specs.Shelves.{startNumbers, bodyNumbers, noNumbers, AddAnswered, AskAnswered, RemoveAnswered, PackAnswered};
 use answers::Numbers;
 use answers::SIZE;
 use rules::Outcome;
-use shelf::Added;
-use shelf::Asked;
+use shelved::Added;
+use shelved::Asked;
 
 // The start of the body that was added.
 fn added(a: Added) -> Numbers

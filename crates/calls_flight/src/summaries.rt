@@ -1,11 +1,11 @@
 // The call from C that keeps a summary of a file in a lent list of numbers.
 ghost use mathlib.Core.Path.{_≡_};
-ghost use Rattle.summary.specs.Summaries.{summedTold};
+ghost use Rattle.reckon.specs.Reckoned.{summedTold};
 ghost use Rattle.answers.specs.Answers.{inNumbers};
 ghost use Rattle.calls_flight.specs.Summaries.{runsNumbers, SummaryAnswered};
 use answers::Numbers;
 use answers::SIZE;
-use summary::Summed;
+use reckon::Summed;
 
 // How many runs there are, or the refusal, in numbers.
 fn numbers(summed: Summed) -> Numbers

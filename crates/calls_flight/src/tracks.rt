@@ -1,10 +1,10 @@
 // What the call from C that makes a file's track answers: what was told of the track, in numbers. The list of records is touched by the exported function alone.
 ghost use mathlib.Core.Path.{_≡_};
-ghost use Rattle.track.specs.Tracks.{trackedTold};
+ghost use Rattle.course.specs.Courses.{trackedTold};
 ghost use Rattle.answers.specs.Answers.{inNumbers};
 ghost use Rattle.calls_flight.specs.Tracks.{countNumbers, TrackTold};
 use answers::Numbers;
-use track::Tracked;
+use course::Tracked;
 
 // How many records there are, or the refusal, in numbers.
 fn numbers(tracked: Tracked) -> Numbers

@@ -3,7 +3,6 @@ use console::fate_of;
 use console::print_refused;
 use rules::Date;
 use rules::Seal;
-use summary::Summed;
 use verbs::Fate;
 
 // The line of an accepted file: a line has at most 320 bytes before the name.

@@ -1,8 +1,8 @@
 // A file's track on standard output: a line for each fix, sheet by sheet; or why the file is refused.
 use console::fate_of;
 use console::print_refusal;
-use next_fix::Progress;
-use track::Tracked;
+use course::Tracked;
+use records::Progress;
 use verbs::Fate;
 
 // Each sheet of the track, from the first to the last.

@@ -18,7 +18,7 @@ use Rattle.rules.proofs.Inverse.{and-inv}
 use Rattle.cut.proofs.Cuts.{Cut, Torn}
 use Rattle.state.specs.States.{Few, hasFew}
 use Rattle.state.proofs.States.{few-has, has-few}
-use Rattle.after.specs.Judges.{JudgedTold, RefusedAt}
+use Rattle.settle.specs.Settled.{JudgedTold, RefusedAt}
 use Rattle.judge.specs.Lines.{judgeFew}
 use Rattle.judge.proofs.Judging.{judge-few}
 use Rattle.enter.specs.Entering.{Reached, goodLine, leftFew}

@@ -31,7 +31,7 @@ fn take_line(file: &[u8], lent: bool, table: &mut [u32], at: usize, st: State) -
 {
     match cut::line_end(file, at) {
         Ended::Broken(end) => enter::leave(
-            after::refused_at(Reason::LineEnd, (end - at + 1) as u32),
+            settle::refused_at(Reason::LineEnd, (end - at + 1) as u32),
             lent,
             table,
             at as u32,

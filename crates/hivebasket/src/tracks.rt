@@ -1,6 +1,6 @@
 // The track of a file in a lent list of records.
 ghost use Rattle.calls_flight.specs.Tracks.{TrackAnswered};
-use next_fix::Record;
+use records::Record;
 
 // All fixes of a file as records from the list's front on: how many there are; or the file's own refusal, then 18 where the list is shorter than the number of B lines, and then no
 // record is changed. 17 where the answer has another length; then nothing is changed.

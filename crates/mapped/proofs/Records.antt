@@ -34,9 +34,9 @@ use Rattle.laws.proofs.Walking.{columned-time, event-time, satellites-time}
 use Rattle.demands.specs.Grammar.{IsBLine, beginning}
 use Rattle.demands.specs.Readings.{ReadsLine}
 use Rattle.demands.proofs.EachLine.{fix-alone}
-use Rattle.next_fix.specs.Steps.{zeroRecord}
-use Rattle.next_fix.specs.Track.{recordsOf, trackFrom}
-use Rattle.next_fix.specs.declared.Record.{Record}
+use Rattle.records.specs.Track.{zeroRecord}
+use Rattle.records.specs.Track.{recordsOf, trackFrom}
+use Rattle.records.specs.declared.Record.{Record}
 use Rattle.track.proofs.Stepping.{other-said}
 use Rattle.mapped.specs.Mapped.{IsRecord}
 use Rattle.mapped.proofs.Days.{InTime, Walked, walked-on}

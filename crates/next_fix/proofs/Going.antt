@@ -20,7 +20,7 @@ use Rattle.cut.specs.declared.scan.Ended.the-variants as ended
 use Rattle.cut.proofs.Cuts.{torn}
 use Rattle.cut.proofs.Cuts as cuts
 use Rattle.next_fix.specs.Steps.{walkOf, behind, skipped, Few, Spare}
-use Rattle.next_fix.specs.declared.Progress.{Progress}
+use Rattle.records.specs.declared.Progress.{Progress}
 
 -- ---- one line more
 

@@ -7,7 +7,7 @@ use native.Mathlib.Omega.{arith}
 use lib.Dec.{ltb}
 use lib.ListN.{length, take, length-take}
 use lib.Seq.{length-sets, length-take-le}
-use Rattle.next_fix.specs.declared.Progress.{Progress}
+use Rattle.records.specs.declared.Progress.{Progress}
 use Rattle.sheet.specs.Sheets.{sheetOf, linesFrom, SheetFilled}
 use Rattle.sheet.specs.declared.Sheet.{Sheet}
 

@@ -10,8 +10,8 @@ use lib.Dec.{ltb}
 use lib.ListN.{length, take}
 use lib.Seq.{length-sets}
 use Rattle.next_fix.specs.Steps.{stepOf}
-use Rattle.next_fix.specs.declared.FixStep.{FixStep}
-use Rattle.next_fix.specs.declared.Progress.{Progress}
+use Rattle.records.specs.declared.FixStep.{FixStep}
+use Rattle.records.specs.declared.Progress.{Progress}
 use Rattle.pieces.specs.Buffer.{PiecePut}
 use Rattle.pieces.proofs.Laws.{then, nothing}
 use Rattle.sheet.specs.Sheets.{sheetOf, lineOf, linesFrom, afterSteps, SheetFilled}

@@ -15,10 +15,10 @@ use Rattle.rules.specs.Refusals.{says}
 use Rattle.rules.specs.declared.Family.the-variants as family
 use Rattle.rules.specs.declared.Flight.{Flight}
 use Rattle.next_fix.specs.Steps.{stepOf}
-use Rattle.next_fix.specs.Track.{trackSeal, trackOf}
-use Rattle.next_fix.specs.declared.Progress.{Progress}
-use Rattle.track.specs.Stored.{fixesFrom}
-use Rattle.track.specs.Tracks.{startBy, fixSize}
+use Rattle.records.specs.Track.{trackSeal, trackOf}
+use Rattle.records.specs.declared.Progress.{Progress}
+use Rattle.records.specs.Stored.{fixesFrom}
+use Rattle.course.specs.Courses.{startBy, fixSize}
 use Rattle.track.proofs.Tracking.{found-all}
 use Rattle.pieces.specs.Buffer.{Shown}
 use Rattle.pieces.proofs.Laws.{whole}

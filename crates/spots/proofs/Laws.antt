@@ -13,7 +13,7 @@ use Rattle.rules.specs.declared.FineTime.{FineTime}
 use Rattle.rules.specs.declared.Position.{Position}
 use Rattle.tens.specs.Tens.{fewOf, powerOf}
 use Rattle.tens.proofs.Laws.{few-all}
-use Rattle.next_fix.specs.declared.Record.{Record}
+use Rattle.records.specs.declared.Record.{Record}
 use Rattle.spans.specs.declared.Figure.{Figure}
 use Rattle.spans.specs.declared.Span.{Span}
 use Rattle.spans.specs.declared.Sum.{Sum}

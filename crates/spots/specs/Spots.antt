@@ -13,7 +13,7 @@ use Rattle.rules.specs.declared.Fix.{Fix}
 use Rattle.rules.specs.declared.Height.{Height}
 use Rattle.rules.specs.declared.Position.{Position}
 use Rattle.tens.specs.Tens.{fewOf}
-use Rattle.next_fix.specs.declared.Record.{Record}
+use Rattle.records.specs.declared.Record.{Record}
 use Rattle.spans.specs.Sums.{noFigure, figureOf, noSpan}
 use Rattle.spans.specs.declared.Figure.{Figure}
 use Rattle.spans.specs.declared.Moment.{Moment}

@@ -11,19 +11,19 @@ use lib.IntN.{ℤ}
 use lib.ListN.{length, set, take, drop, length-append, length-drop, drop-of-length-le}
 use lib.Seq.{sets, sets-eq, length-sets, length-take-le, take-all, take-add, drop-drop, take-at, drop-at}
 use Rattle.rules.specs.Choice.{Each}
-use Rattle.next_fix.specs.declared.FixStep.{FixStep}
-use Rattle.next_fix.specs.declared.Progress.{Progress}
-use Rattle.next_fix.specs.declared.Record.{Record}
+use Rattle.records.specs.declared.FixStep.{FixStep}
+use Rattle.records.specs.declared.Progress.{Progress}
+use Rattle.records.specs.declared.Record.{Record}
 use Rattle.spans.specs.Sums.{noSum, joined}
 use Rattle.spans.specs.declared.Sum.{Sum}
 use Rattle.spans.proofs.Joining.{joined-thrice}
 use Rattle.slots.specs.Slots.{numbersOf, putAt}
 use Rattle.spots.specs.Spots.{aloneOf}
 use Rattle.trips.proofs.Each.{each-cut}
-use Rattle.track.specs.Stored.{fixesFrom}
-use Rattle.summary.specs.Filled.{sumOver, nextRun, putFrom, stepped, legOf, turnedLeg, turnedList, wholeFrom, listFrom, filled}
-use Rattle.summary.specs.Summary.{told, runsOf, toldRuns, sizeOf, updated}
-use Rattle.summary.specs.declared.Leg.{Leg}
+use Rattle.records.specs.Stored.{fixesFrom}
+use Rattle.reckon.specs.Filled.{sumOver, nextRun, putFrom, stepped, legOf, turnedLeg, turnedList, wholeFrom, listFrom, filled}
+use Rattle.reckon.specs.Summary.{told, runsOf, toldRuns, sizeOf, updated}
+use Rattle.reckon.specs.declared.Leg.{Leg}
 use Rattle.summary.proofs.Telling.{Fits, told-is}
 
 -- ---- sums of lists

@@ -32,8 +32,8 @@ use Rattle.trips.proofs.LineTrip.{line-limits}
 use Rattle.demands.specs.Grammar.{beginning}
 use Rattle.demands.specs.Readings.{ReadsLine, ReadsFix}
 use Rattle.demands.proofs.EachLine.{fix-alone}
-use Rattle.next_fix.specs.Track.{trackSeal, recordOf, recordsOf, trackFrom, trackOf, flightTracked}
-use Rattle.next_fix.specs.declared.Record.{Record}
+use Rattle.records.specs.Track.{trackSeal, recordOf, recordsOf, trackFrom, trackOf, flightTracked}
+use Rattle.records.specs.declared.Record.{Record}
 use Rattle.track.proofs.Accepted.{file-short, texts-read, letters-counted}
 use Rattle.track.proofs.Stepping.{other-said, walk-within, walk-lines}
 use Rattle.summary.proofs.Telling.{Fits}

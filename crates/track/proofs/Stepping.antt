@@ -31,11 +31,11 @@ use Rattle.demands.specs.Grammar.{beginning}
 use Rattle.finer.specs.Within.{fixWithin}
 use Rattle.finer.proofs.Read.{fix-made}
 use Rattle.next_fix.specs.Steps.{walkOf, behind, skipped, passedBy, readAt, isFew, stepOf}
-use Rattle.next_fix.specs.Track.{recordOf, recordsOf, trackFrom}
-use Rattle.next_fix.specs.declared.FixStep.{FixStep}
-use Rattle.next_fix.specs.declared.Progress.{Progress}
-use Rattle.next_fix.specs.declared.Record.{Record}
-use Rattle.track.specs.Stored.{fixesFrom}
+use Rattle.records.specs.Track.{recordOf, recordsOf, trackFrom}
+use Rattle.records.specs.declared.FixStep.{FixStep}
+use Rattle.records.specs.declared.Progress.{Progress}
+use Rattle.records.specs.declared.Record.{Record}
+use Rattle.records.specs.Stored.{fixesFrom}
 
 -- ---- a B line that reads
 

@@ -22,11 +22,12 @@ use Rattle.laws.proofs.Splitting.{textsOf}
 use Rattle.demands.specs.Readings.{ReadsLine}
 use Rattle.demands.proofs.EachLine.{fix-alone}
 use Rattle.next_fix.specs.Steps.{stepOf}
-use Rattle.next_fix.specs.Track.{trackSeal, trackOf, flightTracked}
-use Rattle.next_fix.specs.declared.Record.{Record}
-use Rattle.track.specs.Stored.{fixesFrom, stored}
-use Rattle.track.specs.Tracks.{startBy, fixSize, CourseTold, CoursePlanned, FileTracked}
-use Rattle.track.specs.declared.Course.{Course}
+use Rattle.records.specs.Track.{trackSeal, trackOf, flightTracked}
+use Rattle.records.specs.declared.Record.{Record}
+use Rattle.records.specs.Stored.{fixesFrom, stored}
+use Rattle.course.specs.Courses.{startBy, fixSize, CourseTold}
+use Rattle.track.specs.Tracks.{CoursePlanned, FileTracked}
+use Rattle.course.specs.declared.Course.{Course}
 use Rattle.track.proofs.Stepping.{Here, AllRead, steps-find, as-many}
 use Rattle.track.proofs.Accepted.{file-short, texts-read, letters-counted, length-told}
 

@@ -18,9 +18,9 @@ use Rattle.demands.specs.Grammar.{Meets, linesIn, flightOf}
 use Rattle.demands.specs.Readings.{Readable}
 use Rattle.shelved.specs.Contents.{word, wordBytes, startOf, sizeOf, held, sound}
 use Rattle.pack.specs.Pack.{ShelfPacked}
-use Rattle.shelf.specs.Calls.{addedTold, askedTold, FlightAdded, FlightAsked, BodyGiven, FlightRemoved}
-use Rattle.shelf.specs.declared.Added.{Added}
-use Rattle.shelf.specs.declared.Asked.{Asked}
+use Rattle.shelved.specs.Calls.{addedTold, askedTold, FlightAdded, FlightAsked, BodyGiven, FlightRemoved}
+use Rattle.shelved.specs.declared.Added.{Added}
+use Rattle.shelved.specs.declared.Asked.{Asked}
 use Rattle.weekend.specs.Weekend.{IsShelf, SameTable, FreeRun, Broken, AddRefused, NotFound, AddsAt, Puts, HeldIn, Zeroes, Packs, AskedAsBefore, FoundAsBefore, AskedAs, AskedInVain}
 use Rattle.weekend.specs.Calls.{Call, lastAdded, bytesAdded, bytesRemoved, Empty, Reached}
 use Rattle.weekend.proofs.Books as books

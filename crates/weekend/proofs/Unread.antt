@@ -16,9 +16,9 @@ use Rattle.shelved.specs.declared.Slot.{Slot}
 use Rattle.shelved.proofs.Accepts.{holds}
 use Rattle.shelved.proofs.Bytes.{word-same}
 use Rattle.pack.specs.Pack.{ShelfPacked}
-use Rattle.shelf.specs.Calls.{addedTold, extentOf, askedTold, FlightAdded, FlightAsked, FlightRemoved}
-use Rattle.shelf.specs.declared.Added.{Added}
-use Rattle.shelf.specs.declared.Asked.{Asked}
+use Rattle.shelved.specs.Calls.{addedTold, extentOf, askedTold, FlightAdded, FlightAsked, FlightRemoved}
+use Rattle.shelved.specs.declared.Added.{Added}
+use Rattle.shelved.specs.declared.Asked.{Asked}
 use Rattle.weekend.specs.Weekend.{SameTable}
 
 -- ---- tests that agree

@@ -10,8 +10,8 @@ use Rattle.rules.specs.declared.Seal.the-variants as seal
 use Rattle.demands.specs.Faults.{Refused}
 use Rattle.demands.specs.Grammar.{Meets}
 use Rattle.shelved.specs.Contents.{wordBytes, numberOf, startOf, sizeOf, slotOf, bodyOf, held}
-use Rattle.shelf.specs.Calls.{askedTold, FlightAsked, BodyGiven}
-use Rattle.shelf.specs.declared.Asked.{Asked}
+use Rattle.shelved.specs.Calls.{askedTold, FlightAsked, BodyGiven}
+use Rattle.shelved.specs.declared.Asked.{Asked}
 
 -- ---- "27 SHELF if the buffer breaks these rules"
 

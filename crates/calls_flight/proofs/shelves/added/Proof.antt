@@ -1,6 +1,6 @@
 -- `calls_flight::shelves::added` meets its contract. Assumes nothing.
 use borrow.Author.Needs.{needs}
-use Rattle.shelf.specs.Calls.{addedTold}
+use Rattle.shelved.specs.Calls.{addedTold}
 use Rattle.calls_flight.proofs.shelves.added.Statement.{statement}
 use Rattle.calls_flight.proofs.shelves.added.Tie as tie
 

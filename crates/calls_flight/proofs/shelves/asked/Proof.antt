@@ -1,6 +1,6 @@
 -- `calls_flight::shelves::asked` meets its contract. Assumes nothing.
 use borrow.Author.Needs.{needs}
-use Rattle.shelf.specs.Calls.{askedTold}
+use Rattle.shelved.specs.Calls.{askedTold}
 use Rattle.calls_flight.proofs.shelves.asked.Statement.{statement}
 use Rattle.calls_flight.proofs.shelves.asked.Tie as tie
 

@@ -1,6 +1,6 @@
 -- `calls_flight::tracks::numbers` meets its contract. Assumes nothing.
 use borrow.Author.Needs.{needs}
-use Rattle.track.specs.Tracks.{trackedTold}
+use Rattle.course.specs.Courses.{trackedTold}
 use Rattle.calls_flight.proofs.tracks.numbers.Statement.{statement}
 use Rattle.calls_flight.proofs.tracks.numbers.Tie as tie
 

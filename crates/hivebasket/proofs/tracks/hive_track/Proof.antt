@@ -43,13 +43,13 @@ use denote.Triple.Spec.{Meets, tripleOf}
 use denote.Triple.Table.{entered, cited}
 use denote.Triple.Walked.{says, Stays, gave-slice, stay-none-slice, walkOf, AllGo, goes-gave-slice, goes-none-slice, Walks, ends-at, walked, walk-meets}
 use denote.Exit.{yes}
-use Rattle.next_fix.specs.declared.Record.{Record}
-use Rattle.next_fix.proofs.Record as R
-use Rattle.next_fix.proofs.Record.Laws as R′
+use Rattle.records.specs.declared.Record.{Record}
+use Rattle.records.proofs.Record as R
+use Rattle.records.proofs.Record.Laws as R′
 use Rattle.track.specs.Tracks.{FileTracked}
-use Rattle.track.specs.declared.Tracked.{Tracked}
-use Rattle.track.proofs.Tracked as An
-use Rattle.track.proofs.Tracked.Laws as An′
+use Rattle.course.specs.declared.Tracked.{Tracked}
+use Rattle.course.proofs.Tracked as An
+use Rattle.course.proofs.Tracked.Laws as An′
 use Rattle.track.proofs.track as track
 use Rattle.track.proofs.track.Symbol as track-def
 use Rattle.track.proofs.track.Symbol.{name as #track}
