@@ -1,6 +1,7 @@
 // A file's summary on standard output: one line, with the file's name at its end; or why the file is refused.
 use console::fate_of;
 use console::print_refused;
+use reckon::Summed;
 use rules::Date;
 use rules::Seal;
 use verbs::Fate;
