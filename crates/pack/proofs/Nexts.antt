@@ -23,7 +23,7 @@ use Rattle.shelved.specs.declared.Slot.{Slot}
 use Rattle.shelved.proofs.Tests.{by-eq, not-not, not-so}
 use Rattle.shelved.proofs.Sounds.{sound-read}
 use Rattle.shelved.proofs.Mids.{Mid, mid-move, mid-last, move-order, move-inside, next-bytes, next-size}
-use Rattle.slot.specs.Entries.{movedDown}
+use Rattle.stow.specs.Stow.{movedDown}
 use Rattle.pack.specs.Pack.{ShelfPacked}
 
 -- ---- the numbers of an entry that was read

@@ -1,14 +1,14 @@
--- `slot::put_word` meets its contract: its four bytes stand there, or have no room. Assumes nothing.
+-- `stow::put_word` meets its contract: its four bytes stand there, or have no room. Assumes nothing.
 use mathlib.Core.Logic.{⊎-elim}
 use mathlib.Core.Path.{refl}
 use native.Mathlib.Omega.{arith}
 use borrow.Author.Tests.{ltb-true, ltb-false}
 use lib.ListN.{length-set}
 use Rattle.put.proofs.Laws.{put-past, put-there}
-use Rattle.slot.proofs.Laws.{word-length, word-then}
+use Rattle.stow.proofs.Laws.{word-length, word-then}
 use borrow.Author.Needs.{needs}
-use Rattle.slot.proofs.put_word.Statement.{statement}
-use Rattle.slot.proofs.put_word.Tie as tie
+use Rattle.stow.proofs.put_word.Statement.{statement}
+use Rattle.stow.proofs.put_word.Tie as tie
 
 returns : tie.Need-returns
 returns c = ⊎-elim (λ w. put-past _ _ _ _ 4 (word-length _) (omega arith) refl) (λ w. put-past _ _ _ _ 4 (word-length _) (omega (arith, ltb-true)) refl) (c .if1 .came)

@@ -1,4 +1,4 @@
--- `slot::move_down` meets its contract: what is left to move from here is the whole answer. Assumes nothing.
+-- `stow::move_down` meets its contract: what is left to move from here is the whole answer. Assumes nothing.
 use Prim.Native.Nat.{suc, _≤_, _-_, _+_}
 use mathlib.Core.Logic.{⊎-elim}
 use mathlib.Core.Path.{_≡_, refl, sym, _∙_}
@@ -8,10 +8,10 @@ use borrow.Author.Tests.{ltb-true, ltb-false}
 use lib.ListN.{length, length-set}
 use lib.Seq.{sets}
 use Rattle.shelved.proofs.Bytes.{run}
-use Rattle.slot.proofs.Laws.{move-more, moved-behind, moved-over, moved-there}
+use Rattle.stow.proofs.Laws.{move-more, moved-behind, moved-over, moved-there}
 use borrow.Author.Needs.{needs}
-use Rattle.slot.proofs.move_down.Statement.{statement}
-use Rattle.slot.proofs.move_down.Tie as tie
+use Rattle.stow.proofs.move_down.Statement.{statement}
+use Rattle.stow.proofs.move_down.Tie as tie
 
 abbrev Inv-loop : tie.InvT-loop
 Inv-loop b₀ to from n i₀ b i = (sets b₀ to (run from n b₀) ≡ sets b (to + i) (run (from + i) (n - i) b)) × (length b ≡ length b₀) × (i ≤ n) × (to ≤ from) × (from + n ≤ length b₀)
