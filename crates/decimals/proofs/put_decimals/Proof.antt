@@ -16,6 +16,13 @@ add-put-behind-dot c =
     let p = c .before .before .before .before .before in
     omega (arith, rest-below _ (p .before .before .args .count) _ (p .power .ensures))
 
+returns : tie.Need-returns
+returns c =
+    let d = c .before .before in
+    let a = d .before .before .before .before in
+    let p = a .before .before in
+    degrees-fill _ _ _ _ _ _ _ _ _ (p .before .before .pre) (p .power .ensures) (a .put-decimal .ensures) (d .put-behind-dot .ensures)
+
 pub put-decimals-spec : {M : Type 1} → statement M
 put-decimals-spec =
     tie.close
@@ -30,4 +37,4 @@ put-decimals-spec =
     add-put-behind-dot
     (λ c κs. search needs)
     (λ c. search needs)
-    (λ c. search (degrees-fill, needs)))
+    returns)
