@@ -78,15 +78,7 @@ fn which(a: &[u8], b: &[u8], ha: &[usize], hb: &[usize], x: Place, y: Place) -> 
     if y.n <= j {
         return 0;
     }
-    let g = ha[i];
-    let h = hb[j];
-    if compare::at_most(a, g, b, h) {
-        if compare::at_most(b, h, a, g) {
-            return 1;
-        }
-        return 0;
-    }
-    2
+    compare::whose(a, ha[i], b, hb[j])
 }
 
 // Where both slices are read on, and where the output is written on.
