@@ -15,7 +15,7 @@ use Rattle.compare.specs.Letters.{inText, whoseOf}
 use Rattle.compare.proofs.Letters.{in-inside, in-text, in-none}
 use Rattle.runs.specs.Runs.{coming, Refilled}
 use Rattle.loom.specs.Loom.{Ready, Fine, Fresh, Taken, Fills, Emitted, choice, Chosen}
-use Rattle.loom.specs.declared.Place.{Place}
+use Rattle.place.specs.declared.Place.{Place}
 
 -- ---- a slice read on
 

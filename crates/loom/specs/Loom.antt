@@ -12,7 +12,7 @@ use Rattle.notes.specs.Notes.{notAfter, joined}
 use Rattle.notes.specs.Places.{textAt}
 use Rattle.compare.specs.Letters.{whoseOf}
 use Rattle.runs.specs.Runs.{coming}
-use Rattle.loom.specs.declared.Place.{Place}
+use Rattle.place.specs.declared.Place.{Place}
 
 -- ---- a slice, read run by run
 
