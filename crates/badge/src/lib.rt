@@ -3,12 +3,12 @@
 use console::fate_by;
 use console::print_fit;
 use console::print_refused;
+use fate::Fate;
 use libc::STDERR_FILENO;
 use libc::STDOUT_FILENO;
 use named::read_named;
 use rules::Outcome;
 use rules::Seal;
-use verbs::Fate;
 use verbs::Verb;
 
 const USAGE: [u8; 276] = *b"\
@@ -70,7 +70,7 @@ fn on_each(n: usize, dashes: usize, input: &mut [u8]) -> u32 {
     let mut i = 1;
     while i < n {
         let fate = on_word(i, dashes, input);
-        status = verbs::worse(status, verbs::status_of(fate));
+        status = fate::worse(status, fate::status_of(fate));
         if is_unwritten(fate) {
             return status;
         }
@@ -86,7 +86,7 @@ fn on_no_names(n: usize) -> u32 {
         return 2;
     }
     match console::verb_at(1) {
-        Verb::Help => verbs::status_of(fate_of(print_usage(STDOUT_FILENO), Fate::Accepted)),
+        Verb::Help => fate::status_of(fate_of(print_usage(STDOUT_FILENO), Fate::Accepted)),
         _ => {
             print_usage(STDERR_FILENO);
             2

@@ -5,10 +5,10 @@ use console::print_accepted;
 use console::print_heading;
 use console::print_refusal;
 use console::print_refused;
+use fate::Fate;
 use named::read_named;
 use rules::Outcome;
 use rules::Seal;
-use verbs::Fate;
 use verbs::Verb;
 
 fn list(file: &[u8], table: &mut [u32]) -> Fate {

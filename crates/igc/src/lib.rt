@@ -5,11 +5,11 @@ mod merging;
 mod summaries;
 mod tracks;
 
+use fate::Fate;
 use files::check_named;
 use files::show_named;
 use merging::merge_named;
 use summaries::summarize_named;
-use verbs::Fate;
 use verbs::Verb;
 
 // A verb on the file that a word names.
@@ -60,7 +60,7 @@ fn on_each(
     let mut i = first;
     while i < n {
         let fate = on_word(verb, i, dashes, several, input, table);
-        status = verbs::worse(status, verbs::status_of(fate));
+        status = fate::worse(status, fate::status_of(fate));
         if is_unwritten(fate) {
             return status;
         }
@@ -105,7 +105,7 @@ fn on_three(n: usize, input: &mut [u8], other: &mut [u8], out: &mut [u8]) -> u32
     let i = console::place_of(2, names.dashes);
     let j = console::place_of(3, names.dashes);
     let k = console::place_of(4, names.dashes);
-    verbs::status_of(merge_at(i, j, k, input, other, out))
+    fate::status_of(merge_at(i, j, k, input, other, out))
 }
 
 // Runs the program on the arguments that it was started with, a verb and the names of files. `input` takes one file and `other` a second one: each has one byte more than

@@ -1,9 +1,9 @@
 // A file's track on standard output: a line for each fix, sheet by sheet; or why the file is refused.
 use console::fate_of;
 use console::print_refusal;
+use fate::Fate;
 use next_fix::Progress;
 use track::Tracked;
-use verbs::Fate;
 
 // Each sheet of the track, from the first to the last.
 fn print_sheets(file: &[u8], start: Progress, count: usize) -> bool {

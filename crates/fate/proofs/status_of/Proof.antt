@@ -1,8 +1,8 @@
--- `verbs::status_of` meets its contract. Assumes nothing.
+-- `fate::status_of` meets its contract. Assumes nothing.
 use borrow.Author.Needs.{needs}
-use Rattle.verbs.specs.Status.{statusOf}
-use Rattle.verbs.proofs.status_of.Statement.{statement}
-use Rattle.verbs.proofs.status_of.Tie as tie
+use Rattle.fate.specs.Status.{statusOf}
+use Rattle.fate.proofs.status_of.Statement.{statement}
+use Rattle.fate.proofs.status_of.Tie as tie
 
 pub status-of-spec : {M : Type 1} → statement M
 unfolding statusOf

@@ -1,9 +1,9 @@
--- `verbs::worse` meets its contract. Assumes nothing.
+-- `fate::worse` meets its contract. Assumes nothing.
 use borrow.Author.Needs.{needs}
 use Rattle.rules.proofs.Links.{tests}
-use Rattle.verbs.specs.Status.{worse}
-use Rattle.verbs.proofs.worse.Statement.{statement}
-use Rattle.verbs.proofs.worse.Tie as tie
+use Rattle.fate.specs.Status.{worse}
+use Rattle.fate.proofs.worse.Statement.{statement}
+use Rattle.fate.proofs.worse.Tie as tie
 
 pub worse-spec : {M : Type 1} → statement M
 unfolding worse

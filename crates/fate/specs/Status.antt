@@ -1,10 +1,10 @@
--- The exit status of the program igc.
+-- The exit status of the programs igc and badge.
 use Prim.Native.Nat.{ℕ}
 use mathlib.Core.Bool.{cond}
 use mathlib.Core.Path.{_≡_}
 use lib.Dec.{leb}
-use Rattle.verbs.specs.declared.Fate.{Fate}
-use Rattle.verbs.specs.declared.Fate.the-variants.{Accepted, Refused, Unread, Unwritten}
+use Rattle.fate.specs.declared.Fate.{Fate}
+use Rattle.fate.specs.declared.Fate.the-variants.{Accepted, Refused, Unread, Unwritten}
 
 -- 0 where the file is accepted, 1 where it is refused, 2 where it could not be opened or read to its end, or the output could not be written
 unfoldable pub statusOf : Fate → ℕ
