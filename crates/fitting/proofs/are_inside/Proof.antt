@@ -1,4 +1,4 @@
--- `look::are_inside` meets its contract: the entries from i on decide as all do. Assumes nothing.
+-- `fitting::are_inside` meets its contract: the entries from i on decide as all do. Assumes nothing.
 use Prim.Native.Nat.{ℕ, _≤_, _-_}
 use mathlib.Core.Bool.{not}
 use mathlib.Core.Path.{_≡_, refl, sym, _∙_, ap}
@@ -6,10 +6,10 @@ use borrow.Author.Needs.{needs}
 use lib.ListN.{length, drop}
 use Rattle.rules.specs.Choice.{firstOf}
 use Rattle.rules.specs.Layouts.{entriesOf}
-use Rattle.entry.proofs.Turns.{unmapped, entry-hit, entry-miss, entry-past, entry-end}
-use Rattle.look.proofs.Laws.{outside, placed, inside-clear, inside-bad}
-use Rattle.look.proofs.are_inside.Statement.{statement}
-use Rattle.look.proofs.are_inside.Tie as tie
+use Rattle.coded.proofs.Turns.{unmapped, entry-hit, entry-miss, entry-past, entry-end}
+use Rattle.fitting.proofs.Laws.{outside, placed, inside-clear, inside-bad}
+use Rattle.fitting.proofs.are_inside.Statement.{statement}
+use Rattle.fitting.proofs.are_inside.Tie as tie
 
 abbrev Inv-loop : tie.InvT-loop
 Inv-loop bytes es n i₀ i = (i ≤ 13) × (firstOf (outside bytes) placed (drop i (entriesOf es)) i ≡ firstOf (outside bytes) placed (entriesOf es) 0)

@@ -1,4 +1,4 @@
--- `entry::look` meets its contract: the entries from i on decide as all do. Assumes nothing.
+-- `coded::look` meets its contract: the entries from i on decide as all do. Assumes nothing.
 use Prim.Native.Nat.{ℕ, _≤_, _-_}
 use mathlib.Core.Bool.{Bool}
 use mathlib.Core.Path.{_≡_, sym, _∙_}
@@ -9,10 +9,10 @@ use lib.ListN.{length, drop}
 use Rattle.rules.specs.Choice.{firstOf}
 use Rattle.rules.specs.Layouts.{Span, entriesOf, look}
 use Rattle.rules.specs.declared.Entry.{Entry}
-use Rattle.entry.specs.Parts.{spotTold}
-use Rattle.entry.proofs.Turns.{unmapped, entry-hit, entry-miss, entry-past, entry-end}
-use Rattle.entry.proofs.look.Statement.{statement}
-use Rattle.entry.proofs.look.Tie as tie
+use Rattle.coded.specs.Spots.{spotTold}
+use Rattle.coded.proofs.Turns.{unmapped, entry-hit, entry-miss, entry-past, entry-end}
+use Rattle.coded.proofs.look.Statement.{statement}
+use Rattle.coded.proofs.look.Tie as tie
 
 abbrev coded : ℕ → Entry → Bool
 coded x e = eqb (e .code) x

@@ -1,10 +1,10 @@
--- `look::fits` meets its contract: its tests are those of the definition, in their order. Assumes nothing.
+-- `fitting::fits` meets its contract: its tests are those of the definition, in their order. Assumes nothing.
 use mathlib.Core.Path.{sym, _∙_, ap}
 use borrow.Author.Needs.{needs}
 use Rattle.chars.proofs.Laws.{le-true, gt-false, told-true, told-false, and-true, and-false, not-of-true, not-of-false}
 use Rattle.rules.specs.Looks.{fitsLine}
-use Rattle.look.proofs.fits.Statement.{statement}
-use Rattle.look.proofs.fits.Tie as tie
+use Rattle.fitting.proofs.fits.Statement.{statement}
+use Rattle.fitting.proofs.fits.Tie as tie
 
 returns : tie.Need-returns
 unfolding fitsLine

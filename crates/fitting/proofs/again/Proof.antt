@@ -1,4 +1,4 @@
--- `look::again` meets its contract: the entries from j on decide as all behind the entry do. Assumes nothing.
+-- `fitting::again` meets its contract: the entries from j on decide as all behind the entry do. Assumes nothing.
 use Prim.Native.Nat.{ℕ, _+_, _≤_, _-_}
 use mathlib.Core.Path.{_≡_, refl, sym, _∙_}
 use borrow.Author.Needs.{needs}
@@ -6,10 +6,10 @@ use borrow.Author.Tests.{eq-eqb, ne-eqb}
 use lib.ListN.{length, drop}
 use Rattle.rules.specs.Choice.{firstOf}
 use Rattle.rules.specs.Layouts.{entriesOf}
-use Rattle.entry.proofs.Turns.{unmapped, entry-hit, entry-miss, entry-past, entry-end}
-use Rattle.look.proofs.Laws.{coded, spanned, code-found, code-missed}
-use Rattle.look.proofs.again.Statement.{statement}
-use Rattle.look.proofs.again.Tie as tie
+use Rattle.coded.proofs.Turns.{unmapped, entry-hit, entry-miss, entry-past, entry-end}
+use Rattle.fitting.proofs.Laws.{coded, spanned, code-found, code-missed}
+use Rattle.fitting.proofs.again.Statement.{statement}
+use Rattle.fitting.proofs.again.Tie as tie
 
 abbrev Inv-loop : tie.InvT-loop
 Inv-loop i code es n j₀ j =

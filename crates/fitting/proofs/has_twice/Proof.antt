@@ -1,14 +1,14 @@
--- `look::has_twice` meets its contract: the entries from i on decide as all do. Assumes nothing.
+-- `fitting::has_twice` meets its contract: the entries from i on decide as all do. Assumes nothing.
 use Prim.Native.Nat.{ℕ, _≤_, _-_}
 use mathlib.Core.Path.{_≡_, refl, sym, _∙_}
 use borrow.Author.Needs.{needs}
 use lib.ListN.{length, drop}
 use Rattle.rules.specs.Layouts.{entriesOf}
-use Rattle.entry.proofs.Turns.{unmapped}
+use Rattle.coded.proofs.Turns.{unmapped}
 use Rattle.rules.specs.Looks.{twice}
-use Rattle.look.proofs.Laws.{twice-here, twice-next, twice-past, twice-end}
-use Rattle.look.proofs.has_twice.Statement.{statement}
-use Rattle.look.proofs.has_twice.Tie as tie
+use Rattle.fitting.proofs.Laws.{twice-here, twice-next, twice-past, twice-end}
+use Rattle.fitting.proofs.has_twice.Statement.{statement}
+use Rattle.fitting.proofs.has_twice.Tie as tie
 
 abbrev Inv-loop : tie.InvT-loop
 Inv-loop es n i₀ i = (i ≤ 13) × (twice (drop i (entriesOf es)) ≡ twice (entriesOf es))

@@ -1,9 +1,9 @@
--- `look::is_inside` meets its contract: its tests are those of the definition, in their order. Assumes nothing.
+-- `fitting::is_inside` meets its contract: its tests are those of the definition, in their order. Assumes nothing.
 use borrow.Author.Needs.{needs}
 use Rattle.chars.proofs.Laws.{joined}
 use Rattle.rules.specs.Looks.{isInside}
-use Rattle.look.proofs.is_inside.Statement.{statement}
-use Rattle.look.proofs.is_inside.Tie as tie
+use Rattle.fitting.proofs.is_inside.Statement.{statement}
+use Rattle.fitting.proofs.is_inside.Tie as tie
 
 pub is-inside-spec : {M : Type 1} → statement M
 unfolding isInside

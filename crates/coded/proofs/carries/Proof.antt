@@ -1,9 +1,9 @@
--- `entry::carries` meets its contract: it is there where the look-up finds it. Assumes nothing.
+-- `coded::carries` meets its contract: it is there where the look-up finds it. Assumes nothing.
 use borrow.Author.Needs.{needs}
 use Rattle.rules.specs.Layouts.{carries}
-use Rattle.entry.proofs.Laws.{links}
-use Rattle.entry.proofs.carries.Statement.{statement}
-use Rattle.entry.proofs.carries.Tie as tie
+use Rattle.coded.proofs.Laws.{links}
+use Rattle.coded.proofs.carries.Statement.{statement}
+use Rattle.coded.proofs.carries.Tie as tie
 
 pub carries-spec : {M : Type 1} → statement M
 unfolding carries
