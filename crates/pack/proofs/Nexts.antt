@@ -14,7 +14,7 @@ use Rattle.rules.specs.declared.Found.the-variants as found
 use Rattle.rules.specs.declared.Outcome.the-variants as outcome
 use Rattle.rules.specs.declared.Reason.the-variants as reason
 use Rattle.rules.specs.declared.Refusal.{Refusal}
-use Rattle.cut.specs.Steps.{unplaced}
+use Rattle.cut.specs.Ends.{unplaced}
 use Rattle.cut.proofs.Places.{refuses-unplaced}
 use Rattle.shelved.specs.Contents.{wordBytes, startOf, sizeOf, slotOf, bodyOf, sound}
 use Rattle.shelved.specs.Moves.{NextOf, movedTo}

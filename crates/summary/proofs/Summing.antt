@@ -16,7 +16,7 @@ use Rattle.rules.specs.declared.Flight.{Flight}
 use Rattle.rules.specs.declared.Reason.the-variants as reason
 use Rattle.rules.specs.declared.Refusal.{Refusal}
 use Rattle.rules.proofs.Inverse.{refuses-says}
-use Rattle.cut.specs.Steps.{unplaced}
+use Rattle.cut.specs.Ends.{unplaced}
 use Rattle.next_fix.specs.Steps.{stepOf}
 use Rattle.next_fix.specs.Track.{trackSeal, trackOf}
 use Rattle.next_fix.specs.declared.FixStep.{FixStep}

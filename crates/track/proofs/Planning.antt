@@ -22,7 +22,7 @@ use Rattle.rules.specs.declared.Outcome.the-variants as outcomes
 use Rattle.rules.specs.declared.Reason.the-variants as reason
 use Rattle.rules.specs.declared.Refusal.{Refusal}
 use Rattle.rules.proofs.Inverse.{refuses-says}
-use Rattle.cut.specs.Steps.{unplaced}
+use Rattle.cut.specs.Ends.{unplaced}
 use Rattle.next_fix.specs.Track.{trackSeal, flightTracked}
 use Rattle.next_fix.specs.declared.Progress.{Progress}
 use Rattle.track.specs.Tracks.{trackedTold, startBy, fixSize, countIn, CourseTold, FlightPlanned, CoursePlanned}

@@ -1,11 +1,11 @@
--- `cut::Cursor::step` meets its contract: each way out is a way through `stepAt`. Assumes nothing.
+-- `cursor::Cursor::step` meets its contract: each way out is a way through `stepAt`. Assumes nothing.
 use borrow.Author.Needs.{needs}
 use Rattle.rules.specs.Split.{stepAt}
 use Rattle.rules.proofs.Links.{fields}
-use Rattle.cut.specs.Steps.{stepTold}
+use Rattle.cursor.specs.Steps.{stepTold}
 use Rattle.cut.proofs.Places.{refuses-unplaced, found-fits}
-use Rattle.cut.proofs.Cursor.step.Statement.{statement}
-use Rattle.cut.proofs.Cursor.step.Tie as tie
+use Rattle.cursor.proofs.Cursor.step.Statement.{statement}
+use Rattle.cursor.proofs.Cursor.step.Tie as tie
 
 pub step-spec : {M : Type 1} → statement M
 unfolding stepAt stepTold
