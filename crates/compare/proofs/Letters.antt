@@ -1,6 +1,6 @@
 -- A text byte by byte, and two texts compared byte by byte. Assumes nothing.
 use Prim.Native.Nat.{ℕ, _+_, _-_, _≤_, _<_}
-use mathlib.Core.Bool.{Bool, true, false, not}
+use mathlib.Core.Bool.{Bool, true, false, not, cond}
 use mathlib.Core.List.{List, [], _∷_}
 use mathlib.Core.Path.{_≡_, sym, _∙_}
 use native.Mathlib.Numerals.{add-one}
@@ -87,3 +87,12 @@ module _ (s t : List ℕ) (x y b : ℕ) (e : b ≡ letter (textAt s x)) where
     most-same h k =
         let d : b ≡ c = omega arith in
         rw (letter-text s x b e n, letter-text t y c f (λ z. n (d ∙ z)), le-ltb (b - 1) (c - 1) (omega arith), le-ltb (c - 1) (b - 1) (omega arith))
+
+-- ---- whose text comes first: r and t are what the two tests said
+
+module _ (p q r : Bool) (e : r ≡ p) where
+  pub whose-both : (t : Bool) → r ≡ true → t ≡ q → t ≡ true → _≡_ {A = ℕ} 1 (cond p (cond q 1 0) 2)
+  whose-both t f g w = rw (← e, f, ← g, w)
+
+  pub whose-first : (t : Bool) → r ≡ true → t ≡ q → t ≡ false → _≡_ {A = ℕ} 0 (cond p (cond q 1 0) 2)
+  whose-first t f g w = rw (← e, f, ← g, w)

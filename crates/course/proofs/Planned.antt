@@ -11,7 +11,7 @@ use Rattle.rules.specs.declared.LengthRead.{LengthRead}
 use Rattle.rules.specs.declared.LengthRead.the-variants as lengthRead
 use Rattle.rules.specs.declared.Reason.the-variants as reason
 use Rattle.rules.specs.declared.Refusal.{Refusal}
-use Rattle.cut.specs.Steps.{unplaced}
+use Rattle.cut.specs.Ends.{unplaced}
 use Rattle.records.specs.declared.Progress.{Progress}
 use Rattle.course.specs.Courses.{trackedTold, startBy, fixSize, CourseTold, FlightPlanned}
 use Rattle.course.specs.declared.Course.{Course}

@@ -24,7 +24,7 @@ use Rattle.rules.specs.declared.Found.{Found}
 use Rattle.rules.specs.declared.Found.the-variants as found
 use Rattle.laws.proofs.Chains.{by-cond, by-need}
 use Rattle.laws.proofs.LineEnds.{rest}
-use Rattle.cut.specs.Steps.{endedAt, unplaced}
+use Rattle.cut.specs.Ends.{endedAt, unplaced}
 use Rattle.cut.specs.declared.scan.Ended.the-variants as ended
 
 -- ---- the first CR LF from a place on

@@ -2,9 +2,9 @@
 use console::fate_by;
 use console::print_fit;
 use console::print_refused;
+use fate::Fate;
 use rules::Outcome;
 use rules::Seal;
-use verbs::Fate;
 
 // `console::fate_by`, said by badge.
 pub fn claim_fate(written: bool, fate: Fate) -> Fate {

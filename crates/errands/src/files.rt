@@ -3,9 +3,9 @@ use console::fate_of;
 use console::print_accepted;
 use console::print_refusal;
 use console::print_refused;
+use fate::Fate;
 use rules::Outcome;
 use rules::Seal;
-use verbs::Fate;
 
 // The listing of an accepted file, or why it is refused.
 pub(crate) fn print_list(file: &[u8], table: &mut [u32]) -> Fate {

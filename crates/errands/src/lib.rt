@@ -9,13 +9,13 @@ pub use claims::claim_fate;
 use claims::print_claim;
 use console::fate_of;
 use console::print_heading;
+use fate::Fate;
 use files::print_check;
 use files::print_list;
 pub use merging::merge_named;
 use named::read_named;
 use summaries::print_summary;
 use tracks::print_track;
-use verbs::Fate;
 
 // What is wanted of a file: its listing, a line that says whether it is accepted, its track, its summary; or whether it is fit for a claim, which the badge list asks.
 pub enum Errand {

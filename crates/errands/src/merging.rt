@@ -3,9 +3,9 @@ use console::fate_of;
 use console::print_noted;
 use console::print_refused;
 use console::print_unmerged;
+use fate::Fate;
 use merge::Brought;
 use named::read_named;
-use verbs::Fate;
 
 // How many notes each copy has, and the new file.
 fn print_notes(

@@ -1,10 +1,10 @@
 // A file's summary on standard output: one line, with the file's name at its end; or why the file is refused.
 use console::fate_of;
 use console::print_refused;
+use fate::Fate;
 use reckon::Summed;
 use rules::Date;
 use rules::Seal;
-use verbs::Fate;
 
 // The line of an accepted file: a line has at most 320 bytes before the name.
 fn print_line(name: &[u8], date: Date, list: &[i32]) -> bool {

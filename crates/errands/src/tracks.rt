@@ -2,8 +2,8 @@
 use console::fate_of;
 use console::print_refusal;
 use course::Tracked;
+use fate::Fate;
 use records::Progress;
-use verbs::Fate;
 
 // Each sheet of the track, from the first to the last.
 fn print_sheets(file: &[u8], start: Progress, count: usize) -> bool {

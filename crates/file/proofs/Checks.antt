@@ -21,7 +21,7 @@ use Rattle.rules.specs.declared.Reason.the-variants.{EndsEarly}
 use Rattle.rules.specs.declared.Refusal.{Refusal}
 use Rattle.rules.specs.declared.Seal.{Seal}
 use Rattle.rules.specs.declared.State.{State}
-use Rattle.cut.specs.Steps.{unplaced}
+use Rattle.cut.specs.Ends.{unplaced}
 use Rattle.cut.proofs.Places.{refuses-unplaced}
 use Rattle.enter.specs.Turns.{roomOf, entered, Here}
 use Rattle.enter.proofs.Turns.{put-long, here-few, here-next}

@@ -20,7 +20,7 @@ use Rattle.rules.specs.declared.Signed.{Signed}
 use Rattle.rules.specs.declared.Reason.the-variants.{BadValue, Absent, NotNumber}
 use Rattle.rules.proofs.Inverse.{none-some, given-inv}
 use Rattle.sound.proofs.Placed.{laid, entries-laid}
-use Rattle.look.proofs.Laws.{any-place, outside, placed}
+use Rattle.fitting.proofs.Laws.{any-place, outside, placed}
 use Rattle.lent_entries.specs.Lent.{entriesSize, entryIn, noEntries, takenFrom, takenSaid}
 use Rattle.lent_entries.proofs.Taken.{entriesIn, taken-entries}
 use Rattle.lent_look.specs.Looks.{lookBy, numberBy}

@@ -9,14 +9,13 @@ use lib.ListN.{length, take, drop, getD, set, length-append, length-take, length
 use lib.Seq.{drop-cons, sets, length-take-le, getD-take, take-take, take-all, append-snoc, set-out}
 use Rattle.sorted.specs.Sorted.{count}
 use Rattle.sorted.proofs.Streams.{follow}
-use Rattle.notes.specs.Notes.{notAfter}
 use Rattle.notes.specs.Places.{textAt, earlier, starts}
 use Rattle.notes.proofs.Places.{places, rising-once, starts-rising}
-use Rattle.compare.specs.Letters.{inText}
+use Rattle.compare.specs.Letters.{inText, whoseOf}
 use Rattle.compare.proofs.Letters.{in-inside, in-text, in-none}
 use Rattle.runs.specs.Runs.{coming, Refilled}
 use Rattle.loom.specs.Loom.{Ready, Fine, Fresh, Taken, Fills, Emitted, choice, Chosen}
-use Rattle.loom.specs.declared.Place.{Place}
+use Rattle.place.specs.declared.Place.{Place}
 
 -- ---- a slice read on
 
@@ -134,23 +133,9 @@ module _ (a b ha hb : List ℕ) (x y : Place) (p : Fine a ha x) (q : Fine b hb y
   chosen-first h k = record { is = rw (q .done k, next-is a ha x (p .ready) h); first = λ z. h; second = λ z. absurd (z refl) }
 
   module _ (h : x .i < x .n) (k : y .i < y .n) where
-    abbrev u : List ℕ
-    u = textAt a (getD ha (x .i) 0)
-
-    abbrev v : List ℕ
-    v = textAt b (getD hb (y .i) 0)
-
-    pub chosen-both : (r t : Bool) → r ≡ notAfter u v → r ≡ true → t ≡ notAfter v u → t ≡ true → Chosen a b x y 1
+    pub chosen-by : (r : ℕ) → r ≡ whoseOf (textAt a (getD ha (x .i) 0)) (textAt b (getD hb (y .i) 0)) → Chosen a b x y r
     unfolding choice
-    chosen-both r t e f g w = record { is = rw (next-is a ha x (p .ready) h, next-is b hb y (q .ready) k, ← e, f, ← g, w); first = λ z. h; second = λ z. k }
-
-    pub chosen-less : (r t : Bool) → r ≡ notAfter u v → r ≡ true → t ≡ notAfter v u → t ≡ false → Chosen a b x y 0
-    unfolding choice
-    chosen-less r t e f g w = record { is = rw (next-is a ha x (p .ready) h, next-is b hb y (q .ready) k, ← e, f, ← g, w); first = λ z. h; second = λ z. k }
-
-    pub chosen-more : (r : Bool) → r ≡ notAfter u v → r ≡ false → Chosen a b x y 2
-    unfolding choice
-    chosen-more r e f = record { is = rw (next-is a ha x (p .ready) h, next-is b hb y (q .ready) k, ← e, f); first = λ z. h; second = λ z. k }
+    chosen-by r e = record { is = rw (next-is a ha x (p .ready) h, next-is b hb y (q .ready) k) e; first = λ z. h; second = λ z. k }
 
 pub byte-past : (l : List ℕ) (at b : ℕ) → length l ≤ at → Fills l at (b ∷ []) l
 byte-past l at b h = record { size = refl; is = sym (set-out l at b h) }

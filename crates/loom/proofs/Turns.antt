@@ -16,7 +16,8 @@ use Rattle.notes.specs.Places.{upToCR, textAt, starts}
 use Rattle.notes.proofs.Places.{places, starts-length}
 use Rattle.runs.specs.Runs.{coming}
 use Rattle.loom.specs.Loom.{Ready, Fine, Fresh, Taken, Fills, line, Emitted, choice, texts, Chosen, both, Turned, Over, all, Walked, NotesPut}
-use Rattle.loom.specs.declared.Place.{Place}
+use Rattle.place.specs.Through.{through, BothThrough}
+use Rattle.place.specs.declared.Place.{Place}
 use Rattle.loom.proofs.Reading.{fills-then}
 
 -- ---- the walk by the choice
@@ -113,11 +114,15 @@ module _ (a b ha hb : List ℕ) (x y : Place) (out : List ℕ) (at : ℕ) (p : F
 
 -- ---- both through
 
-pub over-not : (x y : Place) → x .i < x .n → Over x y false
-over-not x y h = record { yes-first = λ e. clash e refl; yes-second = λ e. clash e refl; not-yet = λ e g. absurd (omega arith) }
-
-pub over-by : (x y : Place) → x .n ≤ x .i → Over x y (leb (y .n) (y .i))
-over-by x y h = record { yes-first = λ e. h; yes-second = λ e. leb-true (y .n) (y .i) e; not-yet = λ e g. leb-false (y .n) (y .i) e }
+pub over-of : (x y : Place) (r : Bool) → BothThrough x y r → Over x y r
+over-of x y r e =
+    split (through x)
+    (λ f.
+    let d : r ≡ through y = e ∙ rw f in
+    record { yes-first = λ t. leb-true (x .n) (x .i) f; yes-second = λ t. leb-true (y .n) (y .i) (sym d ∙ t); not-yet = λ t g. leb-false (y .n) (y .i) (sym d ∙ t) })
+    (λ f.
+    let d : r ≡ false = e ∙ rw f in
+    record { yes-first = λ t. clash t d; yes-second = λ t. clash t d; not-yet = λ t g. absurd (omega (arith, leb-false (x .n) (x .i) f)) })
 
 -- ---- the whole walk
 

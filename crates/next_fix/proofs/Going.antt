@@ -15,7 +15,7 @@ use Rattle.rules.specs.Order.{Passing, onward, nextDay, back, passing}
 use Rattle.rules.specs.Split.{Lines, end, broken, line, linesOf}
 use Rattle.rules.specs.Walk.{Walk, timeOn, dayAfter, walkedBy}
 use Rattle.laws.proofs.Splitting.{cut}
-use Rattle.cut.specs.Steps.{endedAt}
+use Rattle.cut.specs.Ends.{endedAt}
 use Rattle.cut.specs.declared.scan.Ended.the-variants as ended
 use Rattle.cut.proofs.Cuts.{torn}
 use Rattle.cut.proofs.Cuts as cuts

@@ -2,9 +2,9 @@
 // It is one exported function: C's `main` lends the memory and returns the status (c/badge.c).
 use crate::on_each;
 use errands::Errand;
+use fate::Fate;
 use libc::STDERR_FILENO;
 use libc::STDOUT_FILENO;
-use verbs::Fate;
 use verbs::Verb;
 
 const USAGE: [u8; 276] = *b"\
@@ -33,7 +33,7 @@ fn on_no_names(n: usize) -> u32 {
         return 2;
     }
     match console::verb_at(1) {
-        Verb::Help => verbs::status_of(errands::claim_fate(
+        Verb::Help => fate::status_of(errands::claim_fate(
             print_usage(STDOUT_FILENO),
             Fate::Accepted,
         )),

@@ -2,7 +2,7 @@
 // It is one exported function: C's `main` lends the memory and returns the status (c/igc.c).
 use crate::on_each;
 use errands::Errand;
-use verbs::Fate;
+use fate::Fate;
 use verbs::Verb;
 
 // What a verb wants of each file that is named.
@@ -59,7 +59,7 @@ fn on_three(n: usize, input: &mut [u8], other: &mut [u8], out: &mut [u8]) -> u32
     let i = console::place_of(2, names.dashes);
     let j = console::place_of(3, names.dashes);
     let k = console::place_of(4, names.dashes);
-    verbs::status_of(merge_at(i, j, k, input, other, out))
+    fate::status_of(merge_at(i, j, k, input, other, out))
 }
 
 // Runs the program on the arguments that it was started with, a verb and the names of files. `input` takes one file and `other` a second one: each has one byte more than

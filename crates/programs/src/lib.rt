@@ -3,7 +3,7 @@ mod badge;
 mod igc;
 
 use errands::Errand;
-use verbs::Fate;
+use fate::Fate;
 
 // An errand on the file that a word names; the word `--` names none.
 fn on_word(
@@ -44,7 +44,7 @@ fn on_each(
     let mut i = first;
     while i < n {
         let fate = on_word(errand, i, dashes, several, input, table);
-        status = verbs::worse(status, verbs::status_of(fate));
+        status = fate::worse(status, fate::status_of(fate));
         if is_unwritten(fate) {
             return status;
         }

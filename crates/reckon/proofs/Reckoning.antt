@@ -7,7 +7,7 @@ use lib.IntN.{ℤ}
 use lib.ListN.{length}
 use Rattle.rules.specs.declared.Reason.the-variants as reason
 use Rattle.rules.specs.declared.Refusal.{Refusal}
-use Rattle.cut.specs.Steps.{unplaced}
+use Rattle.cut.specs.Ends.{unplaced}
 use Rattle.records.specs.declared.FixStep.{FixStep}
 use Rattle.records.specs.declared.Progress.{Progress}
 use Rattle.reckon.specs.Filled.{filled}

@@ -22,7 +22,7 @@ use Rattle.rules.specs.declared.Outcome.the-variants as outcomes
 use Rattle.rules.specs.declared.Reason.the-variants as reason
 use Rattle.rules.specs.declared.Refusal.{Refusal}
 use Rattle.rules.proofs.Inverse.{refuses-says}
-use Rattle.cut.specs.Steps.{unplaced}
+use Rattle.cut.specs.Ends.{unplaced}
 use Rattle.records.specs.Track.{trackSeal, flightTracked}
 use Rattle.records.specs.declared.Progress.{Progress}
 use Rattle.course.specs.Courses.{trackedTold, startBy, fixSize, countIn, CourseTold, FlightPlanned}

@@ -5,7 +5,7 @@ use native.Mathlib.Omega.{arith}
 use lib.ListN.{length, drop, replicate}
 use lib.Seq.{sets}
 use Rattle.rules.specs.Layouts.{entriesOf}
-use Rattle.entry.proofs.Turns.{unmapped}
+use Rattle.coded.proofs.Turns.{unmapped}
 use Rattle.sure.specs.Sure.{patternOf}
 use Rattle.sure.proofs.Laws.{pattern-turn, pattern-past, pattern-end}
 use borrow.Author.Needs.{needs}
