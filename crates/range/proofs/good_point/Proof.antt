@@ -1,10 +1,10 @@
--- `limits::lines::good_point` meets its contract: each way out is a way through `goodPoint`. Assumes nothing.
+-- `range::good_point` meets its contract: each way out is a way through `goodPoint`. Assumes nothing.
 use borrow.Author.Needs.{needs}
 use borrow.Author.Tests.{not-true, not-false}
 use Rattle.rules.proofs.Links.{tests}
 use Rattle.rules.specs.Limits.{goodPoint}
-use Rattle.limits.proofs.lines.good_point.Statement.{statement}
-use Rattle.limits.proofs.lines.good_point.Tie as tie
+use Rattle.range.proofs.good_point.Statement.{statement}
+use Rattle.range.proofs.good_point.Tie as tie
 
 pub good-point-spec : {M : Type 1} → statement M
 unfolding goodPoint
