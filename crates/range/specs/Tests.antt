@@ -1,4 +1,4 @@
--- The promises of the tests of one value: whether a field or a text of some line reads as it.
+-- The promises of the tests of one value: whether a field or a text of some line reads as it; and of a point with its text: whether some C point line does.
 use Prim.Native.Nat.{ℕ}
 use mathlib.Core.Bool.{Bool}
 use mathlib.Core.List.{List}
