@@ -9,7 +9,7 @@ use lib.ListN.{length, take, set, getD}
 use lib.Seq.{take-suc, take-suc-set, take-all}
 use borrow.Author.Tests.{eq-eqb, ne-eqb}
 use Rattle.rules.specs.Refusals.{Said}
-use Rattle.answers.specs.Answers.{size, filled, accepting, inNumbers, hasRoom, Answered, AnswerGiven}
+use Rattle.answers.specs.Answers.{size, filled, accepting, inNumbers, hasRoom, Answered}
 use Rattle.answers.specs.declared.Numbers.{Numbers}
 
 -- ---- numbers stored one after the other

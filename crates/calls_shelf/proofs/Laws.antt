@@ -1,6 +1,5 @@
 -- The two ways out of each call that changes a shelf: an answer of another length, and what was told. Assumes nothing.
 use Prim.Native.Nat.{ℕ}
-use mathlib.Core.Bool.{true, false}
 use mathlib.Core.List.{List}
 use mathlib.Core.Path.{_≡_, refl, sym, _∙_, ap}
 use borrow.Author.Tests.{eq-eqb, ne-eqb}

@@ -1,7 +1,7 @@
 -- The two ways out of the call that makes a file's track: an answer of another length, and what was told. Assumes nothing.
 use Prim.Native.Nat.{ℕ}
 use mathlib.Core.List.{List}
-use mathlib.Core.Path.{_≡_, refl, ap}
+use mathlib.Core.Path.{_≡_, ap}
 use borrow.Author.Tests.{eq-eqb, ne-eqb}
 use lib.ListN.{length}
 use Rattle.next_fix.specs.declared.Record.{Record}

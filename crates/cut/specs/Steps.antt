@@ -1,7 +1,7 @@
 -- A step of the reading place, in the paper's terms; and where a line ends.
 use Prim.Native.Nat.{ℕ, _+_}
 use mathlib.Core.List.{List}
-use mathlib.Core.Option.{Option, none, some}
+use mathlib.Core.Option.{none, some}
 use mathlib.Core.Path.{_≡_}
 use lib.ListN.{length, drop}
 use Rattle.rules.specs.Refusals.{Said, says, refusal}

@@ -29,7 +29,6 @@ use Rattle.demands.proofs.Reading.{lines-are}
 use Rattle.evening.proofs.NeverFull.{check-never-full}
 use Rattle.next_fix.specs.Steps.{zeroRecord}
 use Rattle.next_fix.specs.Track.{trackSeal, trackOf}
-use Rattle.next_fix.specs.declared.Record.{Record}
 use Rattle.track.proofs.Tracking.{counted-all}
 use Rattle.mapped.specs.Mapped.{BLines, IsRecord}
 use Rattle.mapped.proofs.Answers.{met, meets-so}

@@ -39,13 +39,17 @@ then-inv (refuses n l b) w f e = absurd (refuses-says e)
 -- ---- tests
 
 -- a test holds, or it fails
-pub by-test : {A : Type 0} (t : Bool) → (t ≡ true → A) → (t ≡ false → A) → A
-by-test true f g = f refl
-by-test false f g = g refl
+pub by-bool : {A : Type 0} (t : Bool) → (t ≡ true → A) → (t ≡ false → A) → A
+by-bool true f g = f refl
+by-bool false f g = g refl
 
 pub and-inv : (a b : Bool) → (a && b) ≡ true → (a ≡ true) × (b ≡ true)
 and-inv true b e = (refl, e)
 and-inv false b e = absurd (false-true e)
+
+pub or-inv : {A : Type 0} (a b : Bool) → (a || b) ≡ true → (a ≡ true → A) → (b ≡ true → A) → A
+or-inv true b e f g = f refl
+or-inv false b e f g = g e
 
 pub or-neither : (a b : Bool) → (a || b) ≡ false → (a ≡ false) × (b ≡ false)
 or-neither true b e = absurd (false-true (sym e))

@@ -1,7 +1,7 @@
 -- One answer at most meets the promise of this crate, and the list is afterwards one thing. Assumes nothing.
 use Prim.Native.Nat.{ℕ}
 use mathlib.Core.List.{List}
-use mathlib.Core.Path.{_≡_, refl, ap}
+use mathlib.Core.Path.{refl, ap}
 use lib.IntN.{ℤ}
 use Rattle.rules.specs.Refusals.{Said, says, refuses}
 use Rattle.only.proofs.Told.{OneToOne, by-back, refusalOf, refusal-back}

@@ -14,7 +14,7 @@ use Rattle.rules.specs.declared.FineTime.{FineTime}
 use Rattle.rules.specs.declared.FinePosition.{FinePosition}
 use Rattle.rules.specs.declared.Fix.{Fix}
 use Rattle.rules.proofs.Times.{by-pairs}
-use Rattle.put.proofs.Laws.{digits-length}
+use Rattle.rules.proofs.Texts.{digits-length}
 use Rattle.pieces.proofs.Laws.{number-room}
 use Rattle.show.proofs.Laws.{metres-room}
 use Rattle.tens.specs.Tens.{fewOf}
