@@ -3,11 +3,10 @@ use Prim.Native.Nat.{ℕ, _+_, _-_, _≤_, _<_}
 use mathlib.Core.Bool.{true, false}
 use mathlib.Core.List.{List, _∷_, _++_}
 use mathlib.Core.Path.{_≡_, refl, sym, ap, _∙_}
-use native.Mathlib.Numerals.{add-one}
 use native.Mathlib.Omega.{arith}
 use borrow.Author.Tests.{le-leb}
 use lib.ListN.{length, getD, take, drop, length-take, length-drop, take-append-drop}
-use lib.Seq.{drop-cons, drop-drop, getD-take, getD-drop}
+use lib.Seq.{drop-drop, getD-take, getD-drop}
 use Rattle.rules.specs.Families.{firstStart, lineLetter, layoutOf, oneMore}
 use Rattle.rules.specs.Roles.{afterH, inBody, stageAfter}
 use Rattle.rules.specs.Choice.{on}
@@ -17,7 +16,7 @@ use Rattle.rules.specs.Lines.{kindOf, columnedLine, eLine, fLine, shaped}
 use Rattle.rules.specs.Order.{judge, orderOf, fitsDeclaration, ruled, timed, passing, isBack, moved, counted, clocked}
 use Rattle.rules.specs.Reads.{timeReadTold}
 use Rattle.rules.specs.Refusals.{says, outcomeTold}
-use Rattle.rules.specs.Split.{line, linesOf}
+use Rattle.rules.specs.Split.{linesOf}
 use Rattle.rules.specs.declared.Counts.{Counts}
 use Rattle.rules.specs.declared.Family.{Family}
 use Rattle.rules.specs.declared.Extra.the-variants as extra
@@ -30,6 +29,7 @@ use Rattle.rules.specs.declared.Time.the-variants.{Secs}
 use Rattle.rules.specs.declared.TimeRead.{TimeRead}
 use Rattle.rules.specs.declared.TimeRead.the-variants as timeRead
 use Rattle.laws.proofs.Splitting.{lines-of-line}
+use Rattle.laws.proofs.LineEnds.{rest}
 use Rattle.plain.specs.Plain.{isMild, every}
 use Rattle.plain.proofs.Laws.{mild-text}
 use Rattle.sure.specs.Sure.{patternOf, sureTime}
@@ -42,7 +42,7 @@ use Rattle.clock.specs.declared.Pace.{Pace}
 use Rattle.clock.specs.declared.Taken.{Taken}
 use Rattle.clock.specs.declared.Taken.the-variants as taken
 use Rattle.clock.proofs.Moving.{timed-is}
-use Rattle.ahead.specs.Paces.{paced, Going, Known, Judges, JudgedAs, MildAs, Takes, TakenAs}
+use Rattle.ahead.specs.Paces.{paced, Going, Known, Judges, JudgedAs, MildAs, TakenAs}
 
 -- ---- a line judged
 
@@ -145,9 +145,6 @@ taken-by f st p e (taken.Next q) k j =
       stage = j .stage;
     }
 taken-by f st p e taken.Unsure k j = tt
-
-rest : (f : List ℕ) (i : ℕ) → i < length f → drop i f ≡ getD f i 0 ∷ drop (i + 1) f
-rest f i h = rw add-one (drop-cons f i 0 h)
 
 -- a CR LF behind a mild text ends its line
 module _ (f : List ℕ) (at size : ℕ) (w : at + size + 2 ≤ length f) (cr : getD f (at + size) 0 ≡ 13) (lf : getD f (at + size + 1) 0 ≡ 10) where

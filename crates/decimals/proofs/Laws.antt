@@ -2,7 +2,7 @@
 use Prim.Native.Nat.{ℕ, zero, suc, _+_, _*_, _/_, _%_, _^_, _≤_, _<_}
 use mathlib.Core.Bool.{Bool, true, false}
 use mathlib.Core.List.{List, [], _∷_, _++_, append-nil}
-use mathlib.Core.Path.{_≡_, refl, sym, ap, ap₂, _∙_}
+use mathlib.Core.Path.{_≡_, refl, sym, ap, _∙_}
 use native.Mathlib.Nat.{zero-add, pow-suc, mod-lt}
 use native.Mathlib.Omega.{arith}
 use borrow.Author.Tests.{le-leb, eq-eqb, ne-eqb}
@@ -17,9 +17,9 @@ use Rattle.rules.specs.Degrees.{isNegated}
 use Rattle.rules.specs.Listing.{decimal}
 use Rattle.rules.specs.declared.FineTime.{FineTime}
 use Rattle.rules.specs.declared.FinePosition.{FinePosition}
+use Rattle.rules.proofs.Texts.{digits-length}
 use Rattle.pieces.specs.Buffer.{PiecePut}
 use Rattle.pieces.proofs.Laws.{then, nothing}
-use Rattle.put.proofs.Laws.{digits-length}
 use Rattle.spell.proofs.Laws.{time-length}
 use Rattle.tens.specs.Tens.{fewOf, powerOf}
 use Rattle.tens.proofs.Laws.{by-few, power-all, told-least, told-most}

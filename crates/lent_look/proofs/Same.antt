@@ -9,7 +9,7 @@ use borrow.Author.Tests.{le-leb, leb-true}
 use lib.Dec.{eqb, leb}
 use lib.ListN.{length, getD}
 use Rattle.rules.specs.Choice.{given, need, firstOf}
-use Rattle.rules.specs.Layouts.{Span, emptyLayout, entriesOf, spanOf, lookIn, look, columnText}
+use Rattle.rules.specs.Layouts.{Span, emptyLayout, spanOf, lookIn, look, columnText}
 use Rattle.rules.specs.Listed.{packedOf}
 use Rattle.rules.specs.Looks.{carriedIn, twice, isInside, areInside, fitsLine, lookSaid, lookNumber}
 use Rattle.rules.specs.Numbers.{wholeOf}

@@ -10,7 +10,7 @@ use borrow.Author.Tests.{le-leb, lt-ltb, le-ltb, leb-true, leb-false, eqb-true}
 use Prim.Native.Char.{code}
 use lib.Dec.{leb, ltb, eqb}
 use lib.ListN.{length, getD, take, drop, length-drop}
-use Rattle.rules.specs.Choice.{need, part, Each}
+use Rattle.rules.specs.Choice.{need, Each}
 use Rattle.rules.specs.Refusals.{Said, says, refuses, no, valueOr}
 use Rattle.rules.specs.Layouts.{allowed}
 use Rattle.rules.specs.Split.{Lines, end, broken, line, linesOf, offsets}

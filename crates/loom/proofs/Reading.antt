@@ -7,6 +7,7 @@ use native.Mathlib.Numerals.{add-one}
 use native.Mathlib.Omega.{arith}
 use lib.ListN.{length, take, drop, getD, set, length-append, length-take, length-set}
 use lib.Seq.{drop-cons, sets, length-take-le, getD-take, take-take, take-all, append-snoc, set-out}
+use Rattle.rules.proofs.Texts.{sets-append}
 use Rattle.sorted.specs.Sorted.{count}
 use Rattle.sorted.proofs.Streams.{follow}
 use Rattle.notes.specs.Places.{textAt, earlier, starts}
@@ -74,12 +75,6 @@ fresh-filled s heads p l n f h r en ei el =
     }
 
 -- ---- bytes put one after the other
-
-pub sets-append : (l : List ℕ) (at : ℕ) (a b : List ℕ) → sets l at (a ++ b) ≡ sets (sets l at a) (at + length a) b
-sets-append l at [] b = let e : at + 0 ≡ at = omega arith in rw e
-sets-append l at (x ∷ a) b =
-    let e : suc at + length a ≡ at + suc (length a) = omega arith in
-    sets-append (set l at x) (suc at) a b ∙ ap (λ (m : ℕ). sets (sets (set l at x) (suc at) a) m b) e
 
 pub fills-then : (x l l₁ : List ℕ) (at m : ℕ) (t b : List ℕ) → Fills l at t l₁ → m ≡ at + length t → Fills l₁ m b x → Fills l at (t ++ b) x
 fills-then x l l₁ at m t b f e g = record {

@@ -8,8 +8,9 @@ use borrow.Author.Tests.{leb-true, leb-false, le-leb, lt-leb}
 use lib.Dec.{leb, eqb}
 use lib.ListN.{length, drop, length-append, length-drop}
 use lib.Seq.{length-sets}
+use Rattle.rules.proofs.Inverse.{by-bool}
 use Rattle.sorted.specs.Ways.{weave}
-use Rattle.sorted.proofs.Sorting.{by, split, clash}
+use Rattle.sorted.proofs.Sorting.{by, clash}
 use Rattle.sorted.proofs.Streams.{rest-length}
 use Rattle.notes.specs.Notes.{notAfter, joined}
 use Rattle.notes.specs.Places.{upToCR, textAt, starts}
@@ -26,24 +27,24 @@ step-second : (A : List (List ℕ)) (v : List ℕ) (B : List (List ℕ)) → 2 �
 unfolding choice
 step-second [] v B e = refl
 step-second (u ∷ A) v B e =
-    split (notAfter u v)
-    (λ f. split (notAfter v u) (λ g. absurd (omega (arith, rw (f, g) at e))) (λ g. absurd (omega (arith, rw (f, g) at e))))
+    by-bool (notAfter u v)
+    (λ f. by-bool (notAfter v u) (λ g. absurd (omega (arith, rw (f, g) at e))) (λ g. absurd (omega (arith, rw (f, g) at e))))
     (λ f. rw f)
 
 step-first : (u : List ℕ) (A B : List (List ℕ)) → 0 ≡ choice (u ∷ A) B → weave notAfter (u ∷ A) B ≡ u ∷ weave notAfter A B
 unfolding choice
 step-first u A [] e = refl
 step-first u A (v ∷ B) e =
-    split (notAfter u v)
-    (λ f. split (notAfter v u) (λ g. absurd (omega (arith, rw (f, g) at e))) (λ g. rw (f, g)))
+    by-bool (notAfter u v)
+    (λ f. by-bool (notAfter v u) (λ g. absurd (omega (arith, rw (f, g) at e))) (λ g. rw (f, g)))
     (λ f. absurd (omega (arith, rw f at e)))
 
 step-both : (u : List ℕ) (A : List (List ℕ)) (v : List ℕ) (B : List (List ℕ)) → (0 ≡ choice (u ∷ A) (v ∷ B) → ⊥) → (2 ≡ choice (u ∷ A) (v ∷ B) → ⊥)
     → weave notAfter (u ∷ A) (v ∷ B) ≡ u ∷ weave notAfter A B
 unfolding choice
 step-both u A v B e k =
-    split (notAfter u v)
-    (λ f. split (notAfter v u) (λ g. rw (f, g)) (λ g. absurd (e (rw (f, g)))))
+    by-bool (notAfter u v)
+    (λ f. by-bool (notAfter v u) (λ g. rw (f, g)) (λ g. absurd (e (rw (f, g)))))
     (λ f. absurd (k (rw f)))
 
 joined-more : (u : List ℕ) (M : List (List ℕ)) → joined (u ∷ M) ≡ line u ++ joined M

@@ -4,7 +4,7 @@ use Prim.Native.Nat.{ℕ, _+_, _≤_, _<_}
 use Prim.Native.Char.{code}
 use mathlib.Core.Bool.{Bool, _&&_, cond}
 use mathlib.Core.List.{List}
-use mathlib.Core.Option.{Option, none, some}
+use mathlib.Core.Option.{Option, some}
 use mathlib.Core.Path.{_≡_}
 use lib.Dec.{eqb, leb}
 use lib.ListN.{length, getD, drop}
@@ -13,7 +13,6 @@ use Rattle.rules.specs.Lines.{fixFields}
 use Rattle.rules.specs.Refusals.{Said, says, refuses}
 use Rattle.rules.specs.Split.{Lines, end, broken, line, linesOf}
 use Rattle.rules.specs.Walk.{Walk, timeOn, walkedBy}
-use Rattle.rules.specs.declared.Fix.{Fix}
 use Rattle.rules.specs.declared.FixFields.{FixFields}
 use Rattle.finer.specs.Within.{fixWithin}
 use Rattle.records.specs.Track.{recordOf, zeroRecord}

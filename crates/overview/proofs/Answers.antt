@@ -29,7 +29,6 @@ use Rattle.demands.proofs.Reading.{lines-are}
 use Rattle.untabled.proofs.NeverFull.{check-never-full}
 use Rattle.records.specs.Track.{zeroRecord}
 use Rattle.records.specs.Track.{trackSeal, trackOf}
-use Rattle.records.specs.declared.Record.{Record}
 use Rattle.track.proofs.Tracking.{counted-all}
 use Rattle.mapped.specs.Mapped.{BLines, IsRecord}
 use Rattle.mapped.proofs.Answers.{met, meets-so}

@@ -11,7 +11,6 @@ use lib.ListN.{length}
 use lib.Seq.{sets, length-sets}
 use Rattle.records.specs.declared.FixStep.{FixStep}
 use Rattle.records.specs.declared.Progress.{Progress}
-use Rattle.records.specs.declared.Record.{Record}
 use Rattle.spans.specs.Sums.{noSum, joined}
 use Rattle.spans.specs.declared.Sum.{Sum}
 use Rattle.slots.specs.Slots.{numbersOf, putAt}
@@ -41,9 +40,6 @@ length-from keep k n s list = by (ltb k keep)
 
 pub put-length : (at : ℕ) (ns list after : List ℤ) → after ≡ putAt at ns list → length after ≡ length list
 put-length at ns list after e = ap length e ∙ length-put at ns list
-
-pub from-length : (keep k n : ℕ) (s : Sum) (list after : List ℤ) → after ≡ putFrom keep k n s list → length after ≡ length list
-from-length keep k n s list after e = ap length e ∙ length-from keep k n s list
 
 -- ---- a run at its place, or kept
 

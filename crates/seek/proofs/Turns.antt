@@ -1,17 +1,15 @@
 -- One turn of a loop over the entries that are left; and where an entry stands that was found. Assumes nothing.
 use Prim.Native.Nat.{ℕ, zero, suc, _+_, _-_, _*_, _≤_, _<_}
-use mathlib.Core.Bool.{Bool, true, false, not, cond, _&&_}
+use mathlib.Core.Bool.{Bool, true, false, not, cond}
 use mathlib.Core.List.{List}
-use mathlib.Core.Option.{Option, none, some}
-use mathlib.Core.Path.{_≡_, refl, sym, ap, _∙_}
+use mathlib.Core.Option.{none, some}
+use mathlib.Core.Path.{_≡_, sym, ap, _∙_}
 use native.Mathlib.Omega.{arith}
 use borrow.Author.Tests.{eq-eqb, ne-eqb, leb-true}
 use lib.Dec.{eqb, leb}
 use lib.ListN.{getD}
-use Rattle.rules.specs.Choice.{given, need}
-use Rattle.rules.specs.Looks.{isInside}
 use Rattle.rules.proofs.Inverse.{need-inv, none-some, false-true}
-use Rattle.seek.specs.Parts.{entryOf, standsIn, placeIn, isIn, fitIn}
+use Rattle.seek.specs.Parts.{standsIn, placeIn, isIn, fitIn}
 
 module _ (left : ℕ) (ns : List ℕ) (at : ℕ) where
   one-more : 0 < left → left ≡ suc (left - 1)

@@ -1,6 +1,6 @@
 -- Document 02, 'A summary beside each flight': what one fix has to tell, as plain counts, and as values of the code.
 use Prim.Native.Char.{code}
-use Prim.Native.Nat.{ℕ, _≤_}
+use Prim.Native.Nat.{ℕ}
 use mathlib.Core.Bool.{Bool, true, cond}
 use mathlib.Core.Path.{_≡_}
 use lib.Dec.{eqb, leb}

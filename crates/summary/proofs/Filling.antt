@@ -1,5 +1,5 @@
 -- A list filled run by run is the list that the document asks for: what is told of the whole is joined from the runs, and each run from `keep` on stands at its place. Assumes nothing.
-use Prim.Native.Nat.{ℕ, zero, suc, _+_, _*_, _-_, _/_, _≤_, _<_}
+use Prim.Native.Nat.{ℕ, zero, suc, _+_, _*_, _-_, _/_, _≤_}
 use mathlib.Core.Bool.{Bool, true, false, cond}
 use mathlib.Core.List.{List, [], _∷_, _++_, append-assoc}
 use mathlib.Core.Path.{_≡_, refl, sym, ap, subst, _∙_}
@@ -8,7 +8,7 @@ use native.Mathlib.Omega.{arith}
 use borrow.Author.Tests.{le-leb, lt-ltb, le-ltb, ltb-true, ltb-false}
 use lib.Dec.{ltb}
 use lib.IntN.{ℤ}
-use lib.ListN.{length, set, take, drop, length-append, length-drop, drop-of-length-le}
+use lib.ListN.{length, set, take, drop, length-append, drop-of-length-le}
 use lib.Seq.{sets, sets-eq, length-sets, length-take-le, take-all, take-add, drop-drop, take-at, drop-at}
 use Rattle.rules.specs.Choice.{Each}
 use Rattle.records.specs.declared.FixStep.{FixStep}
@@ -21,7 +21,7 @@ use Rattle.slots.specs.Slots.{numbersOf, putAt}
 use Rattle.spots.specs.Spots.{aloneOf}
 use Rattle.trips.proofs.Each.{each-cut}
 use Rattle.records.specs.Stored.{fixesFrom}
-use Rattle.reckon.specs.Filled.{sumOver, nextRun, putFrom, stepped, legOf, turnedLeg, turnedList, wholeFrom, listFrom, filled}
+use Rattle.reckon.specs.Filled.{sumOver, nextRun, putFrom, stepped, turnedLeg, turnedList, wholeFrom, listFrom, filled}
 use Rattle.reckon.specs.Summary.{told, runsOf, toldRuns, sizeOf, updated}
 use Rattle.reckon.specs.declared.Leg.{Leg}
 use Rattle.summary.proofs.Telling.{Fits, told-is}

@@ -43,9 +43,6 @@ module _ (file : List ℕ) (f : Flight) (accepted : verdict trackSeal file none 
   abbrev layout : Layout
   layout = f .layouts .b
 
-  short : length file ≤ 16777216
-  short = file-short trackSeal file f accepted
-
   pub read : AllRead layout (linesOf file)
   read = all-read (f .layouts) (linesOf file) (texts-read trackSeal file f accepted)
 
@@ -53,9 +50,9 @@ module _ (file : List ℕ) (f : Flight) (accepted : verdict trackSeal file none 
   counted-all = as-many layout (linesOf file) setOut read ∙ sym (letters-counted trackSeal file f accepted family.B)
 
   pub found-all : fixesFrom (stepOf file) (startBy (fixSize f) layout) (countOf family.B (f .counts)) ≡ trackOf file layout
-  found-all = rw (← counted-all) (steps-find file short layout (linesOf file) (startBy (fixSize f) layout) here read)
+  found-all = rw (← counted-all) (steps-find file (file-short trackSeal file f accepted) layout (linesOf file) (startBy (fixSize f) layout) here read)
     where
-      here : Here file short layout (startBy (fixSize f) layout) (linesOf file)
+      here : Here file (file-short trackSeal file f accepted) layout (startBy (fixSize f) layout) (linesOf file)
       here = record { lines = refl; inside = omega arith; passed = omega arith; days = omega arith; size = length-told trackSeal file f accepted family.B; finer = refl }
 
 -- ---- the whole track

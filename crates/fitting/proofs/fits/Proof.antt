@@ -1,5 +1,4 @@
 -- `fitting::fits` meets its contract: its tests are those of the definition, in their order. Assumes nothing.
-use mathlib.Core.Path.{sym, _∙_, ap}
 use borrow.Author.Needs.{needs}
 use Rattle.chars.proofs.Laws.{le-true, gt-false, told-true, told-false, and-true, and-false, not-of-true, not-of-false}
 use Rattle.rules.specs.Looks.{fitsLine}

@@ -1,6 +1,5 @@
 -- `calls_flight::tracks::tell` meets its contract. Assumes nothing.
 use borrow.Author.Needs.{needs}
-use Rattle.answers.specs.Answers.{size, hasRoom}
 use Rattle.answers.proofs.Laws.{same-numbers}
 use Rattle.calls_flight.proofs.tracks.tell.Statement.{statement}
 use Rattle.calls_flight.proofs.tracks.tell.Tie as tie

@@ -1,7 +1,7 @@
 -- `hive_track` meets its contract: a walk of its MIR, by hand, since no function that is lent a list of records is covered. The length of the answer is compared; then the list is
 -- handed on to `track::track`, and the answer with what was told to `calls_flight::tell`, each for good and at its own lifetime. Of both the proof knows only that they meet their
 -- contracts. Assumes nothing.
-use mathlib.Core.Path.{_≡_, refl, sym, _∙_, ap, subst}
+use mathlib.Core.Path.{_≡_, refl, ap, subst}
 use mathlib.Core.Bool.{Bool, true, false, not}
 use Prim.Native.Nat.{ℕ, _<_, _^_}
 use mathlib.Core.List.{[], _∷_, List}
@@ -20,7 +20,7 @@ use prog.Wp.{Heap, Env, Calls, Loops, WpFn, Tables}
 use ghost.Atoms.{Atoms, sem}
 use contract.Monad.{Fun, fact}
 use contract.Running.{givenOf, tables, tablesOf}
-use types.Kit.{Given, Item, ‵, raw, _⊛_, ⋆, some, later, runs, frees, prop, atRet, Sq, _$_, _∵_, !, qed, by, move, keep, drop, split, join, pick, use1, use2, use3, rewrite, fsplit, fjoin, feqL, suffices, frame, await, done}
+use types.Kit.{Given, Item, ‵, raw, _⊛_, ⋆, some, later, runs, atRet, Sq, _$_, _∵_, !, qed, by, move, keep, drop, split, join, pick, use1, use2, use3, rewrite, fsplit, fjoin, feqL, suffices, frame, await, done}
 use types.Run.{look, init, forget, stop, hop, fld, from, load, lit, of-opd, addr, bin, and-then, no-more, assigns, first, skips, branches, returns-within, land, returns, enter, alloc1, alloc0, params1, pass1, pass0, free1, free0, exec}
 use types.Part.{whole, sub, look-in, agg}
 use sound.WpLaws.{FmC, fmOf, WpFn-mono}
@@ -33,7 +33,6 @@ use denote.Ref.{RefT}
 use denote.Slice.{sliceTy, sliceVal, MutSlice, ShrSlice, heres, Room, finally, slice-vals, mut-slice-tells, shr-slice-tells, shr-slice-copy, codedHoleys, res-finally}
 use denote.Signature.{plain}
 use denote.Steps.{only, owned, peeks, heard, nothing}
-use denote.Struct.Laws as LL
 use denote.Enum.Laws as EL
 use denote.Triple.Statement.{Contract, Triple}
 use denote.Triple.Call.{calls-at}
@@ -45,7 +44,6 @@ use denote.Triple.Walked.{says, Stays, gave-slice, stay-none-slice, walkOf, AllG
 use denote.Exit.{yes}
 use Rattle.records.specs.declared.Record.{Record}
 use Rattle.records.proofs.Record as R
-use Rattle.records.proofs.Record.Laws as R′
 use Rattle.track.specs.Tracks.{FileTracked}
 use Rattle.course.specs.declared.Tracked.{Tracked}
 use Rattle.course.proofs.Tracked as An
