@@ -13,7 +13,7 @@ use Rattle.rules.specs.Degrees.{isNegated}
 use Rattle.rules.specs.declared.FineTime.{FineTime}
 use Rattle.rules.specs.declared.FinePosition.{FinePosition}
 use Rattle.rules.proofs.Times.{by-pairs}
-use Rattle.put.proofs.Laws.{digits-length}
+use Rattle.rules.proofs.Texts.{digits-length}
 use Rattle.pieces.proofs.Laws.{number-room}
 use Rattle.tens.specs.Tens.{fewOf}
 use Rattle.tens.proofs.Laws.{few-most}
