@@ -117,7 +117,7 @@ module _ (a b ha hb : List ℕ) (x y : Place) (out : List ℕ) (at : ℕ) (p : F
 
 pub over-of : (x y : Place) (r : Bool) → BothThrough x y r → Over x y r
 over-of x y r e =
-    split (through x)
+    by-bool (through x)
     (λ f.
     let d : r ≡ through y = e ∙ rw f in
     record { yes-first = λ t. leb-true (x .n) (x .i) f; yes-second = λ t. leb-true (y .n) (y .i) (sym d ∙ t); not-yet = λ t g. leb-false (y .n) (y .i) (sym d ∙ t) })
