@@ -33,7 +33,7 @@ use Rattle.demands.specs.Grammar.{beginning}
 use Rattle.demands.specs.Readings.{ReadsLine, ReadsFix}
 use Rattle.demands.proofs.EachLine.{fix-alone}
 use Rattle.records.specs.Track.{trackSeal, recordOf, recordsOf, trackFrom, trackOf, flightTracked}
-use Rattle.records.proofs.Going.{walk-lines}
+use Rattle.next_fix.proofs.Going.{walk-lines}
 use Rattle.track.proofs.Accepted.{file-short, texts-read, letters-counted}
 use Rattle.track.proofs.Stepping.{other-said, walk-within}
 use Rattle.summary.proofs.Telling.{Fits}
