@@ -5,7 +5,7 @@ use Rattle.rules.specs.declared.Judged.{Judged}
 use Rattle.rules.specs.declared.Layout.{Layout}
 use Rattle.rules.specs.declared.LayoutRead.{LayoutRead}
 use Rattle.rules.specs.declared.State.{State}
-use Rattle.after.specs.Judges.{JudgedTold}
+use Rattle.settle.specs.Settled.{JudgedTold}
 
 pub with-layout : (x : Said Layout) (read : LayoutRead) (f : Layout → State) (r : Judged) → LayoutTold x read
     → JudgedTold (andThen (outcomeTold (read .outcome)) λ _. says (f (read .layout))) r → JudgedTold (andThen x λ l. says (f l)) r

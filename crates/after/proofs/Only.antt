@@ -1,31 +1,11 @@
 -- One answer at most meets each promise of this crate. Assumes nothing.
 use Prim.Native.Nat.{ℕ}
 use mathlib.Core.List.{List}
-use mathlib.Core.Path.{_≡_}
-use Rattle.rules.specs.Refusals.{Said}
 use Rattle.rules.specs.declared.Family.{Family}
-use Rattle.rules.specs.declared.Outcome.{Outcome}
-use Rattle.rules.specs.declared.Reason.{Reason}
 use Rattle.rules.specs.declared.State.{State}
-use Rattle.rules.specs.declared.TimeRead.{TimeRead}
-use Rattle.only.proofs.Only.{Only, same, alike}
-use Rattle.only.proofs.Told.{outcome-one}
-use Rattle.after.specs.Judges.{JudgedTold, RefusedAt, OutcomeJudged, TimeJudged, HeaderJudged, LayoutJudged, DeclarationJudged, ColumnedJudged}
-
-pub judged-only : {s : Said State} → Only (JudgedTold s)
-judged-only r r′ e e′ =
-    let answer : r .outcome ≡ r′ .outcome = alike outcome-one (r .outcome) (r′ .outcome) (e .answer) (e′ .answer) in
-    let state : r .state ≡ r′ .state = same (r .state) (r′ .state) (e .state) (e′ .state) in
-    λ i. record { outcome = answer i; state = state i }
-
-pub only-refused-at : (reason : Reason) (byte : ℕ) → Only (RefusedAt reason byte)
-only-refused-at reason byte = judged-only
-
-pub only-outcome-judged : (read : Outcome) (st : State) → Only (OutcomeJudged read st)
-only-outcome-judged read st = judged-only
-
-pub only-time-judged : (read : TimeRead) (st : State) → Only (TimeJudged read st)
-only-time-judged read st = judged-only
+use Rattle.only.proofs.Only.{Only}
+use Rattle.settle.proofs.Only.{judged-only}
+use Rattle.after.specs.Judges.{HeaderJudged, LayoutJudged, DeclarationJudged, ColumnedJudged}
 
 pub only-header-judged : (l : List ℕ) (st : State) → Only (HeaderJudged l st)
 only-header-judged l st = judged-only

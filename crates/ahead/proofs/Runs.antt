@@ -2,13 +2,12 @@
 use Prim.Native.Nat.{ℕ, _+_, _*_, _≤_, _<_}
 use mathlib.Core.Bool.{Bool, true}
 use mathlib.Core.List.{List, [], _∷_}
-use mathlib.Core.Path.{_≡_, refl, sym, ap, _∙_}
+use mathlib.Core.Path.{_≡_, refl, ap, _∙_}
 use native.Mathlib.Omega.{arith}
 use borrow.Author.Tests.{leb-true}
 use lib.Dec.{leb}
-use lib.ListN.{length, take, drop, replicate, length-take, length-replicate}
+use lib.ListN.{length, take, replicate, length-take}
 use lib.Seq.{sets, sets-eq, length-sets, take-at}
-use Rattle.rules.specs.Families.{firstStart}
 use Rattle.rules.specs.Layouts.{allowed, entriesOf}
 use Rattle.rules.specs.declared.Entry.{Entry}
 use Rattle.rules.specs.declared.Layout.{Layout}
@@ -16,14 +15,14 @@ use Rattle.rules.specs.Roles.{afterH, inBody}
 use Rattle.rules.specs.declared.Seal.{Seal}
 use Rattle.rules.specs.declared.State.{State}
 use Rattle.rules.proofs.Inverse.{and-inv}
-use Rattle.enter.specs.Turns.{Passed, entry, EntryPut, Here}
+use Rattle.enter.specs.Turns.{entry, EntryPut, Here}
 use Rattle.enter.proofs.Counts.{lines-counted}
 use Rattle.enter.proofs.Turns.{put-so, put-fits, put-long, here-next}
 use Rattle.sure.specs.Sure.{patternOf}
 use Rattle.clock.specs.declared.Pace.{Pace}
 use Rattle.clock.specs.declared.Taken.{Taken}
 use Rattle.clock.specs.declared.Taken.the-variants as taken
-use Rattle.pace.specs.Paces.{paced, Going, Takes, TakenAs}
+use Rattle.ahead.specs.Paces.{paced, Going, Takes, TakenAs}
 use Rattle.ahead.specs.Runs.{Ran}
 use Rattle.ahead.specs.declared.Ahead.{Ahead}
 

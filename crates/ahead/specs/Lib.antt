@@ -1,2 +1,3 @@
--- What a run of lines that are surely good says.
+-- What a line taken by numbers says, and a run of lines that are surely good.
+pub mod Paces
 pub mod Runs

@@ -1,4 +1,6 @@
 // A run of body lines that are surely good, taken by numbers alone: the state with its layouts stays where it is until the run ends.
+mod pace;
+
 ghost use Prim.Native.Nat.{_≤_};
 ghost use mathlib.Core.Bool.{true};
 ghost use mathlib.Core.Path.{_≡_};
@@ -9,7 +11,7 @@ ghost use Rattle.rules.specs.Layouts.{allowed};
 ghost use Rattle.rules.specs.declared.Extra.the-variants as extra;
 ghost use Rattle.rules.specs.declared.Family.the-variants as family;
 ghost use Rattle.state.specs.States.{Few};
-ghost use Rattle.pace.specs.Paces.{paced, Known};
+ghost use Rattle.ahead.specs.Paces.{paced, Known};
 ghost use Rattle.ahead.specs.Runs.{MayRun, AllAllowed, Gauged, Ran};
 use clock::Pace;
 use clock::Taken;

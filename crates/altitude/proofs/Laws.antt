@@ -17,7 +17,3 @@ there (b ∷ s) (suc at) h = let i : at < length s = there s at h in omega arith
 -- the place after a byte that is there is a usize; r is the byte that was found
 pub next-fits : (s : List ℕ) (at r x : ℕ) → r ≡ getD s at 0 → r ≡ x → 1 ≤ x → length s * 1 < 2 ^ 63 → Fits w64 (at + 1)
 next-fits s at r x e g p h = let k : at < length s = there s at (omega arith) in omega arith
-
--- two digits are one at least
-pub wide : (n : ℕ) → 2 ≤ n → 1 ≤ n
-wide n h = omega arith

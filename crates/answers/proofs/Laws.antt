@@ -9,7 +9,7 @@ use lib.ListN.{length, take, set, getD}
 use lib.Seq.{take-suc, take-suc-set, take-all}
 use borrow.Author.Tests.{eq-eqb, ne-eqb}
 use Rattle.rules.specs.Refusals.{Said}
-use Rattle.answers.specs.Answers.{size, filled, accepting, inNumbers, hasRoom, Answered, AnswerGiven}
+use Rattle.answers.specs.Answers.{size, filled, accepting, inNumbers, hasRoom, Answered, AnsweredBeside, AnswerGiven}
 use Rattle.answers.specs.declared.Numbers.{Numbers}
 
 -- ---- numbers stored one after the other
@@ -98,3 +98,15 @@ fitting fits answer n r after e h a = rw (e ∙ sym (eq-eqb (length answer) size
 
 pub not-fitting : (fits : Bool) (answer : List ℕ) (n : Numbers) → fits ≡ false → Answered fits answer n 17 answer
 not-fitting fits answer n e = rw e (record { number = refl; numbers = refl })
+
+-- ---- a call that answers, and changes what stands beside the answer
+
+module _ {A : Type 0} (answer : List ℕ) (before given : List A) where
+  -- an answer of another length: 17, and all is as it was
+  pub beside-no-room : (n : Numbers) → (length answer ≡ size → ⊥) → AnsweredBeside (hasRoom size answer) answer n before given 17 answer before
+  beside-no-room n h = record { told = no-room answer n h; lent = rw (ne-eqb (length answer) size h) }
+
+  -- what is told and what is given
+  pub beside-room : (m n : Numbers) (r : ℕ) (answerNow : List ℕ) (now : List A) → length answer ≡ size → m ≡ n → AnswerGiven answer m r answerNow → now ≡ given
+      → AnsweredBeside (hasRoom size answer) answer n before given r answerNow now
+  beside-room m n r answerNow now h e a g = record { told = same-numbers _ answer m n r answerNow e a; lent = rw (eq-eqb (length answer) size h) g }

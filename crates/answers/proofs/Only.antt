@@ -6,7 +6,7 @@ use mathlib.Core.Path.{_≡_, sym, _∙_}
 use Rattle.rules.specs.declared.PresenceRead.{PresenceRead}
 use Rattle.rules.specs.declared.Refusal.{Refusal}
 use Rattle.rules.specs.declared.TimeRead.{TimeRead}
-use Rattle.answers.specs.Answers.{Answered, AnswerGiven, RefusalNumber, RefusalNumbers, ValueNumbers, TimeNumbers, PresenceNumbers, BytesBetween}
+use Rattle.answers.specs.Answers.{Answered, AnsweredBeside, AnswerGiven, RefusalNumber, RefusalNumbers, ValueNumbers, TimeNumbers, PresenceNumbers, BytesBetween}
 use Rattle.answers.specs.declared.Numbers.{Numbers}
 
 module _ (answer : List ℕ) (r r′ : ℕ) (after after′ : List ℕ) where
@@ -15,6 +15,14 @@ module _ (answer : List ℕ) (r r′ : ℕ) (after after′ : List ℕ) where
 
   pub only-answer-given : (n : Numbers) → AnswerGiven answer n r after → AnswerGiven answer n r′ after′ → (r ≡ r′) × (after ≡ after′)
   only-answer-given n = only-answered
+
+-- for each promise on a call that changes something beside the answer
+module _ {A : Type 0} (answer : List ℕ) (r r′ : ℕ) (after after′ : List ℕ) (now now′ : List A) where
+  pub only-beside : {fits : Bool} {n : Numbers} {before given : List A} → AnsweredBeside fits answer n before given r after now → AnsweredBeside fits answer n before given r′ after′ now′
+      → (r ≡ r′) × (now ≡ now′) × (after ≡ after′)
+  only-beside a a′ =
+      let o = only-answered answer r r′ after after′ (a .told) (a′ .told) in
+      (o .0, a .lent ∙ sym (a′ .lent), o .1)
 
 pub only-refusal-number : (w : Refusal) (r r′ : ℕ) → RefusalNumber w r → RefusalNumber w r′ → r ≡ r′
 only-refusal-number w r r′ e e′ = e ∙ sym e′

@@ -1,15 +1,17 @@
--- Small laws of signs and of lists that the crates above share. Assumes nothing.
+-- Small laws of signs, of lists and of characters that the crates above share. Assumes nothing.
 use Prim.Native.Nat.{ℕ, suc, _+_, _≤_}
-use mathlib.Core.Bool.{false}
+use mathlib.Core.Bool.{true, false, _&&_}
 use mathlib.Core.List.{List, map}
 use mathlib.Core.Path.{_≡_, refl, sym, _∙_, ap}
 use native.Mathlib.Nat.{min-le-left}
 use native.Mathlib.Omega.{arith}
-use borrow.Author.Tests.{le-ltb}
-use lib.Dec.{leb·zero}
+use borrow.Author.Tests.{le-ltb, leb-true}
+use lib.Dec.{leb, leb·zero}
 use lib.IntN.{ℤ, pos, negsuc, natAbs, _-ℤ_}
 use lib.ListN.{length, take, length-map, length-take}
 use lib.Signed.{mag, nonNeg, leZ}
+use Rattle.rules.specs.Chars.{isCode, isDigit}
+use Rattle.rules.proofs.Inverse.{and-inv, or-inv}
 
 -- ---- signs
 
@@ -34,3 +36,12 @@ unmapped f l n e = sym (length-map l f) ∙ e
 
 pub take-most : {A : Type 0} (n : ℕ) (l : List A) → length (take n l) ≤ n
 take-most n l = rw length-take (min-le-left n (length l))
+
+-- ---- a character of a code
+
+pub code-high : (b : ℕ) → isCode b ≡ true → b ≤ 90
+unfolding isCode isDigit
+code-high b e =
+    or-inv (leb 48 b && leb b 57) (leb 65 b && leb b 90) e
+    (λ d. omega (arith, leb-true b 57 (and-inv (leb 48 b) (leb b 57) d .1)))
+    (λ d. leb-true b 90 (and-inv (leb 65 b) (leb b 90) d .1))

@@ -3,9 +3,9 @@ use Prim.Native.Nat.{ℕ, _≤_, _<_}
 use native.Mathlib.Omega.{arith}
 use mathlib.Core.List.{List}
 use mathlib.Core.Option.{Option, none, some}
-use mathlib.Core.Path.{_≡_, refl, sym, _∙_}
-use lib.ListN.{length, drop}
-use borrow.Author.Tests.{eq-eqb, ne-eqb, le-leb, lt-leb}
+use mathlib.Core.Path.{_≡_, refl, sym, _∙_, ap}
+use lib.ListN.{length}
+use borrow.Author.Tests.{le-leb, lt-leb}
 use Rattle.rules.specs.Writes.{wroteTold}
 use Rattle.rules.specs.Refusals.{no}
 use Rattle.rules.specs.declared.Reason.{Reason}
@@ -16,7 +16,7 @@ use Rattle.pieces.specs.Buffer.{Shown, PiecePut}
 use Rattle.pieces.proofs.Laws.{whole}
 use Rattle.answers.specs.Answers.{size, inNumbers, AnswerGiven}
 use Rattle.answers.specs.declared.Numbers.{Numbers}
-use Rattle.answers.proofs.Laws.{no-room, given-said}
+use Rattle.answers.proofs.Laws.{beside-room}
 use Rattle.refusals.specs.Table.{name}
 use Rattle.refusals.proofs.Words.{name-room}
 use Rattle.explain.specs.Explanation.{explanation}
@@ -79,12 +79,5 @@ module _ (n : ℕ) (q : Numbered) (e : numberedTold q ≡ reasonNumbered n) wher
 -- ---- what the caller is told
 
 module _ (words : Option (List ℕ)) (text answer : List ℕ) where
-  pub text-no-room : (length answer ≡ size → ⊥) → TextAnswered words text answer 17 text answer
-  text-no-room h = record { told = no-room _ _ h; bytes = rw (ne-eqb (length answer) size h) }
-
   pub text-room : (w : Wrote) (n : Numbers) (r : ℕ) (textNow answerNow : List ℕ) → length answer ≡ size → WordsPut words text w textNow → n ≡ inNumbers lengthNumbers (wroteTold w) → AnswerGiven answer n r answerNow → TextAnswered words text answer r textNow answerNow
-  text-room w n r textNow answerNow h p e a =
-      record {
-        told = given-said _ answer lengthNumbers (wroteTold w) (putSaid words text) n r answerNow (p .told) e a;
-        bytes = rw (eq-eqb (length answer) size h) (p .bytes);
-      }
+  text-room w n r textNow answerNow h p e a = beside-room answer text _ n _ r answerNow textNow h (e ∙ ap (inNumbers lengthNumbers) (p .told)) a (p .bytes)

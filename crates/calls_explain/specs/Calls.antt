@@ -1,6 +1,5 @@
 -- What is put into a lent text, and the promise of each call: an equation on the number returned, the lent text and the answer afterwards.
 use Prim.Native.Nat.{ℕ}
-use mathlib.Core.Bool.{cond}
 use mathlib.Core.List.{List, [], _∷_, _++_}
 use mathlib.Core.Option.{Option, none, some}
 use mathlib.Core.Path.{_≡_}
@@ -13,7 +12,7 @@ use Rattle.rules.specs.declared.Reason.the-variants.{BadValue, NoRoom}
 use Rattle.rules.specs.declared.Wrote.{Wrote}
 use Rattle.refusals.specs.Table.{name}
 use Rattle.explain.specs.Explanation.{explanation}
-use Rattle.answers.specs.Answers.{size, inNumbers, hasRoom, AnswerGiven}
+use Rattle.answers.specs.Answers.{size, inNumbers, hasRoom, AnsweredBeside}
 use Rattle.calls_explain.specs.Reasons.{reasonNumbered}
 
 -- ---- the words
@@ -46,9 +45,9 @@ abbrev pub lengthNumbers : ℕ → List ℕ
 lengthNumbers n = n ∷ []
 
 -- what is said of the words, in numbers, and the lent text afterwards; an answer of another length leaves it as it was
-pub record TextAnswered (words : Option (List ℕ)) (text answer : List ℕ) (r : ℕ) (textNow answerNow : List ℕ) : Type 0 where
-  pub told : AnswerGiven answer (inNumbers lengthNumbers (putSaid words text)) r answerNow
-  pub bytes : textNow ≡ cond (hasRoom size answer) (textAfter words text) text
+abbrev pub TextAnswered : Option (List ℕ) → List ℕ → List ℕ → ℕ → List ℕ → List ℕ → Type 0
+TextAnswered words text answer r textNow answerNow =
+    AnsweredBeside (hasRoom size answer) answer (inNumbers lengthNumbers (putSaid words text)) text (textAfter words text) r answerNow textNow
 
 abbrev pub NameAnswered : ℕ → List ℕ → List ℕ → ℕ → List ℕ → List ℕ → Type 0
 NameAnswered n text answer r textNow answerNow = TextAnswered (nameOf n) text answer r textNow answerNow

@@ -5,7 +5,6 @@ use mathlib.Core.List.{List}
 use mathlib.Core.Option.{some}
 use mathlib.Core.Path.{_≡_, _∙_}
 use lib.ListN.{length}
-use borrow.Author.Tests.{eq-eqb, ne-eqb}
 use Rattle.rules.specs.Files.{verdict}
 use Rattle.rules.specs.Order.{noFlight}
 use Rattle.rules.specs.Promises.{FileChecked}
@@ -16,7 +15,7 @@ use Rattle.rules.specs.declared.Outcome.the-variants as outcomes
 use Rattle.rules.specs.declared.Seal.{Seal}
 use Rattle.answers.specs.Answers.{size, AnswerGiven, inNumbers, outcomeNumbers}
 use Rattle.answers.specs.declared.Numbers.{Numbers}
-use Rattle.answers.proofs.Laws.{no-room, same-numbers}
+use Rattle.answers.proofs.Laws.{beside-room}
 use Rattle.figures.specs.Figures.{flightNumbers, checkedNumbers}
 use Rattle.calls_file.specs.Calls.{CheckAnswered}
 
@@ -32,13 +31,7 @@ numbers-said values d v (outcomes.Refused r) (says w) e h = let z : _≡_ {A = �
 -- ---- the check of a file
 
 module _ (seal : Seal) (file table answer : List ℕ) where
-  pub check-no-room : (length answer ≡ size → ⊥) → CheckAnswered seal file table answer 17 table answer
-  check-no-room h = record { told = no-room _ _ h; entries = rw (ne-eqb (length answer) size h) }
-
   pub check-room : (checked : Checked) (n : Numbers) (r : ℕ) (tableNow answerNow : List ℕ) → length answer ≡ size → FileChecked seal file table checked tableNow → n ≡ checkedNumbers checked → AnswerGiven answer n r answerNow → CheckAnswered seal file table answer r tableNow answerNow
   unfolding checkedNumbers
   check-room checked n r tableNow answerNow h f e a =
-      record {
-        told = same-numbers _ _ _ _ _ _ (e ∙ numbers-said flightNumbers noFlight _ _ (verdict seal file (some (length table))) (f .told .answer) (f .told .flight)) a;
-        entries = rw (eq-eqb (length answer) size h) (f .entries);
-      }
+      beside-room answer table _ n _ r answerNow tableNow h (e ∙ numbers-said flightNumbers noFlight _ _ (verdict seal file (some (length table))) (f .told .answer) (f .told .flight)) a (f .entries)

@@ -1,18 +1,17 @@
 -- A line read, with what stands beside its answer: the altitudes and the entries. Assumes nothing.
 use Prim.Native.Nat.{ℕ}
-use mathlib.Core.Bool.{true, false, _&&_}
+use mathlib.Core.Bool.{true, false}
 use mathlib.Core.List.{List}
-use mathlib.Core.Path.{_≡_, refl, sym, _∙_, ap}
+use mathlib.Core.Path.{_≡_, _∙_, ap}
 use lib.IntN.{ℤ}
 use lib.ListN.{length}
 use borrow.Author.Tests.{eq-eqb, ne-eqb}
-use Rattle.rules.specs.Refusals.{Said}
 use Rattle.rules.specs.Reads.{Answer, answered, fixTold, fixReadingTold, timeReadTold, extraReadingTold}
 use Rattle.rules.specs.declared.Fix.{Fix}
 use Rattle.rules.specs.declared.ExtraReading.{ExtraReading}
 use Rattle.rules.specs.declared.FixReading.{FixReading}
 use Rattle.rules.specs.declared.Layout.{Layout}
-use Rattle.answers.specs.Answers.{size, hasRoom, AnswerGiven, inNumbers, timeNumbers}
+use Rattle.answers.specs.Answers.{size, AnswerGiven, inNumbers, timeNumbers}
 use Rattle.given.specs.Given.{fixBy, extraBy}
 use Rattle.lent_entries.specs.Lent.{entriesSize, entryNumbers, EntriesPut}
 use Rattle.calls_fix.specs.Calls.{fixNumbers, heightsOf, allRoom, FixAnswered, ExtraAnswered}

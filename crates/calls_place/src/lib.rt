@@ -1,6 +1,6 @@
 // The calls from C on where a line of a file stands: by its number, and at a reading place over the lines.
 ghost use Rattle.calls_place.specs.Calls.{LineAnswered, StepAnswered};
-use cut::Cursor;
+use cursor::Cursor;
 
 mod values;
 

@@ -1,14 +1,14 @@
 // Where a line of a file stands, in the numbers of an answer.
 ghost use mathlib.Core.Path.{_≡_};
 ghost use Rattle.rules.specs.Split.{lineTold};
-ghost use Rattle.cut.specs.Steps.{stepTold};
+ghost use Rattle.cursor.specs.Steps.{stepTold};
 ghost use Rattle.answers.specs.Answers.{inNumbers};
 ghost use Rattle.calls_place.specs.Calls.{boundsNumbers, stepNumbers};
 use answers::Numbers;
 use answers::accepted;
 use answers::between;
 use answers::refused;
-use cut::Step;
+use cursor::Step;
 use rules::LineRead;
 
 // A line of the file.

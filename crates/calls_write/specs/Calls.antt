@@ -1,8 +1,6 @@
 -- The promise of each call that writes a line, by name: an equation on the number returned, the answer and the lent output afterwards.
 use Prim.Native.Nat.{ℕ}
-use mathlib.Core.Bool.{cond}
 use mathlib.Core.List.{List, []}
-use mathlib.Core.Path.{_≡_}
 use Rattle.rules.specs.Choice.{given}
 use Rattle.rules.specs.Refusals.{Said, no}
 use Rattle.rules.specs.Writes.{written, outAfter, fixText, extraText, headText, isHead, pointText, isPoint}
@@ -10,15 +8,15 @@ use Rattle.rules.specs.declared.Fix.{Fix}
 use Rattle.rules.specs.declared.Head.{Head}
 use Rattle.rules.specs.declared.Point.{Point}
 use Rattle.rules.specs.declared.Reason.the-variants.{BadValue}
-use Rattle.answers.specs.Answers.{size, inNumbers, hasRoom, AnswerGiven}
+use Rattle.answers.specs.Answers.{size, inNumbers, hasRoom, AnsweredBeside}
 use Rattle.given.specs.Given.{extraOf}
 use Rattle.given_write.specs.Written.{fixWritten, extraWritten, layoutWritten, layoutTextBy}
 use Rattle.calls_write.specs.Values.{placeNumbers}
 
 -- what is said of a text that is to be written, in numbers, and the output afterwards; an answer of another length leaves it as it was
-pub record WriteAnswered (said : Said ℕ) (text : List ℕ) (place : ℕ) (out answer : List ℕ) (r : ℕ) (outNow answerNow : List ℕ) : Type 0 where
-  pub told : AnswerGiven answer (inNumbers placeNumbers said) r answerNow
-  pub bytes : outNow ≡ cond (hasRoom size answer) (outAfter said text place out) out
+abbrev pub WriteAnswered : Said ℕ → List ℕ → ℕ → List ℕ → List ℕ → ℕ → List ℕ → List ℕ → Type 0
+WriteAnswered said text place out answer r outNow answerNow =
+    AnsweredBeside (hasRoom size answer) answer (inNumbers placeNumbers said) out (outAfter said text place out) r answerNow outNow
 
 abbrev pub WriteFixAnswered : Fix → List ℕ → List ℕ → ℕ → List ℕ → List ℕ → ℕ → List ℕ → List ℕ → Type 0
 WriteFixAnswered f columns l place out answer r outNow answerNow =

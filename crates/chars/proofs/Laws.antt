@@ -1,8 +1,8 @@
 -- Laws of tests: joined by and, or and not; the first element of a list that passes one; and elements that each pass one. Assumes nothing.
-use Prim.Native.Nat.{ℕ, zero, suc, _+_, _-_, _≤_, _<_}
+use Prim.Native.Nat.{ℕ, suc, _+_, _-_, _≤_, _<_}
 use mathlib.Core.Bool.{Bool, true, false, not, _&&_, _||_}
-use mathlib.Core.List.{List, [], _∷_}
-use mathlib.Core.Option.{Option, none, some}
+use mathlib.Core.List.{List, []}
+use mathlib.Core.Option.{none, some}
 use mathlib.Core.Path.{_≡_, sym, _∙_}
 use native.Mathlib.Numerals.{add-one, sub-one}
 use borrow.Author.Tests.{le-leb, lt-leb, eq-eqb, ne-eqb}
@@ -37,6 +37,13 @@ told-true t r e h = sym h ∙ e
 
 pub told-false : (t r : Bool) → r ≡ t → r ≡ false → false ≡ t
 told-false t r e h = sym h ∙ e
+
+-- r is the byte that stands there
+pub byte-is : (m n r : ℕ) → r ≡ m → r ≡ n → true ≡ eqb m n
+byte-is m n r e h = sym (eq-eqb m n (sym e ∙ h))
+
+pub byte-is-not : (m n r : ℕ) → r ≡ m → (r ≡ n → ⊥) → false ≡ eqb m n
+byte-is-not m n r e h = sym (ne-eqb m n (λ k. h (e ∙ k)))
 
 pub not-of-true : (t : Bool) → true ≡ t → false ≡ not t
 not-of-true t h = rw (← h)

@@ -15,7 +15,7 @@ use lib.Seq.{drop-cons, getD-drop, take-append-seam, length-take-le}
 use Rattle.rules.specs.Split.{Lines, end, broken, line, linesOf}
 use Rattle.rules.proofs.Inverse.{false-true, and-inv}
 use Rattle.laws.proofs.Splitting.{cut}
-use Rattle.cut.specs.Steps.{endedAt}
+use Rattle.cut.specs.Ends.{endedAt}
 use Rattle.cut.specs.declared.scan.Ended.the-variants as ended
 use Rattle.cut.proofs.Cuts.{torn}
 use Rattle.cut.proofs.Cuts as cuts

@@ -1,6 +1,6 @@
 -- A text byte by byte, and two texts compared byte by byte. Assumes nothing.
 use Prim.Native.Nat.{ℕ, _+_, _-_, _≤_, _<_}
-use mathlib.Core.Bool.{Bool, true, false, not}
+use mathlib.Core.Bool.{Bool, true, false, not, cond}
 use mathlib.Core.List.{List, [], _∷_}
 use mathlib.Core.Path.{_≡_, sym, _∙_}
 use native.Mathlib.Numerals.{add-one}
@@ -9,7 +9,8 @@ use borrow.Author.Tests.{lt-ltb, le-ltb, eq-eqb, ne-eqb, eqb-true, eqb-false, lt
 use lib.Dec.{ltb, eqb}
 use lib.ListN.{length, getD, drop-of-length-le}
 use lib.Seq.{drop-cons}
-use Rattle.sorted.proofs.Sorting.{split, clash}
+use Rattle.rules.proofs.Inverse.{by-bool}
+use Rattle.sorted.proofs.Sorting.{clash}
 use Rattle.notes.specs.Notes.{notAfter}
 use Rattle.notes.specs.Places.{textAt}
 use Rattle.compare.specs.Letters.{letter, inText}
@@ -32,8 +33,8 @@ module _ (s : List ℕ) (i : ℕ) where
   -- what is known where the text goes on, or has ended
   text-cases : {P : Type 0} → (textAt s i ≡ [] → P) → (i < length s → textAt s i ≡ getD s i 0 ∷ textAt s (i + 1) → P) → P
   text-cases f g =
-      split (ltb i (length s))
-      (λ h. split (eqb (getD s i 0) 13) (λ e. f (text-cr (omega (arith, ltb-true i (length s) h)) (eqb-true (getD s i 0) 13 e)))
+      by-bool (ltb i (length s))
+      (λ h. by-bool (eqb (getD s i 0) 13) (λ e. f (text-cr (omega (arith, ltb-true i (length s) h)) (eqb-true (getD s i 0) 13 e)))
       (λ e. g (ltb-true i (length s) h) (text-more (ltb-true i (length s) h) (eqb-false (getD s i 0) 13 e))))
       (λ h. f (text-past (ltb-false i (length s) h)))
 
@@ -56,7 +57,7 @@ module _ (s : List ℕ) (i : ℕ) where
   in-past h = rw (text-past h)
 
   pub in-told : i < length s → not (eqb (getD s i 0) 13) ≡ inText (textAt s i)
-  in-told h = split (eqb (getD s i 0) 13) (λ e. rw (text-cr h (eqb-true _ _ e), e)) (λ e. rw (text-more h (eqb-false _ _ e), e))
+  in-told h = by-bool (eqb (getD s i 0) 13) (λ e. rw (text-cr h (eqb-true _ _ e), e)) (λ e. rw (text-more h (eqb-false _ _ e), e))
 
   pub in-inside : inText (textAt s i) ≡ true → i < length s
   in-inside e = text-cases (λ t. clash e (rw t)) (λ h t. h)
@@ -87,3 +88,12 @@ module _ (s t : List ℕ) (x y b : ℕ) (e : b ≡ letter (textAt s x)) where
     most-same h k =
         let d : b ≡ c = omega arith in
         rw (letter-text s x b e n, letter-text t y c f (λ z. n (d ∙ z)), le-ltb (b - 1) (c - 1) (omega arith), le-ltb (c - 1) (b - 1) (omega arith))
+
+-- ---- whose text comes first: r and t are what the two tests said
+
+module _ (p q r : Bool) (e : r ≡ p) where
+  pub whose-both : (t : Bool) → r ≡ true → t ≡ q → t ≡ true → _≡_ {A = ℕ} 1 (cond p (cond q 1 0) 2)
+  whose-both t f g w = rw (← e, f, ← g, w)
+
+  pub whose-first : (t : Bool) → r ≡ true → t ≡ q → t ≡ false → _≡_ {A = ℕ} 0 (cond p (cond q 1 0) 2)
+  whose-first t f g w = rw (← e, f, ← g, w)

@@ -1,7 +1,7 @@
 // Texts compared where they stand: a text starts at a place of the bytes and goes up to the first CR.
 ghost use mathlib.Core.Path.{_≡_};
 ghost use Rattle.notes.specs.Places.{textAt};
-ghost use Rattle.compare.specs.Letters.{letter, TextsCompared, PlacesCompared, TextGoesOn};
+ghost use Rattle.compare.specs.Letters.{letter, TextsCompared, WhoseGiven, PlacesCompared, TextGoesOn};
 
 // Whether a byte of text stands behind i bytes: there is one, and it is not CR.
 pub fn in_text(s: &[u8], i: usize) -> bool
@@ -44,6 +44,19 @@ pub fn at_most(s: &[u8], i: usize, t: &[u8], j: usize) -> bool
         x += 1;
         y += 1;
     }
+}
+
+// Whose text comes first, of the one behind i bytes of s and the one behind j bytes of t: 0 the first's, 2 the second's, 1 that of both, which are the same.
+pub fn whose(s: &[u8], i: usize, t: &[u8], j: usize) -> u32
+    ensures { λ r. ⌜ WhoseGiven (now (s .entry)) i (now (t .entry)) j r ⌝ }
+{
+    if at_most(s, i, t, j) {
+        if at_most(t, j, s, i) {
+            return 1;
+        }
+        return 0;
+    }
+    2
 }
 
 // Whether the note at i does not come after the note at j: by their texts, and then by where they stand.

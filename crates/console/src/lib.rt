@@ -2,6 +2,7 @@
 mod making;
 mod words;
 
+use fate::Fate;
 use libc::STDERR_FILENO;
 use libc::STDOUT_FILENO;
 pub use making::give_up;
@@ -10,7 +11,6 @@ pub use making::open_new;
 pub use making::replace;
 use rules::Flight;
 use rules::Refusal;
-use verbs::Fate;
 pub use words::Names;
 pub use words::names_from;
 pub use words::place_of;

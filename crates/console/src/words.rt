@@ -2,9 +2,9 @@
 use crate::fate_of;
 use crate::print_usage;
 use crate::write;
+use fate::Fate;
 use libc::STDERR_FILENO;
 use libc::STDOUT_FILENO;
-use verbs::Fate;
 use verbs::Verb;
 
 // The verb that a word is.
@@ -77,9 +77,9 @@ pub fn tell(version: bool, n: usize) -> u32 {
         return refuse_words();
     }
     if version {
-        return verbs::status_of(fate_of(write(b"igc 1, of Hivebasket\n"), Fate::Accepted));
+        return fate::status_of(fate_of(write(b"igc 1, of Hivebasket\n"), Fate::Accepted));
     }
-    verbs::status_of(fate_of(print_usage(STDOUT_FILENO), Fate::Accepted))
+    fate::status_of(fate_of(print_usage(STDOUT_FILENO), Fate::Accepted))
 }
 
 // The place of a word that names a file, where it is known without `--`: one further where that stands before it.

@@ -8,7 +8,7 @@ use lib.ListN.{length, take, drop, length-drop}
 use Rattle.rules.specs.Split.{Lines, end, broken, line, text, linesOf, afterCR}
 use Rattle.laws.proofs.Chains.{by-cond}
 use Rattle.laws.proofs.Splitting.{none-left, line-at}
-use Rattle.cut.specs.Steps.{endedAt}
+use Rattle.cut.specs.Ends.{endedAt}
 use Rattle.cut.specs.declared.scan.Ended.the-variants as ended
 
 -- ---- a line

@@ -1,40 +1,16 @@
 -- One answer at most meets each promise of this crate. Assumes nothing.
 use Prim.Native.Nat.{ℕ}
 use mathlib.Core.List.{List}
-use mathlib.Core.Option.{Option, none, some}
-use mathlib.Core.Path.{refl, sym, ap, _∙_}
-use Rattle.rules.specs.Split.{Bounds, Stepped}
 use Rattle.rules.specs.declared.Reason.{Reason}
 use Rattle.only.proofs.Only.{Only, same, alike}
-use Rattle.only.proofs.Told.{OneToOne, by-back, answerOf, refusal-back}
-use Rattle.cut.specs.Steps.{stepTold, LineStepped, AtFirst, UnplacedGiven, LineEnded}
-use Rattle.cut.specs.declared.Cursor.{Cursor}
-use Rattle.cut.specs.declared.Step.{Step}
-use Rattle.cut.specs.declared.Step.the-variants as step
-
-cursorAt : ℕ → Cursor
-cursorAt n = record { at = n }
-
-stepOf : Option Bounds → ℕ → Step
-stepOf (some b) next = step.Line (b .from) (b .to) (cursorAt next)
-stepOf none next = step.Done (cursorAt next)
-
-found : Stepped → Step
-found s = stepOf (s .found) (s .next)
-
-step-one : OneToOne stepTold
-unfolding stepTold found stepOf cursorAt
-step-one = by-back (answerOf found step.Refused) (elim [ step.Line a e next ↦ refl | step.Done next ↦ refl | step.Refused r ↦ ap step.Refused (refusal-back r) ])
-
-pub only-line-stepped : (file : List ℕ) (at : ℕ) → Only (LineStepped file at)
-only-line-stepped file at = alike step-one
-
-pub only-at-first : Only AtFirst
-unfolding cursorAt
-only-at-first r r′ e e′ = ap cursorAt (e ∙ sym e′)
+use Rattle.only.proofs.Told.{found-one}
+use Rattle.cut.specs.Ends.{UnplacedGiven, LineEnded, FirstFound}
 
 pub only-unplaced-given : (reason : Reason) → Only (UnplacedGiven reason)
 only-unplaced-given reason = same
 
 pub only-line-ended : (file : List ℕ) (from : ℕ) → Only (LineEnded file from)
 only-line-ended file from = same
+
+pub only-first-found : (file : List ℕ) (at : ℕ) → Only (FirstFound file at)
+only-first-found file at = alike found-one

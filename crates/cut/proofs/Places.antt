@@ -3,7 +3,7 @@ use Prim.Native.Nat.{ℕ, suc, _+_, _-_, _*_, _^_, _≤_, _<_}
 use mathlib.Core.Bool.{Bool, true, false, cond}
 use mathlib.Core.List.{List, [], _∷_}
 use mathlib.Core.Option.{Option, none, some}
-use mathlib.Core.Path.{_≡_, refl, sym, ap}
+use mathlib.Core.Path.{_≡_, refl, ap}
 use native.Mathlib.Nat.{add-zero}
 use native.Mathlib.Omega.{arith}
 use borrow.Author.Tests.{ne-eqb}
@@ -24,7 +24,7 @@ use Rattle.rules.specs.declared.Found.{Found}
 use Rattle.rules.specs.declared.Found.the-variants as found
 use Rattle.laws.proofs.Chains.{by-cond, by-need}
 use Rattle.laws.proofs.LineEnds.{rest}
-use Rattle.cut.specs.Steps.{endedAt, unplaced}
+use Rattle.cut.specs.Ends.{endedAt, unplaced}
 use Rattle.cut.specs.declared.scan.Ended.the-variants as ended
 
 -- ---- the first CR LF from a place on

@@ -1,6 +1,6 @@
-// A file cut into its lines: where a line ends, a line by its number, and a place that steps over the lines.
+// A file cut into its lines: where a line ends, and a line by its number.
 ghost use Rattle.rules.specs.Promises.{LineGiven, LineTextGiven};
-ghost use Rattle.cut.specs.Steps.{LineStepped, AtFirst, UnplacedGiven};
+ghost use Rattle.cut.specs.Ends.{UnplacedGiven};
 use rules::Found;
 use rules::LineRead;
 use rules::Reason;
@@ -9,6 +9,7 @@ use rules::Refusal;
 mod scan;
 
 pub use scan::Ended;
+pub use scan::crlf_from;
 pub use scan::line_end;
 
 // Where line n stands, by a table of the lines' offsets: how many bytes stand before it and before its CR LF. Refused with 17 where n is 0 or past the table's
@@ -26,7 +27,7 @@ pub fn bounds(file: &[u8], table: &[u32], n: usize) -> LineRead
     if !scan::is_start(file, start) {
         return LineRead::Refused(unplaced(Reason::BadValue));
     }
-    let Found::At(end) = scan::crlf_from(file, start) else {
+    let Found::At(end) = crlf_from(file, start) else {
         return LineRead::Refused(unplaced(Reason::BadValue));
     };
     LineRead::Part(start, end)
@@ -39,56 +40,6 @@ pub fn line<'a>(file: &'a [u8], table: &[u32], n: usize) -> &'a [u8]
     match bounds(file, table, n) {
         LineRead::Part(start, end) => &file[start..end],
         LineRead::Refused(_) => &file[0..0],
-    }
-}
-
-// A reading place over the lines of a file: how many bytes stand before it.
-pub struct Cursor {
-    pub at: usize,
-}
-
-// What a step finds: a line, by how many bytes stand before it and before its CR LF, with the place after it; or that none is left, with the place as it was.
-pub enum Step {
-    Line {
-        start: usize,
-        end: usize,
-        next: Cursor,
-    },
-    Done {
-        next: Cursor,
-    },
-    Refused(Refusal),
-}
-
-impl Cursor {
-    // The place before the first line.
-    pub fn new() -> Self
-        ensures { λ r. ⌜ AtFirst r ⌝ }
-    {
-        Cursor { at: 0 }
-    }
-
-    // The next line, with the place after it, or that none is left. Refused with 17 where the place is past the end, or bytes remain and no CR LF comes after it.
-    pub fn step(self, file: &[u8]) -> Step
-        ensures { λ r. ⌜ LineStepped (now (file .entry)) (self .at) r ⌝ }
-    {
-        let at = self.at;
-        if file.len() < at {
-            return Step::Refused(unplaced(Reason::BadValue));
-        }
-        if at == file.len() {
-            return Step::Done {
-                next: Cursor { at },
-            };
-        }
-        let Found::At(end) = scan::crlf_from(file, at) else {
-            return Step::Refused(unplaced(Reason::BadValue));
-        };
-        Step::Line {
-            start: at,
-            end,
-            next: Cursor { at: end + 2 },
-        }
     }
 }
 

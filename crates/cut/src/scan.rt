@@ -1,9 +1,8 @@
 // Where CR LF stands in a file, and where a line ends.
 ghost use mathlib.Core.Path.{_≡_};
 ghost use lib.ListN.{drop};
-ghost use Rattle.rules.specs.Promises.{foundTold};
-ghost use Rattle.rules.specs.Split.{beginsCRLF, firstCRLF, isStart};
-ghost use Rattle.cut.specs.Steps.{LineEnded};
+ghost use Rattle.rules.specs.Split.{beginsCRLF, isStart};
+ghost use Rattle.cut.specs.Ends.{FirstFound, LineEnded};
 use rules::Found;
 
 // Whether CR LF stands behind i bytes.
@@ -20,9 +19,9 @@ fn is_crlf(file: &[u8], i: usize) -> bool
     file[i] == 13 && file[i + 1] == 10
 }
 
-// How many bytes stand before the first CR LF from a place on.
-pub(crate) fn crlf_from(file: &[u8], at: usize) -> Found
-    ensures { λ r. ⌜ foundTold r ≡ firstCRLF at (drop at (now (file .entry))) ⌝ }
+// How many bytes stand before the first CR LF from a place on. Nothing, where none comes.
+pub fn crlf_from(file: &[u8], at: usize) -> Found
+    ensures { λ r. ⌜ FirstFound (now (file .entry)) at r ⌝ }
 {
     let mut i = at;
     while i < file.len() {

@@ -27,9 +27,10 @@ use Rattle.rules.specs.Looks.{fitsLine, lookSaid, lookText, lookNumber}
 use Rattle.rules.specs.declared.Signed.{Signed}
 use Rattle.rules.specs.declared.Family.{Family}
 use Rattle.rules.proofs.Inverse.{false-true, need-inv, none-some, given-inv}
+use Rattle.rules.proofs.Texts.{digits-length}
 use Rattle.trips.proofs.Texts.{clean-valid}
 use Rattle.trips.proofs.Laws.{byte-there}
-use Rattle.trips.proofs.Digits.{digits-length, digits-front, number-there, number-here}
+use Rattle.trips.proofs.Digits.{digits-front, number-there, number-here}
 use Rattle.words.specs.Characters.{IsValid}
 use Rattle.words.specs.Codes.{RowSays, Holds}
 use Rattle.words.specs.Finer.{OnlyZeros, Zeros}

@@ -58,6 +58,7 @@ use Rattle.demands.specs.Grammar.{Shaped, IsALine, IsDateLine, IsHLine, 
 use Rattle.trips.proofs.Each.{each-map, each-cut}
 use Rattle.demands.proofs.Laws.{day-exactly, planned-exactly, are-valid, shape-there, shape-said, valid-are}
 use Rattle.sound.proofs.Columns.{ruled-there}
+use Rattle.sound.proofs.Looked.{start-low}
 use Rattle.demands.proofs.LayoutLines.{IsTold, told-tiles}
 use Rattle.demands.proofs.Columns.{Meant, tail-exactly, texts-are}
 use Rattle.demands.proofs.Finer.{refines-there, refines-here}
@@ -261,10 +262,6 @@ pub other-said : (l : List ℕ) → IsOtherLine l → otherLine l ≡ says tt
 other-said l w = shape-said 1 255 false l (w .shape)
 
 -- ---- B, K, N and C lines: the limits, by a layout that a line can tell
-
-pub start-low : (f : Family) → 1 ≤ firstStart f
-start-low family.B = omega arith
-start-low (family.Extra x) = omega arith
 
 -- what its columns mean, by the fields of a line of the family: whether its latitude and its longitude are at their limits
 abbrev AtLat : (f : Family) → FieldsIn f → Type 0

@@ -21,7 +21,8 @@ use Rattle.rules.specs.declared.Family.the-variants as family
 use Rattle.rules.specs.declared.FixFields.{FixFields}
 use Rattle.rules.specs.declared.Fix.{Fix}
 use Rattle.rules.proofs.Inverse.{none-some, and-inv}
-use Rattle.trips.proofs.Digits.{digits-length, number-there, number-here}
+use Rattle.rules.proofs.Texts.{digits-length}
+use Rattle.trips.proofs.Digits.{number-there, number-here}
 use Rattle.trips.proofs.Each.{each-map, each-both, each-cut, nothing-found, none-found}
 use Rattle.trips.proofs.Placing.{Stands, all-stand}
 use Rattle.trips.proofs.Refined.{fine-most}

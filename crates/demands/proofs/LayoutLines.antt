@@ -1,6 +1,6 @@
 -- I, J and M lines both ways: the entries that a line is read as are those that it has, and they tile in the grammar's words; such a line reads as a layout exactly when it is
 -- the text of entries that tile, and the layout is theirs; and so exactly when the layout is allowed and has 13 slots. Assumes nothing.
-use Prim.Native.Nat.{ℕ, zero, suc, _+_, _-_, _*_, _/_, _%_, _≤_}
+use Prim.Native.Nat.{ℕ, zero, suc, _+_, _*_, _/_, _%_, _≤_}
 use mathlib.Core.Bool.{true, false, _&&_}
 use mathlib.Core.List.{List, [], _∷_, _++_, append-assoc, append-nil}
 use mathlib.Core.Option.{Option, some}
@@ -27,9 +27,10 @@ use Rattle.rules.specs.Reads.{layoutSaid}
 use Rattle.rules.specs.declared.Extra.the-variants as extra
 use Rattle.rules.specs.declared.Family.the-variants as family
 use Rattle.rules.proofs.Inverse.{refuses-says, given-inv, need-inv, then-inv, and-inv}
+use Rattle.rules.proofs.Texts.{digits-length, entries-length}
 use Rattle.trips.proofs.Laws.{past, byte-there}
 use Rattle.trips.proofs.Texts.{areValid, both-valid, shaped-here}
-use Rattle.trips.proofs.Digits.{digits-length, number-there, number-here, digits-clean}
+use Rattle.trips.proofs.Digits.{number-there, number-here, digits-clean}
 use Rattle.words.proofs.Characters.{word-exactly}
 use Rattle.words.proofs.Codes.{width-exactly}
 use Rattle.demands.specs.Grammar.{widthOf, IsEntry, Tiles, laid, IsLayoutLine, AtMostOne, absent}
@@ -37,7 +38,7 @@ use Rattle.demands.specs.Grammar as grammar
 use Rattle.demands.specs.Coming.{orZero, entryOf, entriesIn}
 use Rattle.trips.proofs.Each.{each-map, each-both, each-join, each-cut}
 use Rattle.trips.proofs.Placing.{Fits}
-use Rattle.sound.proofs.Entries.{code-range, entry-length, entry-there, Tiled, withAll, entries-here}
+use Rattle.sound.proofs.Entries.{code-range, entry-there, Tiled, withAll, entries-here}
 use Rattle.sound.proofs.Placed.{with-laid, all-laid, entries-laid, carries-none, none-carries, Sound, allowed-there, sound-line, sound-empty}
 use Rattle.demands.proofs.Laws.{shape-there}
 
@@ -185,11 +186,6 @@ entries-clean (e ∷ es) start before w =
     both-valid (entryText e) (entryTexts es)
     (both-valid (digitsOf 2 (e .first)) _ (digits-clean 2 (e .first)) (both-valid (digitsOf 2 (e .last)) (codeText (e .code)) (digits-clean 2 (e .last)) x))
     (entries-clean es _ _ (w .2))
-
-entries-length : (es : List Entry) → length (entryTexts es) ≡ 7 * length es
-unfolding entryTexts
-entries-length [] = refl
-entries-length (e ∷ es) = simp (length-append, entry-length, entries-length es) (omega arith)
 
 module _ (f : Family) (es : List Entry) where
   abbrev own : List ℕ

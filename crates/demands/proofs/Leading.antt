@@ -3,14 +3,14 @@
 use Prim.Native.Nat.{ℕ, suc, _+_, _-_, _≤_}
 use Prim.Native.Char.{code}
 use mathlib.Core.Bool.{Bool, true, false, _&&_, cond, not}
-use mathlib.Core.List.{List, [], _∷_}
+use mathlib.Core.List.{List, []}
 use mathlib.Core.Logic.{inl, inr}
 use mathlib.Core.Path.{_≡_, refl, sym}
 use mathlib.Core.Option.{Option, none, some}
 use native.Mathlib.Omega.{arith}
-use borrow.Author.Tests.{le-leb, lt-leb, leb-true, leb-false, eqb-true, eqb-false, ne-eqb, ltb-true, ltb-false, le-ltb, lt-ltb}
+use borrow.Author.Tests.{le-leb, lt-leb, leb-true, leb-false, eqb-true, eqb-false, ne-eqb, ltb-true, ltb-false, le-ltb, lt-ltb, not-true}
 use lib.Dec.{leb, eqb, ltb}
-use lib.ListN.{length, getD}
+use lib.ListN.{getD}
 use Rattle.rules.specs.Choice.{bytes}
 use Rattle.rules.specs.Families.{lineLetter, layoutLetter, layoutOf, countOf, oneMore}
 use Rattle.rules.specs.Files.{hasRoom}
@@ -31,8 +31,8 @@ use Rattle.rules.specs.declared.State.{State}
 use Rattle.rules.specs.declared.Date.{Date}
 use Rattle.rules.specs.declared.Counts.{Counts}
 use Rattle.rules.specs.declared.Head.{Head}
-use Rattle.rules.proofs.Inverse.{false-true, none-some, need-inv, and-inv, not-inv}
-use Rattle.laws.proofs.Passing.{roleIn, leading-so, leading-inv, Onward, Leaves, judged, judged-so}
+use Rattle.rules.proofs.Inverse.{false-true, none-some, need-inv, and-inv}
+use Rattle.laws.proofs.Passing.{roleIn, leading-so, leading-inv, Onward, Leaves, judged, judged-so, not-empty}
 use Rattle.laws.proofs.Counted.{judged-more}
 use Rattle.laws.proofs.Passing as passes
 use Rattle.demands.specs.Coming.{isAmong, lettersBefore, timedLetters}
@@ -95,12 +95,6 @@ tells-letter f {b} = every (λ f. Letter (role.Tells f) b → b ≡ layoutLetter
 
 pub line-letter : (f : Family) {b : ℕ} → Letter (role.Columned f) b → b ≡ lineLetter f
 line-letter f {b} = every (λ f. Letter (role.Columned f) b → b ≡ lineLetter f) (λ e. e) (λ e. e) (λ e. e) f
-
--- a line with a role has bytes
-pub not-empty : (l : List ℕ) → isRole (roleIn l) ≡ true → 1 ≤ length l
-unfolding kindOf
-not-empty [] h = absurd (false-true h)
-not-empty (b ∷ l) h = omega arith
 
 -- ---- tests of a role
 
@@ -232,7 +226,7 @@ fits-plain st e = rw e
 -- a C line where no point is to come begins a declaration
 pub head-fits : (st : State) → st .points ≡ 0 → fitsDeclaration true st ≡ true → (st .declared ≡ false) × (countOf family.B (st .flight .counts) ≡ 0)
 unfolding fitsDeclaration
-head-fits st z e = let r = and-inv (not (st .declared)) (eqb (countOf family.B (st .flight .counts)) 0) (rw z at e) in (not-inv (st .declared) (r .0), eqb-true _ _ (r .1))
+head-fits st z e = let r = and-inv (not (st .declared)) (eqb (countOf family.B (st .flight .counts)) 0) (rw z at e) in (not-true (st .declared) (r .0), eqb-true _ _ (r .1))
 
 fits-point : (st : State) → 1 ≤ st .points → fitsDeclaration true st ≡ true
 unfolding fitsDeclaration

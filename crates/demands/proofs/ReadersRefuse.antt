@@ -6,7 +6,7 @@ use mathlib.Core.Bool.{Bool, true, false, not, _&&_, _||_, cond}
 use mathlib.Core.List.{List, [], _∷_}
 use mathlib.Core.Option.{Option, none, some}
 use mathlib.Core.Path.{_≡_, refl, sym, _∙_, ap, subst}
-use borrow.Author.Tests.{le-leb, leb-true}
+use borrow.Author.Tests.{le-leb, leb-true, not-true}
 use lib.Dec.{eqb, leb}
 use lib.ListN.{length, getD, drop}
 use Rattle.rules.specs.Choice.{given, need, on, firstOf, Each}
@@ -29,7 +29,7 @@ use Rattle.rules.specs.declared.Extra.{Extra}
 use Rattle.rules.specs.declared.Family.{Family}
 use Rattle.rules.specs.declared.Family.the-variants as family
 use Rattle.rules.specs.declared.FinePosition.{FinePosition}
-use Rattle.rules.proofs.Inverse.{refuses-says, none-some, false-true, given-inv, need-inv, and-inv, not-inv}
+use Rattle.rules.proofs.Inverse.{refuses-says, none-some, false-true, given-inv, need-inv, and-inv}
 use Rattle.trips.proofs.Each.{each-map}
 use Rattle.sound.proofs.Placed.{carries-none, none-carries, allowed-there}
 use Rattle.sound.proofs.Entries.{packed-back}
@@ -242,7 +242,7 @@ unfolding areOnce
 once-there [] h = tt
 once-there (e ∷ es) h =
     let a = and-inv (not (hasCode es (e .code))) (areOnce es) h in
-    (none-has es (e .code) (not-inv _ (a .0)), once-there es (a .1))
+    (none-has es (e .code) (not-true _ (a .0)), once-there es (a .1))
 
 once-here : (es : List Entry) → Once es → areOnce es ≡ true
 unfolding areOnce

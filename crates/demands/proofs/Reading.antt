@@ -39,7 +39,7 @@ use Rattle.laws.proofs.Splitting.{textsOf, steps, lengths-total}
 use Rattle.laws.proofs.Splitting as splitting
 use Rattle.laws.proofs.Passing.{roleIn}
 use Rattle.laws.proofs.Counted.{accepted-whole, goodIn, textOf, offsetOf, Numbered, table-length, entry-put, entry-kept, line-by-number}
-use Rattle.sound.proofs.Looked.{read-fits}
+use Rattle.sound.proofs.Looked.{read-fits, start-low}
 use Rattle.trips.proofs.Columned.{fields-trip}
 use Rattle.trips.proofs.Fixes.{fix-front}
 use Rattle.trips.proofs.Extras.{extra-trip}
@@ -55,7 +55,7 @@ use Rattle.words.proofs.Finer.{fine-latitude-exactly, fine-longitude-exactly}
 use Rattle.demands.specs.Readings.{Entered, unrefined, ReadsMap, ReadsFix, ReadsExtra, ReadsColumned, ReadsColumns, ReadsValue, ReadsLayout, ReadsPresence, ReadsLine, ReadsHead, ReadsPoint, NoC, ReadsDeclaration, nowhere, declared, total, Steps, Readable}
 use Rattle.trips.proofs.Each.{each-map, each-join, each-cut}
 use Rattle.sound.proofs.Families.{every, none-pass, line-role, tells-role}
-use Rattle.demands.proofs.EachLine.{e-said, f-said, start-low, b-fields, b-fix, fix-reads, extra-reads, fix-read, extra-read, reading-here, reading-there, columned-letter, columned-fields, head-reads, point-reads, head-said, point-said}
+use Rattle.demands.proofs.EachLine.{e-said, f-said, b-fields, b-fix, fix-reads, extra-reads, fix-read, extra-read, reading-here, reading-there, columned-letter, columned-fields, head-reads, point-reads, head-said, point-said}
 use Rattle.demands.proofs.Readers.{date-exactly, event-exactly, satellite-exactly, on-map}
 use Rattle.demands.proofs.ByLayout.{presence-reads}
 use Rattle.demands.proofs.ByLayout as by-layout

@@ -8,7 +8,7 @@ use mathlib.Core.Option.{Option}
 use mathlib.Core.Path.{_≡_, refl, sym, _∙_, ap, subst}
 use native.Mathlib.Omega.{arith}
 use borrow.Author.Tests.{le-leb, leb-true, eqb-true, eq-eqb}
-use lib.Dec.{eqb, leb}
+use lib.Dec.{eqb}
 use lib.ListN.{getD}
 use Rattle.rules.specs.Choice.{Each}
 use Rattle.rules.specs.Refusals.{Said, says, refuses, number}
@@ -18,7 +18,7 @@ use Rattle.rules.specs.declared.Reason.the-variants.{EndsEarly}
 use Rattle.rules.specs.declared.Flight.{Flight}
 use Rattle.rules.specs.declared.Seal.{Seal}
 use Rattle.rules.specs.declared.Seal.the-variants as seal
-use Rattle.rules.proofs.Inverse.{refuses-says, false-true}
+use Rattle.rules.proofs.Inverse.{refuses-says}
 use Rattle.laws.proofs.Splitting.{textsOf}
 use Rattle.laws.proofs.Signing.{onlySigned, strict-adds}
 use Rattle.demands.specs.Grammar.{IsText, joinLines, linesIn, beginning, signedIn}

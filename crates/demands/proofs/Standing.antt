@@ -51,7 +51,7 @@ module _ (l : List ℕ) where
   length-next : (ls : List (List ℕ)) → length (ls ++ (l ∷ [])) ≡ length ls + 1
   length-next ls = simp length-append
 
-  beginning-next : (x : ℕ) (ls : List (List ℕ)) → beginning x (ls ++ (l ∷ [])) ≡ beginning x ls + cond (eqb (getD l 0 0) x) 1 0
+  pub beginning-next : (x : ℕ) (ls : List (List ℕ)) → beginning x (ls ++ (l ∷ [])) ≡ beginning x ls + cond (eqb (getD l 0 0) x) 1 0
   unfolding beginning
   beginning-next x [] = omega arith
   beginning-next x (a ∷ ls) = omega (arith, beginning-next x ls)

@@ -4,16 +4,15 @@ use mathlib.Core.Bool.{Bool, true, false}
 use mathlib.Core.List.{List, [], _∷_, _++_}
 use mathlib.Core.Option.{Option}
 use mathlib.Core.Path.{_≡_, refl, sym, _∙_}
-use native.Mathlib.Numerals.{add-one}
 use native.Mathlib.Omega.{arith}
-use borrow.Author.Tests.{le-leb, leb-true}
-use lib.ListN.{length, getD, set, drop, length-append, length-set}
+use borrow.Author.Tests.{le-leb, lt-leb, leb-true}
+use lib.Dec.{leb}
+use lib.ListN.{length, getD, drop, length-append, length-set}
 use lib.Seq.{drop-cons, append-snoc, set-at}
 use Rattle.rules.specs.Families.{countOf}
 use Rattle.rules.specs.Files.{hasRoom, run}
 use Rattle.rules.specs.Order.{start}
 use Rattle.rules.specs.Split.{linesOf, offsets}
-use Rattle.rules.specs.declared.Family.{Family}
 use Rattle.rules.specs.declared.Extra.{Extra}
 use Rattle.rules.specs.declared.Extra.the-variants as extra
 use Rattle.rules.specs.declared.Family.the-variants as family
@@ -22,6 +21,14 @@ use Rattle.rules.specs.declared.State.{State}
 use Rattle.state.specs.States.{Few}
 use Rattle.enter.specs.Turns.{Passed, roomOf, entered, entry, EntryPut, Here}
 use Rattle.enter.proofs.Counts.{lines-counted, family-counted}
+
+-- ---- one more, in so many places
+
+pub past : (at size : ℕ) → size ≤ at → leb (at + 1) size ≡ false
+past at size h = lt-leb (at + 1) size (omega arith)
+
+pub inside : (at size : ℕ) → at < size → leb (at + 1) size ≡ true
+inside at size h = le-leb (at + 1) size (omega arith)
 
 -- ---- a line passed
 

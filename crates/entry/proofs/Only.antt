@@ -1,31 +1,13 @@
 -- One answer at most meets each promise of this crate. Assumes nothing.
 use Prim.Native.Nat.{ℕ}
 use mathlib.Core.List.{List}
-use mathlib.Core.Option.{Option, none, some}
 use mathlib.Core.Path.{refl, ap}
-use Rattle.rules.specs.Layouts.{Span}
 use Rattle.rules.specs.declared.Entry.{Entry}
 use Rattle.rules.specs.declared.Layout.{Layout}
-use Rattle.only.proofs.Only.{Only, same, alike}
+use Rattle.only.proofs.Only.{Only, alike}
 use Rattle.only.proofs.Told.{OneToOne, by-back, answerOf, refusal-back}
-use Rattle.entry.specs.Parts.{spotTold, SpotFound, CarriesTest, entryTold, EntryPlaced, EntryGiven}
-use Rattle.entry.specs.declared.Spot.{Spot}
-use Rattle.entry.specs.declared.Spot.the-variants as spot
+use Rattle.entry.specs.Parts.{entryTold, EntryPlaced, EntryGiven}
 use Rattle.entry.specs.declared.EntryRead.the-variants as entryRead
-
-spotOf : Option Span → Spot
-spotOf (some s) = spot.At (s .first) (s .last)
-spotOf none = spot.Nowhere
-
-spot-one : OneToOne spotTold
-unfolding spotTold spotOf
-spot-one = by-back spotOf (elim [ spot.At a e ↦ refl | spot.Nowhere ↦ refl ])
-
-pub only-spot-found : (l : Layout) (x : ℕ) → Only (SpotFound l x)
-only-spot-found l x = alike spot-one
-
-pub only-carries-test : (l : Layout) (x : ℕ) → Only (CarriesTest l x)
-only-carries-test l x = same
 
 entry-one : OneToOne entryTold
 unfolding entryTold

@@ -9,11 +9,10 @@ use lib.ListN.{take}
 use Rattle.rules.specs.Choice.{given, firstOf}
 use Rattle.rules.specs.Listed.{codeAt}
 use Rattle.rules.specs.Refusals.{Said, says, refusal}
-use Rattle.rules.specs.Layouts.{Span, look, carries, placed, entryAt}
+use Rattle.rules.specs.Layouts.{placed, entryAt}
 use Rattle.rules.specs.declared.Entry.{Entry}
 use Rattle.rules.specs.declared.Layout.{Layout}
-use Rattle.entry.specs.declared.Spot.{Spot}
-use Rattle.entry.specs.declared.Spot.the-variants as spot
+use Rattle.coded.specs.Spots.{CarriesTest}
 use Rattle.entry.specs.declared.EntryRead.{EntryRead}
 use Rattle.entry.specs.declared.EntryRead.the-variants as entryRead
 use Rattle.entry.specs.declared.Letters.{Letters}
@@ -26,18 +25,6 @@ isAmong codes n x = given (firstOf (λ y. eqb y x) (λ k y. k) (take n codes) 0)
 -- n entries of which only the codes are told, the first n of a list
 abbrev pub codedBy : List ℕ → ℕ → Layout
 codedBy codes n = record { count = n; entries = map (λ x. record { first = 0; last = 0; code = x }) codes }
-
--- where a code's column stands
-unfoldable pub spotTold : Spot → Option Span
-spotTold (spot.At a e) = some (record { first = a; last = e })
-spotTold spot.Nowhere = none
-
-abbrev pub SpotFound : Layout → ℕ → Spot → Type 0
-SpotFound l x r = spotTold r ≡ look l x
-
--- whether an entry has a code
-abbrev pub CarriesTest : Layout → ℕ → Bool → Type 0
-CarriesTest l x r = r ≡ carries l x
 
 -- an entry, or its refusal
 unfoldable pub entryTold : EntryRead → Said Entry

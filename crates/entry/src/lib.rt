@@ -1,8 +1,8 @@
-// The entries of a layout: looked up by code, one held against those before it, and one read at its place of an I, a J or an M line.
+// The entries of a layout: one held against those before it, and one read at its place of an I, a J or an M line.
 ghost use Prim.Native.Nat.{_≤_};
 ghost use mathlib.Core.Path.{_≡_};
 ghost use Rattle.rules.specs.Refusals.{no};
-ghost use Rattle.entry.specs.Parts.{isAmong, codedBy, SpotFound, CarriesTest, EntryPlaced, PlacedBehind, CodeGiven, EntryGiven, entryTold};
+ghost use Rattle.entry.specs.Parts.{isAmong, codedBy, EntryPlaced, PlacedBehind, CodeGiven, EntryGiven, entryTold};
 pub use basics::empty_layout;
 use rules::Entry;
 use rules::Layout;
@@ -10,45 +10,10 @@ use rules::Number;
 use rules::Reason;
 use rules::Refusal;
 
-// Where the column of a code stands: its first and its last byte, counted from 1.
-pub enum Spot {
-    At(u8, u8),
-    Nowhere,
-}
-
 // An entry that keeps the rules.
 pub enum EntryRead {
     Is(Entry),
     Refused(Refusal),
-}
-
-// Where the column of a code stands. Nowhere, where no entry has the code.
-pub fn look(l: Layout, code: u32) -> Spot
-    ensures { λ r. ⌜ SpotFound l code r ⌝ }
-{
-    let n = l.count;
-    let mut i = 0;
-    while i < 13 {
-        if n <= i {
-            return Spot::Nowhere;
-        }
-        let e = l.entries[i];
-        if e.code == code {
-            return Spot::At(e.first, e.last);
-        }
-        i += 1;
-    }
-    Spot::Nowhere
-}
-
-// Whether an entry has the code.
-pub fn carries(l: Layout, code: u32) -> bool
-    ensures { λ r. ⌜ CarriesTest l code r ⌝ }
-{
-    let Spot::At(_, _) = look(l, code) else {
-        return false;
-    };
-    true
 }
 
 // No entry: a refusal of the line in hand, at a byte of it.
@@ -86,7 +51,7 @@ fn behind(start: usize, again: bool, e: Entry, first: u32) -> EntryRead
 pub fn placed(start: usize, before: Layout, e: Entry, first: u32) -> EntryRead
     ensures { λ r. ⌜ EntryPlaced start before e first r ⌝ }
 {
-    behind(start, carries(before, e.code), e, first)
+    behind(start, coded::carries(before, e.code), e, first)
 }
 
 // Whether a code is among the first n of a list.

@@ -1,7 +1,7 @@
 -- A copy in the grammar's words: its lines up to the last G line, and then its notes, which are L lines. With other notes it is such a file again. Assumes nothing.
 use Prim.Native.Nat.{ℕ, _≤_}
 use Prim.Native.Char.{code}
-use mathlib.Core.Bool.{Bool, true, false, _||_}
+use mathlib.Core.Bool.{true, false, or-true}
 use mathlib.Core.List.{List, [], _∷_, _++_, append-assoc}
 use mathlib.Core.Path.{_≡_, refl, sym, _∙_, ap, subst}
 use native.Mathlib.Omega.{arith}
@@ -60,10 +60,6 @@ open-common : (ys : List (List ℕ)) → Open ys → commonPart (before ys end) 
 unfolding commonPart
 open-common [] o = refl
 open-common (y ∷ ys) o = rw (o .0, open-sealed ys (o .1))
-
-or-true : (b : Bool) → (b || true) ≡ true
-or-true true = refl
-or-true false = refl
 
 closed-sealed : (xs ys : List (List ℕ)) → Closes xs → sealed (before (xs ++ ys) end) ≡ true
 unfolding sealed

@@ -11,7 +11,7 @@ use lib.Seq.{drop-drop, length-take-le}
 use mir.Syntax.{w64}
 use mir.Val.{Fits}
 use Rattle.rules.specs.Split.{Lines, end, broken, line, linesOf}
-use Rattle.cut.specs.Steps.{endedAt}
+use Rattle.cut.specs.Ends.{endedAt}
 use Rattle.cut.specs.declared.scan.Ended.{Ended}
 use Rattle.cut.specs.declared.scan.Ended.the-variants as ended
 use Rattle.cut.proofs.Cuts.{cut, torn}

@@ -21,13 +21,13 @@ use Rattle.rules.specs.declared.Reason.the-variants.{EndsEarly}
 use Rattle.rules.specs.declared.Refusal.{Refusal}
 use Rattle.rules.specs.declared.Seal.{Seal}
 use Rattle.rules.specs.declared.State.{State}
-use Rattle.cut.specs.Steps.{unplaced}
+use Rattle.cut.specs.Ends.{unplaced}
 use Rattle.cut.proofs.Places.{refuses-unplaced}
 use Rattle.enter.specs.Turns.{roomOf, entered, Here}
 use Rattle.enter.proofs.Turns.{put-long, here-few, here-next}
 use Rattle.enter.specs.Entering.{Reached, Turned}
 use Rattle.enter.specs.declared.Turn.{Turn}
-use Rattle.turn.specs.Turns.{turnAt, TurnTaken}
+use Rattle.file.specs.Turns.{turnAt, TurnTaken}
 use Rattle.finish.specs.Finishes.{Finished}
 use Rattle.finish.proofs.Finishing.{finish-few}
 use Rattle.file.specs.Checks.{LinesChecked}

@@ -19,8 +19,8 @@ use Rattle.state.specs.States.{inNext}
 use Rattle.enter.specs.Turns.{Passed}
 use Rattle.enter.proofs.Turns.{passed-count}
 use Rattle.enter.specs.Entering.{Reached, goodLine}
-use Rattle.turn.specs.Turns.{turnIn, turnAt, MayTake}
-use Rattle.turn.proofs.Turns.{may-so}
+use Rattle.file.specs.Turns.{turnIn, turnAt, MayTake}
+use Rattle.file.proofs.Taking.{may-so}
 
 -- the file is refused at the line behind `at` bytes, whatever it must have at its end
 pub record Stopped (room : Option ℕ) (file : List ℕ) (at : ℕ) (st : State) (n l b : ℕ) : Type 0 where

@@ -1,2 +1,3 @@
--- What the check of a file's lines says, in the paper's terms.
+-- What a turn of the check and the check of a file's lines say, in the paper's terms.
 pub mod Checks
+pub mod Turns

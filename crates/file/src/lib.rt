@@ -6,6 +6,9 @@ use rules::Reason;
 use rules::Seal;
 
 mod lines;
+mod turn;
+
+pub use turn::take;
 
 // The check of a whole file, the table used only where it is lent.
 fn check_whole(seal: Seal, file: &[u8], lent: bool, table: &mut [u32]) -> Checked

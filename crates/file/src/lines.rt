@@ -19,7 +19,7 @@ pub(crate) fn check_lines(seal: Seal, file: &[u8], lent: bool, table: &mut [u32]
         if file.len() <= from {
             return finish::finished(seal, reached);
         }
-        let taken = turn::take(file, lent, table, from, reached);
+        let taken = crate::turn::take(file, lent, table, from, reached);
         let outcome = taken.outcome;
         match outcome {
             Outcome::Accepted => {

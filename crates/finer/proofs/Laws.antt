@@ -25,7 +25,7 @@ use Rattle.rules.specs.declared.Number.{Number}
 use Rattle.rules.specs.declared.Number.the-variants as number
 use Rattle.rules.specs.declared.Position.{Position}
 use Rattle.rules.specs.declared.Reach.{Reach}
-use Rattle.entry.proofs.Turns.{entry-hit, entry-miss, entry-past, entry-end}
+use Rattle.coded.proofs.Turns.{entry-hit, entry-miss, entry-past, entry-end}
 use Rattle.trips.proofs.Refined.{digits-below}
 use Rattle.tens.specs.Tens.{powerOf}
 use Rattle.tens.proofs.Laws.{power-all, power-most}

@@ -1,22 +1,22 @@
 -- A line with a good front has its position, which is below both limits, its validity and both its altitudes: bytes within bounds that are digits spell a number, and it is no more than what the upper bounds spell. Assumes nothing.
 use Prim.Native.Nat.{ℕ, zero, suc, _+_, _-_, _*_, _≤_, _<_}
-use mathlib.Core.Bool.{Bool, true, false, cond, _&&_, _||_}
+use mathlib.Core.Bool.{Bool, true, false, _&&_, _||_}
 use mathlib.Core.List.{List, [], _∷_}
-use mathlib.Core.Option.{Option, none, some}
-use mathlib.Core.Path.{_≡_, refl, sym, _∙_}
+use mathlib.Core.Option.{Option, some}
+use mathlib.Core.Path.{_≡_, refl}
 use native.Mathlib.Omega.{arith}
 use borrow.Author.Tests.{le-leb, leb-true, eqb-true}
 use lib.Dec.{eqb, leb}
 use lib.IntN.{pos}
-use lib.ListN.{length, getD, drop}
+use lib.ListN.{getD, drop}
 use lib.Seq.{drop-drop}
-use Rattle.rules.specs.Choice.{leads, given, need, on, bytes}
+use Rattle.rules.specs.Choice.{leads, on, bytes}
 use Rattle.rules.specs.Chars.{isDigit}
 use Rattle.rules.specs.Numbers.{spell, numberAt}
 use Rattle.rules.specs.Fields.{isEither, mostLatitude, mostLongitude, positionAt, latitudeAt, longitudeAt, altitudeAt}
 use Rattle.rules.specs.declared.Position.{Position}
-use Rattle.number.proofs.Laws.{digit-low, digit-high, spell-other, number-long}
 use Rattle.rules.proofs.Inverse.{and-inv}
+use Rattle.number.proofs.Laws.{digit-low, digit-high, spell-other, number-long, cond-some}
 use Rattle.front.specs.Front.{isWithin, between, lows, highs, nears, isBounded, isFront}
 use Rattle.front.proofs.Laws.{between-drop}
 
@@ -27,10 +27,6 @@ pub record Spelt (o : Option ℕ) (most : ℕ) : Type 0 where
   pub value : ℕ
   pub read : o ≡ some value
   pub below : value ≤ most
-
-pub cond-some : (t : Bool) (x : Option ℕ) (w : ℕ) → cond t x none ≡ some w → (t ≡ true) × (x ≡ some w)
-cond-some true x w e = (refl, e)
-cond-some false x w e = let z : _≡_ {A = ℕ} 0 1 = cc in absurd (omega arith)
 
 digit-within : (a z b : ℕ) → isDigit a ≡ true → isDigit z ≡ true → a ≤ b → b ≤ z → isDigit b ≡ true
 unfolding isDigit

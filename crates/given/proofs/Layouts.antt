@@ -3,8 +3,8 @@ use Prim.Native.Nat.{ℕ}
 use native.Mathlib.Omega.{arith}
 use mathlib.Core.Bool.{Bool, true, false, cond}
 use mathlib.Core.List.{List}
-use mathlib.Core.Option.{Option, none, some}
-use mathlib.Core.Path.{_≡_, refl, sym, _∙_}
+use mathlib.Core.Option.{none, some}
+use mathlib.Core.Path.{_≡_, refl, _∙_}
 use lib.Dec.{eqb}
 use lib.ListN.{length}
 use borrow.Author.Tests.{eq-eqb, ne-eqb}
@@ -24,7 +24,7 @@ use Rattle.rules.specs.declared.Refusal.{Refusal}
 use Rattle.families.specs.Letters.{familyTold}
 use Rattle.families.specs.declared.FamilyRead.{FamilyRead}
 use Rattle.families.specs.declared.FamilyRead.the-variants as familyRead
-use Rattle.sound.proofs.Placed.{Sound, sound-line, sound-empty}
+use Rattle.sound.proofs.Placed.{sound-line, sound-empty}
 use Rattle.given.specs.Given.{orBadValue, layoutBy, extraOf}
 
 says-one : {A : Type 0} {v w : A} → says v ≡ says w → v ≡ w

@@ -1,8 +1,8 @@
 -- Altitudes: how long their text is, what it is by their sign and size, and one put before what follows it. Assumes nothing.
-use Prim.Native.Nat.{ℕ, suc, _+_}
+use Prim.Native.Nat.{ℕ, _+_}
 use mathlib.Core.Bool.{Bool, true, false}
 use mathlib.Core.List.{List, _∷_, _++_}
-use mathlib.Core.Path.{_≡_, refl, sym, _∙_, ap}
+use mathlib.Core.Path.{_≡_, refl, sym, _∙_}
 use native.Mathlib.Numerals.{add-one}
 use native.Mathlib.Omega.{arith}
 use lib.IntN.{ℤ, pos, negsuc, natAbs}
@@ -12,12 +12,9 @@ use Rattle.rules.specs.Numbers.{digitsOf}
 use Rattle.rules.specs.Fields.{metresText, altitudeText}
 use Rattle.rules.specs.Writes.{putAt}
 use Rattle.rules.specs.declared.Height.{Height}
+use Rattle.rules.proofs.Texts.{metres-length}
 use Rattle.put.specs.Puts.{Fills}
-use Rattle.put.proofs.Laws.{digits-length, put-then}
-
-metres-length : (z : ℤ) → length (metresText z) ≡ 5
-metres-length (pos n) = digits-length 5 n
-metres-length (negsuc n) = ap suc (digits-length 4 (n + 1))
+use Rattle.put.proofs.Laws.{put-then}
 
 pub altitude-length : (h : Height) → length (altitudeText h) ≡ 5
 unfolding altitudeText

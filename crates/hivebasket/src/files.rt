@@ -1,7 +1,7 @@
 // A file: its two checks, the usual one and the strict one, a line by its number, a reading place over its lines; two files merged.
 ghost use Rattle.calls_file.specs.Calls.{UsuallyChecked, StrictlyChecked};
 ghost use Rattle.calls_place.specs.Calls.{LineAnswered, StepAnswered};
-ghost use Rattle.calls_merge.specs.Calls.{MergeAnswered};
+ghost use Rattle.calls_flight.specs.Merging.{MergeAnswered};
 
 // The usual check of a whole file, with the table of its lines' offsets.
 #[no_mangle]
@@ -40,5 +40,5 @@ pub extern "C" fn hive_step(file: &[u8], place: usize, answer: &mut [u64]) -> u3
 pub extern "C" fn hive_merge(first: &[u8], second: &[u8], out: &mut [u8], answer: &mut [u64]) -> u32
     ensures { λ r. ⌜ MergeAnswered (now (first .entry)) (now (second .entry)) (now (out .entry)) (now (answer .entry)) r (now (out .exit)) (now (answer .exit)) ⌝ }
 {
-    calls_merge::merge(first, second, out, answer)
+    calls_flight::merge(first, second, out, answer)
 }

@@ -8,7 +8,7 @@ use Rattle.rules.specs.declared.Judged.{Judged}
 use Rattle.rules.specs.declared.Reason.the-variants.{BadValue}
 use Rattle.rules.specs.declared.State.{State}
 use Rattle.state.specs.States.{hasFew}
-use Rattle.after.specs.Judges.{JudgedTold}
+use Rattle.settle.specs.Settled.{JudgedTold}
 
 -- 4 to 14, where the state's counts are few; another state is a value that is not allowed
 unfoldable pub judgeFew : List ℕ → State → Said State

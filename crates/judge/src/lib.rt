@@ -4,7 +4,7 @@ ghost use Rattle.rules.specs.Order.{ruled, judge};
 ghost use Rattle.rules.specs.Families.{countOf};
 ghost use Rattle.rules.specs.declared.Family.{Family};
 ghost use Rattle.state.specs.States.{Few};
-ghost use Rattle.after.specs.Judges.{JudgedTold};
+ghost use Rattle.settle.specs.Settled.{JudgedTold};
 ghost use Rattle.judge.specs.Lines.{LineJudged};
 use order::Leading;
 use rules::Judged;
@@ -18,21 +18,18 @@ fn ruled_line(r: Role, line: &[u8], st: State) -> Judged
     ensures { λ x. ⌜ JudgedTold (ruled r (now (line .entry)) st) x ⌝ }
 {
     match r {
-        Role::Opens => after::after_outcome(line::recorder(line), st),
+        Role::Opens => settle::after_outcome(line::recorder(line), st),
         Role::Heads => after::judge_header(line, st),
         Role::Tells(family) => after::judge_layout(family, line, st),
         Role::Columned(family) => after::judge_columned(family, line, st),
         Role::Declares => after::judge_declaration(line, st),
-        Role::Event => after::after_time(line::event(line), st),
-        Role::Satellites => after::after_time(line::satellites(line), st),
-        Role::Differential => after::after_outcome(line::differential(line), st),
-        Role::Seals => after::after_outcome(
-            shape::shaped(line, 2, 255, false),
-            state::signed_off(st),
-        ),
-        Role::Remark => after::after_outcome(shape::shaped(line, 1, 99, false), st),
-        Role::Other => after::after_outcome(shape::shaped(line, 1, 255, false), st),
-        Role::NoRole => after::refused_at(Reason::Kind, 1),
+        Role::Event => settle::after_time(line::event(line), st),
+        Role::Satellites => settle::after_time(line::satellites(line), st),
+        Role::Differential => settle::after_outcome(line::differential(line), st),
+        Role::Seals => carried::judge_seal(line, st),
+        Role::Remark => carried::judge_remark(line, st),
+        Role::Other => carried::judge_other(line, st),
+        Role::NoRole => settle::refused_at(Reason::Kind, 1),
     }
 }
 
@@ -41,7 +38,7 @@ pub fn judge_line(line: &[u8], st: State) -> Judged
     ensures { λ r. ⌜ LineJudged (now (line .entry)) st r ⌝ }
 {
     if !state::has_few(st) {
-        return after::refused_at(Reason::BadValue, 0);
+        return settle::refused_at(Reason::BadValue, 0);
     }
     judge_few(line, st)
 }
@@ -51,14 +48,14 @@ fn judge_few(line: &[u8], st: State) -> Judged
     ensures { λ r. ⌜ JudgedTold (judge (now (line .entry)) st) r ⌝ }
 {
     if line.len() < 1 {
-        return after::refused_at(Reason::EmptyLine, 1);
+        return settle::refused_at(Reason::EmptyLine, 1);
     }
-    let role = order::role_of(line::kind_of(line[0]));
+    let role = order::role_of(kind::kind_of(line[0]));
     if !order::is_role(role) {
-        return after::refused_at(Reason::Kind, 1);
+        return settle::refused_at(Reason::Kind, 1);
     }
     let Leading::To(stage) = order::order_of(role, st) else {
-        return after::refused_at(Reason::Order, 1);
+        return settle::refused_at(Reason::Order, 1);
     };
     ruled_line(role, line, state::moved_to(stage, st))
 }

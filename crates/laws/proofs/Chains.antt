@@ -1,9 +1,8 @@
 -- What holds along a chain of cases: of whichever way it goes, or of the value, where there is one. Assumes nothing.
 use Prim.Native.Nat.{ℕ}
 use mathlib.Core.Bool.{Bool, true, false, cond}
-use mathlib.Core.Option.{Option, none, some}
 use mathlib.Core.Path.{_≡_, refl}
-use Rattle.rules.specs.Choice.{given, need}
+use Rattle.rules.specs.Choice.{need}
 use Rattle.rules.specs.Refusals.{Said, says, refuses, inLine, andThen}
 
 -- ---- whichever way it goes
@@ -22,10 +21,6 @@ module _ {A : Type 0} (P : A → Type 0) where
   by-cond true a b h g = h
   by-cond false a b h g = g
 
-  pub by-given : {B : Type 0} (o : Option B) (a : A) (f : B → A) → P a → ((v : B) → P (f v)) → P (given o a f)
-  by-given (some v) a f h g = g v
-  by-given none a f h g = h
-
 -- ---- of the value, where there is one
 
 module _ {A : Type 0} where
@@ -41,10 +36,6 @@ module _ {A : Type 0} where
   sure-map P Q (refuses n l b) f h = tt
 
 module _ {A B : Type 0} where
-  pub sure-then : (P : B → Type 0) (s : Said A) (f : A → Said B) → ((v : A) → Sure P (f v)) → Sure P (andThen s f)
-  sure-then P (says v) f h = h v
-  sure-then P (refuses n l b) f h = tt
-
   -- the line n is refused, or what follows on it
   pub by-line : (P : Said B → Type 0) (Q : A → Type 0) (n : ℕ) (s : Said A) (f : A → Said B) → Sure Q s
       → ((k b : ℕ) → P (refuses k n b)) → ((v : A) → Q v → P (f v)) → P (andThen (inLine n s) f)

@@ -1,20 +1,16 @@
 -- The rest of a file from a byte on, and whether CR LF stands there, a byte at a time: what the scans of a file use. Assumes nothing.
 use Prim.Native.Nat.{ℕ, _+_, _≤_, _<_}
-use mathlib.Core.Bool.{Bool, true, false, _&&_}
+use mathlib.Core.Bool.{false, _&&_, and-false}
 use mathlib.Core.List.{List, _∷_}
-use mathlib.Core.Path.{_≡_, refl, sym}
+use mathlib.Core.Path.{_≡_, sym}
 use native.Mathlib.Nat.{add-zero}
 use native.Mathlib.Numerals.{add-one}
 use native.Mathlib.Omega.{arith}
-use borrow.Author.Tests.{ne-eqb, leb-true, leb-false}
-use lib.Dec.{eqb, leb}
+use borrow.Author.Tests.{ne-eqb}
+use lib.Dec.{eqb}
 use lib.ListN.{length, getD, drop, List·getD-eq-default}
 use lib.Seq.{drop-cons, getD-drop}
 use Rattle.rules.specs.Split.{beginsCRLF}
-
-and-false : (t : Bool) → (t && false) ≡ false
-and-false true = refl
-and-false false = refl
 
 module _ (f : List ℕ) (i : ℕ) where
   -- the rest of a file, with the code's `i + 1`
@@ -34,10 +30,3 @@ module _ (f : List ℕ) (i : ℕ) where
 
   pub begins-not : (getD f i 0 ≡ 13 → ⊥) → eqb (getD f i 0) 13 ≡ beginsCRLF (drop i f)
   begins-not n = rw begins-at (simp (ne-eqb _ _ n))
-
-  pub begins-within : beginsCRLF (drop i f) ≡ true → i + 2 ≤ length f
-  begins-within g = by (leb (i + 2) (length f)) refl
-    where
-      by : (t : Bool) → leb (i + 2) (length f) ≡ t → i + 2 ≤ length f
-      by true e = leb-true _ _ e
-      by false e = let n = begins-short (leb-false (i + 2) (length f) e) in let z : _≡_ {A = ℕ} 0 1 = cc in absurd (omega arith)

@@ -1,16 +1,16 @@
 -- A line that passes, taken apart once: by its role, what its check says of it and the state that it leaves. Everyone else cases on `Leaves`. Assumes nothing.
 use Prim.Native.Nat.{ℕ, _+_, _≤_}
 use mathlib.Core.Bool.{Bool, true, false, not, _&&_, cond}
-use mathlib.Core.List.{List}
+use mathlib.Core.List.{List, [], _∷_}
 use mathlib.Core.Option.{Option, none, some}
 use mathlib.Core.Path.{_≡_, refl}
 use native.Mathlib.Omega.{arith}
-use borrow.Author.Tests.{le-leb, leb-true, eqb-true, eqb-false, eq-eqb, ne-eqb}
+use borrow.Author.Tests.{le-leb, leb-true, eqb-true, eqb-false, eq-eqb, ne-eqb, not-true}
 use lib.Dec.{leb, eqb}
 use lib.ListN.{length, getD}
 use Rattle.rules.specs.Choice.{on}
 use Rattle.rules.specs.Families.{firstStart, layoutOf}
-use Rattle.rules.specs.Refusals.{Said, says, refuses, inLine, andThen}
+use Rattle.rules.specs.Refusals.{Said, says, inLine, andThen}
 use Rattle.rules.specs.Lines.{kindOf, aLine, dateLine, hLine, layoutLine, headLine, pointLine, dLine, eLine, fLine, columnedLine, lLine, gLine, otherLine}
 use Rattle.rules.specs.Roles.{roleOf, isRole, afterH, leading}
 use Rattle.rules.specs.Order.{orderOf, moved, dated, laidOut, counted, signedOff, begun, pointed, clocked, passing, isBack, timed, declarationLine, headerLine, ruled, judge}
@@ -27,7 +27,7 @@ use Rattle.rules.specs.declared.Flight.{Flight}
 use Rattle.rules.specs.declared.Seal.{Seal}
 use Rattle.rules.specs.declared.Seal.the-variants as seal
 use Rattle.rules.specs.declared.State.{State}
-use Rattle.rules.proofs.Inverse.{none-some, refuses-says, given-inv, need-inv, then-inv, and-inv, not-inv, in-line-inv}
+use Rattle.rules.proofs.Inverse.{none-some, refuses-says, false-true, given-inv, need-inv, then-inv, and-inv, in-line-inv}
 
 -- ---- the parts of a file
 
@@ -77,7 +77,7 @@ timed-inv : (t : ℕ) (m after : State) → timed t m ≡ says after → Onward 
 unfolding timed
 timed-inv t m after e =
     let n = need-inv (not (isBack (passing (m .clock) t))) _ (says after) _ refuses-says e in
-    (not-inv _ (n .0), cc)
+    (not-true _ (n .0), cc)
 
 module _ (l : List ℕ) (m after : State) where
   abbrev Left : Role → Type 0
@@ -156,6 +156,12 @@ left-ruled l m (remark e) = rw e
 left-ruled l m (other e) = rw e
 
 -- ---- the line judged
+
+-- a line with a role has bytes
+pub not-empty : (l : List ℕ) → isRole (roleIn l) ≡ true → 1 ≤ length l
+unfolding kindOf
+not-empty [] h = absurd (false-true h)
+not-empty (b ∷ l) h = omega arith
 
 pub record Judged (l : List ℕ) (st after : State) : Type 0 where
   pub long : 1 ≤ length l

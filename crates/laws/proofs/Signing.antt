@@ -1,5 +1,5 @@
 -- The check knows that a file is signed exactly where its lines have come past a G line; and the strict check says what the usual one says of a signed file. Assumes nothing.
-use Prim.Native.Nat.{ℕ, _+_, _≤_, _<_}
+use Prim.Native.Nat.{ℕ, _+_, _≤_}
 use mathlib.Core.Bool.{Bool, true, false, _||_, cond}
 use mathlib.Core.List.{List}
 use mathlib.Core.Option.{Option, none, some}

@@ -1,13 +1,12 @@
 -- A walk over the lines of a file keeps step with its check: a line that passes has the time that the walk reads, and leaves the clock and the count of lines that the walk
--- has. Days never fall, and rise at a fall of more than 43,200 seconds alone. Assumes nothing.
-use Prim.Native.Nat.{ℕ, _+_, _-_, _%_, _≤_}
+-- has. Days rise at a fall of more than 43,200 seconds alone. Assumes nothing.
+use Prim.Native.Nat.{ℕ, _+_, _-_, _%_}
 use Prim.Native.Char.{code}
 use Prim.Native.String.{String}
 use mathlib.Core.Bool.{false, cond}
 use mathlib.Core.List.{List, [], _∷_}
 use mathlib.Core.Option.{Option, none, some}
 use mathlib.Core.Path.{_≡_, refl, sym, ap, _∙_}
-use native.Mathlib.Omega.{arith}
 use lib.Dec.{eqb}
 use lib.ListN.{length, getD, drop}
 use Rattle.rules.specs.Choice.{given, on, bytes}
@@ -16,10 +15,10 @@ use Rattle.rules.specs.Fields.{timeAt, latitudeAt, longitudeAt, altitudeAt, isE
 use Rattle.rules.specs.Layouts.{columns}
 use Rattle.rules.specs.Listed.{offLimit}
 use Rattle.rules.specs.Lines.{badPair, shaped, shapedBy, fixFields, atLimit, bLine, extraLine, eLine, fLine, columnedLine}
-use Rattle.rules.specs.Order.{Passing, onward, nextDay, back, passing, moved, judge, start}
+use Rattle.rules.specs.Order.{moved, judge, start}
 use Rattle.rules.specs.Refusals.{says}
 use Rattle.rules.specs.Roles.{isTimed}
-use Rattle.rules.specs.Walk.{Walk, setOut, timeOn, dayAfter, walkedBy, walked}
+use Rattle.rules.specs.Walk.{Walk, setOut, timeOn, walkedBy, walked}
 use Rattle.rules.specs.declared.Family.{Family}
 use Rattle.rules.specs.declared.Family.the-variants as family
 use Rattle.rules.specs.declared.FixFields.{FixFields}
@@ -123,20 +122,6 @@ both-go l st after w e h =
     clock : (o : Option ℕ) → walkedBy o w .clock ≡ given o (st .clock) (λ t. t)
     clock none = h .clock
     clock (some t) = refl
-
--- ---- days never fall
-
-day-more : (p : Passing) (day : ℕ) → day ≤ dayAfter p day
-day-more onward day = omega arith
-day-more nextDay day = omega arith
-day-more back day = omega arith
-
-pub day-never-falls : (l : List ℕ) (w : Walk) → w .day ≤ walked l w .day
-day-never-falls l w = by (timeOn l)
-  where
-    by : (o : Option ℕ) → w .day ≤ walkedBy o w .day
-    by none = omega arith
-    by (some t) = day-more (passing (w .clock) t) (w .day)
 
 -- ---- days counted
 

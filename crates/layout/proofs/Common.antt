@@ -8,6 +8,7 @@ use native.Mathlib.Omega.{arith}
 use borrow.Author.Tests.{eqb-true, eqb-false, eq-eqb, ne-eqb}
 use lib.Dec.{eqb}
 use Rattle.rules.specs.Choice.{given, firstOf}
+use Rattle.rules.proofs.Inverse.{or-neither}
 
 abbrev pub member : ℕ → List ℕ → Bool
 member x [] = false
@@ -25,10 +26,6 @@ common (x ∷ xs) ys = common xs ys + cond (member x ys) 1 0
 split : (a b : Bool) → (not a && b) ≡ true → (a ≡ false) × (b ≡ true)
 split true b e = absurd (false≢true e)
 split false b e = (refl, e)
-
-neither : (a b : Bool) → (a || b) ≡ false → (a ≡ false) × (b ≡ false)
-neither true b e = absurd (false≢true (sym e))
-neither false b e = (refl, e)
 
 common-none : (xs : List ℕ) → common xs [] ≡ 0
 common-none [] = refl
@@ -63,7 +60,7 @@ pub distinct-snoc : (xs : List ℕ) (y : ℕ) → distinct xs ≡ true → membe
 distinct-snoc [] y d n = refl
 distinct-snoc (x ∷ xs) y d n =
     let p = split (member x xs) (distinct xs) d in
-    let o = neither (eqb x y) (member y xs) n in
+    let o = or-neither (eqb x y) (member y xs) n in
     simp (member-snoc x xs y, p .0, ne-eqb y x (λ q. eqb-false x y (o .0) (sym q)), distinct-snoc xs y (p .1) (o .1))
 
 -- a look-up by a number finds something where it is a member

@@ -19,6 +19,7 @@ use Rattle.rules.specs.declared.Reason.the-variants.{Tile, Twice, Width}
 use Rattle.rules.specs.declared.Listed.{Listed}
 use Rattle.rules.specs.declared.Entry.{Entry}
 use Rattle.rules.specs.declared.Layout.{Layout}
+use Rattle.rules.proofs.Inverse.{and-inv}
 use Rattle.basics.proofs.Presence.{set-bits, count-bits}
 use Rattle.layout.proofs.Common.{member, distinct, common, swap, distinct-snoc, scan-member}
 
@@ -64,10 +65,6 @@ ones-listed l d =
 
 -- ---- in an allowed layout no code comes twice
 
-both : (a b : Bool) → (a && b) ≡ true → (a ≡ true) × (b ≡ true)
-both true b e = (refl, e)
-both false b e = absurd (false≢true e)
-
 codes-join : (es fs : List Entry) → codesOf (es ++ fs) ≡ codesOf es ++ codesOf fs
 codes-join [] fs = refl
 codes-join (e ∷ es) fs = ap (λ r. e .code ∷ r) (codes-join es fs)
@@ -93,8 +90,8 @@ placed-distinct : (es : List Entry) (start : ℕ) (before : Layout) → length (
 unfolding allPlaced
 placed-distinct [] start before long room d p = ap (λ es. distinct (codesOf es)) (append-nil (entriesOf before)) ∙ d
 placed-distinct (e ∷ es) start before long room d p =
-    let q = both (isSpelt e && isSaid (placed start before e 0)) (allPlaced es (e .last + 1) (withEntry before e)) p in
-    let fresh = sym (carries-member before (e .code)) ∙ new start before e (both (isSpelt e) (isSaid (placed start before e 0)) (q .0) .1) in
+    let q = and-inv (isSpelt e && isSaid (placed start before e 0)) (allPlaced es (e .last + 1) (withEntry before e)) p in
+    let fresh = sym (carries-member before (e .code)) ∙ new start before e (and-inv (isSpelt e) (isSaid (placed start before e 0)) (q .0) .1) in
     let one : distinct (codesOf (entriesOf before ++ (e ∷ []))) ≡ true =
     ap distinct (codes-join (entriesOf before) (e ∷ [])) ∙ distinct-snoc (codesOf (entriesOf before)) (e .code) d fresh in
     let w = entries-with before e (omega arith) in
@@ -105,7 +102,7 @@ placed-distinct (e ∷ es) start before long room d p =
 pub count-listed : (start : ℕ) (l : Layout) → allowed start l ≡ true → (presenceOf l) .count ≡ listedIn (entriesOf l)
 unfolding allowed
 count-listed start l p =
-    let q = both (leb (l .count) 13 && allPlaced (entriesOf l) start emptyLayout) _ p in
-    let r = both (leb (l .count) 13) (allPlaced (entriesOf l) start emptyLayout) (q .0) in
+    let q = and-inv (leb (l .count) 13 && allPlaced (entriesOf l) start emptyLayout) _ p in
+    let r = and-inv (leb (l .count) 13) (allPlaced (entriesOf l) start emptyLayout) (q .0) in
     let few : length (entriesOf l) ≤ 13 = simp length-take (omega (arith, leb-true (l .count) 13 (r .0))) in
     ones-listed l (placed-distinct (entriesOf l) start emptyLayout refl (omega arith) refl (r .1))

@@ -1,6 +1,6 @@
 -- The entries of an I, a J or an M line, one behind the other; and that a layout which is allowed can be spelt. Assumes nothing.
 use Prim.Native.Nat.{ℕ, zero, suc, _+_, _*_, _/_, _%_, _≤_, _<_}
-use mathlib.Core.Bool.{Bool, true, false, _&&_, _||_}
+use mathlib.Core.Bool.{true, _&&_}
 use mathlib.Core.List.{List, [], _∷_, _++_, append-assoc, append-nil}
 use mathlib.Core.Path.{_≡_, refl, sym}
 use native.Mathlib.Numerals.{add-one}
@@ -10,7 +10,7 @@ use lib.Dec.{leb}
 use lib.ListN.{length, getD, take, length-append}
 use lib.Seq.{getD-take, length-take-le, take-all}
 use Rattle.rules.specs.Families.{layoutLetter}
-use Rattle.rules.specs.Chars.{isDigit, isCode}
+use Rattle.rules.specs.Chars.{isCode}
 use Rattle.rules.specs.Numbers.{digitsOf}
 use Rattle.rules.specs.Listed.{isCodeWord}
 use Rattle.rules.specs.Layouts.{unused, emptyLayout, withEntry, entriesOf, placed, isSaid, isSpelt, allPlaced, allowed}
@@ -19,20 +19,12 @@ use Rattle.rules.specs.declared.Entry.{Entry}
 use Rattle.rules.specs.declared.Layout.{Layout}
 use Rattle.rules.specs.declared.Family.{Family}
 use Rattle.rules.proofs.Inverse.{and-inv}
-use Rattle.trips.proofs.Texts.{digit-range}
+use Rattle.rules.proofs.Texts.{digits-length, entries-length}
+use Rattle.basics.proofs.Laws.{take-most, code-high}
 use Rattle.put.specs.Puts.{Fills}
-use Rattle.put.proofs.Laws.{digits-length, put-last, fills-then, byte-then, digits-then}
+use Rattle.put.proofs.Laws.{put-last, fills-then, byte-then, digits-then}
 use Rattle.legend.specs.Spelling.{Spellable}
 use Rattle.ending.proofs.Laws.{regroup}
-
-pub entry-length : (e : Entry) → length (entryText e) ≡ 7
-unfolding entryText
-entry-length e = simp (length-append, digits-length)
-
-pub entries-length : (es : List Entry) → length (entryTexts es) ≡ 7 * length es
-unfolding entryTexts
-entries-length [] = refl
-entries-length (e ∷ es) = rw (length-append, entry-length, entries-length es) (omega arith)
 
 more : (es : List Entry) (i : ℕ) → i < length es → entryTexts (take (suc i) es) ≡ entryTexts (take i es) ++ entryText (getD es i unused)
 unfolding entryTexts
@@ -40,18 +32,13 @@ more [] i h = let z : ⊥ = omega arith in search
 more (e ∷ es) zero h = append-nil (entryText e)
 more (e ∷ es) (suc i) h = rw (more es i (omega arith)) (sym (append-assoc (entryText e) (entryTexts (take i es)) _))
 
-take-short : {A : Type 0} (n : ℕ) (l : List A) → length (take n l) ≤ n
-take-short zero l = omega arith
-take-short (suc n) [] = omega arith
-take-short (suc n) (x ∷ l) = let h = take-short n l in omega arith
-
 -- no entry yet, and all of them
 pub entries-none : (out : List ℕ) → Fills out 3 (entryTexts []) out
 unfolding entryTexts
 entries-none out = record { is = λ h. refl }
 
 pub entries-all : (x out : List ℕ) (l : Layout) (i : ℕ) → i ≡ l .count → Fills out 3 (entryTexts (take i (entriesOf l))) x → Fills out 3 (entryTexts (entriesOf l)) x
-entries-all x out l i e f = rw (e, take-all (l .count) (entriesOf l) (take-short (l .count) (l .entries))) at f
+entries-all x out l i e f = rw (e, take-all (l .count) (entriesOf l) (take-most (l .count) (l .entries))) at f
 
 -- one entry more
 pub entry-more : (x out l₁ : List ℕ) (l : Layout) (i : ℕ) → i < l .count → l .count ≤ length (l .entries) → Fills out 3 (entryTexts (take i (entriesOf l))) l₁
@@ -82,14 +69,6 @@ layout-length f l k =
     rw (length-append, digits-length, entries-length, n) (omega arith)
 
 -- ---- a layout that is allowed has codes of three bytes
-
-code-high : (b : ℕ) → isCode b ≡ true → b ≤ 90
-unfolding isCode
-code-high b e = go (isDigit b) refl e
-  where
-    go : (t : Bool) → isDigit b ≡ t → (t || (leb 65 b && leb b 90)) ≡ true → b ≤ 90
-    go true d k = omega (arith, digit-range b d)
-    go false d k = leb-true b 90 (and-inv (leb 65 b) (leb b 90) k .1)
 
 small : (x : ℕ) → isCodeWord x ≡ true → x < 16777216
 unfolding isCodeWord

@@ -1,4 +1,3 @@
--- One turn of each loop, that the look number by number is the look into the entries, and that each promise has one answer.
-mod Turns
+-- That the look number by number is the look into the entries, and that each promise has one answer.
 mod Same
 pub mod Only

@@ -9,25 +9,22 @@ use borrow.Author.Tests.{le-leb, leb-true}
 use lib.Dec.{eqb, leb}
 use lib.ListN.{length, getD}
 use Rattle.rules.specs.Choice.{given, need, firstOf}
-use Rattle.rules.specs.Layouts.{Span, emptyLayout, entriesOf, spanOf, lookIn, look, columnText}
+use Rattle.rules.specs.Layouts.{Span, emptyLayout, spanOf, lookIn, look, columnText}
 use Rattle.rules.specs.Listed.{packedOf}
 use Rattle.rules.specs.Looks.{carriedIn, twice, isInside, areInside, fitsLine, lookSaid, lookNumber}
 use Rattle.rules.specs.Numbers.{wholeOf}
-use Rattle.rules.specs.Promises.{foundTold}
 use Rattle.rules.specs.Refusals.{Said, says, refuses, no, andThen}
 use Rattle.rules.specs.declared.Entry.{Entry}
-use Rattle.rules.specs.declared.Found.{Found}
-use Rattle.rules.specs.declared.Found.the-variants as found
 use Rattle.rules.specs.declared.Layout.{Layout}
 use Rattle.rules.specs.declared.Signed.{Signed}
 use Rattle.rules.specs.declared.Reason.the-variants.{BadValue, Absent, NotNumber}
 use Rattle.rules.proofs.Inverse.{none-some, given-inv}
 use Rattle.sound.proofs.Placed.{laid, entries-laid}
-use Rattle.look.proofs.Laws.{any-place, outside, placed}
+use Rattle.fitting.proofs.Laws.{any-place, outside, placed}
 use Rattle.lent_entries.specs.Lent.{entriesSize, entryIn, noEntries, takenFrom, takenSaid}
 use Rattle.lent_entries.proofs.Taken.{entriesIn, taken-entries}
 use Rattle.lent_look.specs.Looks.{lookBy, numberBy}
-use Rattle.lent_look.specs.Parts.{entryOf, standsIn, placeIn, isIn, fitIn, spanIn, columnIn}
+use Rattle.seek.specs.Parts.{entryOf, standsIn, placeIn, isIn, fitIn, spanIn, columnIn}
 
 -- ---- one entry before others
 
@@ -192,7 +189,7 @@ module _ (line ns name : List ℕ) (count : ℕ) (few : count ≤ 13) where
           rw (look-laid line es name (omega (arith, entries-long count ns 1 es q)), look-place count ns 1 es (packedOf name) q)
           (ap (λ (z : Said Span). need (Fit (length line) es) (no BadValue 0) λ _. z) (found (placeIn count ns 1 (packedOf name))))
 
-column-same : (line ns name : List ℕ) → columnIn line ns name ≡ lookBy line ns name
+column-same : (line ns name : List ℕ) → columnIn (length line) ns (packedOf name) ≡ lookBy line ns name
 unfolding columnIn lookBy takenSaid
 column-same line ns name = go (eqb (length ns) entriesSize) (leb (getD ns 0 0) 13) refl
   where
@@ -203,19 +200,9 @@ column-same line ns name = go (eqb (length ns) entriesSize) (leb (getD ns 0 0) 1
     go true false h = refl
     go true true h = look-entries line ns name (getD ns 0 0) (leb-true (getD ns 0 0) 13 h)
 
--- x is the answer of a function
-pub by-numbers : (line ns name : List ℕ) (x : Said Span) → x ≡ columnIn line ns name → x ≡ lookBy line ns name
-by-numbers line ns name x e = e ∙ column-same line ns name
-
--- what was found by a code y, which is the one asked for
-module _ (ns : List ℕ) (n x y : ℕ) (r : Found) (z : Said Span) (told : foundTold r ≡ placeIn n ns 1 y) (same : y ≡ x) where
-  pub span-there : (p : ℕ) → r ≡ found.At p → z ≡ says (spanIn ns p) → z ≡ given (placeIn n ns 1 x) (no Absent 0) λ p. says (spanIn ns p)
-  unfolding foundTold
-  span-there p g h = rw (← same, ← told, g) h
-
-  pub span-nowhere : r ≡ found.Nothing → z ≡ no Absent 0 → z ≡ given (placeIn n ns 1 x) (no Absent 0) λ p. says (spanIn ns p)
-  unfolding foundTold
-  span-nowhere g h = rw (← same, ← told, g) h
+-- x is the answer of a function, for the code y that is asked for
+pub by-numbers : (line ns name : List ℕ) (y : ℕ) (x : Said Span) → y ≡ packedOf name → x ≡ columnIn (length line) ns y → x ≡ lookBy line ns name
+by-numbers line ns name y x same e = e ∙ ap (columnIn (length line) ns) same ∙ column-same line ns name
 
 -- the number is that of the column's text
 number-same : (line ns name : List ℕ) → numberBy line ns name ≡ andThen (lookBy line ns name) λ s. given (wholeOf (columnText line s)) (no NotNumber 0) λ z. says z

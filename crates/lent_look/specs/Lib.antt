@@ -1,3 +1,2 @@
--- The look into entries that are lent as numbers, and what it goes through.
+-- The look into entries that are lent as numbers.
 pub mod Looks
-pub mod Parts

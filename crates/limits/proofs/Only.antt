@@ -4,12 +4,8 @@ use mathlib.Core.List.{List}
 use Rattle.rules.specs.declared.Layout.{Layout}
 use Rattle.rules.specs.declared.Fix.{Fix}
 use Rattle.rules.specs.declared.Head.{Head}
-use Rattle.rules.specs.declared.Point.{Point}
 use Rattle.only.proofs.Only.{Only, same}
-use Rattle.limits.specs.Tests.{PointTest, HeadTest, FieldsSpelt, FixTest, ExtraTest}
-
-pub only-point-test : (p : Point) (rest : List ℕ) → Only (PointTest p rest)
-only-point-test p rest = same
+use Rattle.limits.specs.Tests.{HeadTest, FieldsSpelt, FixTest, ExtraTest}
 
 pub only-head-test : (h : Head) (rest : List ℕ) → Only (HeadTest h rest)
 only-head-test h rest = same

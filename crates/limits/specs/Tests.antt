@@ -7,12 +7,8 @@ use Rattle.rules.specs.declared.Layout.{Layout}
 use Rattle.rules.specs.declared.FixFields.{FixFields}
 use Rattle.rules.specs.declared.Fix.{Fix}
 use Rattle.rules.specs.declared.Head.{Head}
-use Rattle.rules.specs.declared.Point.{Point}
 use Rattle.rules.specs.Fixes.{fieldsOf}
-use Rattle.rules.specs.Limits.{goodPoint, goodHead, goodFix, goodExtra}
-
-abbrev pub PointTest : Point → List ℕ → Bool → Type 0
-PointTest p rest r = r ≡ goodPoint p rest
+use Rattle.rules.specs.Limits.{goodHead, goodFix, goodExtra}
 
 abbrev pub HeadTest : Head → List ℕ → Bool → Type 0
 HeadTest h rest r = r ≡ goodHead h rest

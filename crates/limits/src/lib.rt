@@ -6,5 +6,4 @@ mod tails;
 pub use lines::good_extra;
 pub use lines::good_fix;
 pub use lines::good_head;
-pub use lines::good_point;
 pub use splits::fields_of;

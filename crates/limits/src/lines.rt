@@ -1,7 +1,7 @@
 // The values of a line, with the text behind its fields.
 ghost use mathlib.Core.Path.{_≡_};
 ghost use Rattle.rules.specs.Limits.{goodHeadFields, goodFixFields};
-ghost use Rattle.limits.specs.Tests.{PointTest, HeadTest, FixTest, ExtraTest};
+ghost use Rattle.limits.specs.Tests.{HeadTest, FixTest, ExtraTest};
 use crate::splits::are_split;
 use crate::splits::fields_of;
 use crate::splits::is_fine;
@@ -19,23 +19,6 @@ use rules::Fix;
 use rules::FixFields;
 use rules::Head;
 use rules::Layout;
-use rules::Point;
-
-// Whether some C point line reads as the point, with this text behind it.
-pub fn good_point(p: Point, rest: &[u8]) -> bool
-    ensures { λ r. ⌜ PointTest p (now (rest .entry)) r ⌝ }
-{
-    if !is_latitude(p.lat) {
-        return false;
-    }
-    if !is_longitude(p.lon) {
-        return false;
-    }
-    if 255 < 18 + rest.len() {
-        return false;
-    }
-    is_clean(rest)
-}
 
 // Whether the fields of a C head are within their limits.
 fn good_head_fields(h: Head) -> bool

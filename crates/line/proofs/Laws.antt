@@ -19,10 +19,10 @@ use Rattle.rules.specs.declared.Outcome.the-variants as outcome
 use Rattle.shape.proofs.Laws.{accepted-most}
 use mathlib.Core.Option.{Option, none, some}
 use mathlib.Core.Bool.{Bool, true, false, _&&_, cond}
-use mathlib.Core.Path.{_≡_, refl, sym, ap, _∙_}
-use borrow.Author.Tests.{not-true, not-false, eq-eqb, ne-eqb}
+use mathlib.Core.Path.{_≡_, refl, ap, _∙_}
+use borrow.Author.Tests.{not-true, not-false}
 use lib.Dec.{eqb}
-use Rattle.chars.proofs.Laws.{and-true, and-false}
+use Rattle.chars.proofs.Laws.{and-true, and-false, byte-is, byte-is-not}
 use Rattle.rules.specs.Choice.{given}
 use Rattle.rules.specs.declared.Planned.{Planned}
 use Rattle.rules.proofs.Links.{by-some, by-none, need-true, need-false, cond-eq, cond-ne, on-is, number-value, number-none, time-secs, time-none, day-on, day-none, position-is, position-none, outcome-accepted, outcome-refused, found-at, found-nothing, fix-fields-is, fix-fields-refused}
@@ -40,13 +40,6 @@ unfolding plannedTold
 planned-none n r x a f e g h = by-none plannedTold n r x a f e NoPlan refl g h
 
 -- ---- bytes
-
--- r is the byte that stands there
-pub byte-is : (m n r : ℕ) → r ≡ m → r ≡ n → true ≡ eqb m n
-byte-is m n r e h = sym (eq-eqb m n (sym e ∙ h))
-
-pub byte-is-not : (m n r : ℕ) → r ≡ m → (r ≡ n → ⊥) → false ≡ eqb m n
-byte-is-not m n r e h = sym (ne-eqb m n (λ k. h (e ∙ k)))
 
 pub byte-told : (m n r : ℕ) → r ≡ m → eqb r n ≡ eqb m n
 byte-told m n r e = ap (λ k. eqb k n) e

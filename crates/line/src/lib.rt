@@ -8,7 +8,7 @@ ghost use Rattle.rules.specs.Lines.{atLimit, isDateMark, plannedAt, headFields,
 ghost use Rattle.rules.specs.Layouts.{columns};
 ghost use Rattle.rules.specs.Refusals.{outcomeTold, andThen, says};
 ghost use Rattle.rules.specs.Reads.{headTold, fixFieldsTold};
-ghost use Rattle.rules.specs.Promises.{RecorderChecked, DateLineChecked, HeaderChecked, HeadChecked, PointChecked, DifferentialChecked, EventChecked, SatellitesChecked, FixChecked, ExtraChecked, ColumnedChecked, KindGiven, foundTold};
+ghost use Rattle.rules.specs.Promises.{RecorderChecked, DateLineChecked, HeaderChecked, HeadChecked, PointChecked, DifferentialChecked, EventChecked, SatellitesChecked, FixChecked, ExtraChecked, ColumnedChecked, foundTold};
 ghost use Rattle.line.specs.Parts.{plannedTold};
 use fix::fix_fields;
 use fix::form;
@@ -23,7 +23,6 @@ use rules::FixFieldsRead;
 use rules::Found;
 use rules::Head;
 use rules::HeadRead;
-use rules::Kind;
 use rules::Layout;
 use rules::Number;
 use rules::Outcome;
@@ -320,29 +319,5 @@ pub fn columned_line(family: Family, line: &[u8], layout: Layout) -> TimeRead
             FixFieldsRead::Refused(r) => TimeRead::Refused(r),
         },
         Family::Extra(_) => extra_line(line, layout),
-    }
-}
-
-// The kind of a line, told by its first byte; NoKind for a byte that is not A to Z.
-pub fn kind_of(b: u8) -> Kind
-    ensures { λ r. ⌜ KindGiven b r ⌝ }
-{
-    match b {
-        b'A' => Kind::A,
-        b'B' => Kind::B,
-        b'C' => Kind::C,
-        b'D' => Kind::D,
-        b'E' => Kind::E,
-        b'F' => Kind::F,
-        b'G' => Kind::G,
-        b'H' => Kind::H,
-        b'I' => Kind::I,
-        b'J' => Kind::J,
-        b'K' => Kind::K,
-        b'L' => Kind::L,
-        b'M' => Kind::M,
-        b'N' => Kind::N,
-        b'O'..=b'Z' => Kind::Other,
-        _ => Kind::NoKind,
     }
 }

@@ -5,7 +5,7 @@ use mathlib.Core.List.{List, [], map}
 use mathlib.Core.Path.{_≡_, sym}
 use lib.ListN.{getD, List·getD-map}
 use Rattle.rules.specs.Choice.{bytes}
-use Rattle.rules.specs.Listed.{listed, unlisted, packedOf, codeText}
+use Rattle.rules.specs.Listed.{listed, unlisted, codeText}
 use Rattle.rules.specs.declared.Listed.{Listed}
 use Rattle.listed.specs.Parts.{inRow}
 use Rattle.listed.specs.declared.Row.{Row}

@@ -1,9 +1,12 @@
-// Lists a file on standard output: its counts, each fix and its columns; or why it is refused. What is printed is made by `pages`, `block` and `show`, and written here.
+// Lists a file on standard output: its counts, each fix and its columns; or why it is refused. What is printed is made by `begin`, `block` and `show`, and written here.
 // Each function answers whether all that it prints was written, and stops at the first write that fails.
 mod input;
+mod pages;
 
 pub use input::is_at_end;
 use libc::STDOUT_FILENO;
+pub use pages::Begun;
+pub use pages::begin;
 use rules::Entry;
 use rules::FixFields;
 use rules::Flight;

@@ -1,10 +1,10 @@
 -- Looks worked out: into the two columns of document 01's example, and into entries that no line's reading gives. Assumes nothing.
 use Prim.Native.Nat.{ℕ}
 use Prim.Native.Char.{code}
-use mathlib.Core.List.{List, [], _∷_, _++_}
+use mathlib.Core.List.{List, [], _∷_}
 use mathlib.Core.Path.{_≡_, refl}
 use lib.IntN.{pos}
-use lib.ListN.{length, replicate, take}
+use lib.ListN.{replicate, take}
 use Rattle.rules.specs.Choice.{bytes}
 use Rattle.rules.specs.Layouts.{unused}
 use Rattle.rules.specs.Listed.{packedOf}

@@ -7,16 +7,16 @@ use native.Mathlib.Numerals.{add-one}
 use native.Mathlib.Omega.{arith}
 use lib.ListN.{length, take, drop, getD, set, length-append, length-take, length-set}
 use lib.Seq.{drop-cons, sets, length-take-le, getD-take, take-take, take-all, append-snoc, set-out}
+use Rattle.rules.proofs.Texts.{sets-append}
 use Rattle.sorted.specs.Sorted.{count}
 use Rattle.sorted.proofs.Streams.{follow}
-use Rattle.notes.specs.Notes.{notAfter}
 use Rattle.notes.specs.Places.{textAt, earlier, starts}
 use Rattle.notes.proofs.Places.{places, rising-once, starts-rising}
-use Rattle.compare.specs.Letters.{inText}
+use Rattle.compare.specs.Letters.{inText, whoseOf}
 use Rattle.compare.proofs.Letters.{in-inside, in-text, in-none}
 use Rattle.runs.specs.Runs.{coming, Refilled}
 use Rattle.loom.specs.Loom.{Ready, Fine, Fresh, Taken, Fills, Emitted, choice, Chosen}
-use Rattle.loom.specs.declared.Place.{Place}
+use Rattle.place.specs.declared.Place.{Place}
 
 -- ---- a slice read on
 
@@ -76,12 +76,6 @@ fresh-filled s heads p l n f h r en ei el =
 
 -- ---- bytes put one after the other
 
-pub sets-append : (l : List ℕ) (at : ℕ) (a b : List ℕ) → sets l at (a ++ b) ≡ sets (sets l at a) (at + length a) b
-sets-append l at [] b = let e : at + 0 ≡ at = omega arith in rw e
-sets-append l at (x ∷ a) b =
-    let e : suc at + length a ≡ at + suc (length a) = omega arith in
-    sets-append (set l at x) (suc at) a b ∙ ap (λ (m : ℕ). sets (sets (set l at x) (suc at) a) m b) e
-
 pub fills-then : (x l l₁ : List ℕ) (at m : ℕ) (t b : List ℕ) → Fills l at t l₁ → m ≡ at + length t → Fills l₁ m b x → Fills l at (t ++ b) x
 fills-then x l l₁ at m t b f e g = record {
   size = g .size ∙ f .size;
@@ -134,23 +128,9 @@ module _ (a b ha hb : List ℕ) (x y : Place) (p : Fine a ha x) (q : Fine b hb y
   chosen-first h k = record { is = rw (q .done k, next-is a ha x (p .ready) h); first = λ z. h; second = λ z. absurd (z refl) }
 
   module _ (h : x .i < x .n) (k : y .i < y .n) where
-    abbrev u : List ℕ
-    u = textAt a (getD ha (x .i) 0)
-
-    abbrev v : List ℕ
-    v = textAt b (getD hb (y .i) 0)
-
-    pub chosen-both : (r t : Bool) → r ≡ notAfter u v → r ≡ true → t ≡ notAfter v u → t ≡ true → Chosen a b x y 1
+    pub chosen-by : (r : ℕ) → r ≡ whoseOf (textAt a (getD ha (x .i) 0)) (textAt b (getD hb (y .i) 0)) → Chosen a b x y r
     unfolding choice
-    chosen-both r t e f g w = record { is = rw (next-is a ha x (p .ready) h, next-is b hb y (q .ready) k, ← e, f, ← g, w); first = λ z. h; second = λ z. k }
-
-    pub chosen-less : (r t : Bool) → r ≡ notAfter u v → r ≡ true → t ≡ notAfter v u → t ≡ false → Chosen a b x y 0
-    unfolding choice
-    chosen-less r t e f g w = record { is = rw (next-is a ha x (p .ready) h, next-is b hb y (q .ready) k, ← e, f, ← g, w); first = λ z. h; second = λ z. k }
-
-    pub chosen-more : (r : Bool) → r ≡ notAfter u v → r ≡ false → Chosen a b x y 2
-    unfolding choice
-    chosen-more r e f = record { is = rw (next-is a ha x (p .ready) h, next-is b hb y (q .ready) k, ← e, f); first = λ z. h; second = λ z. k }
+    chosen-by r e = record { is = rw (next-is a ha x (p .ready) h, next-is b hb y (q .ready) k) e; first = λ z. h; second = λ z. k }
 
 pub byte-past : (l : List ℕ) (at b : ℕ) → length l ≤ at → Fills l at (b ∷ []) l
 byte-past l at b h = record { size = refl; is = sym (set-out l at b h) }

@@ -8,15 +8,17 @@ use borrow.Author.Tests.{leb-true, leb-false, le-leb, lt-leb}
 use lib.Dec.{leb, eqb}
 use lib.ListN.{length, drop, length-append, length-drop}
 use lib.Seq.{length-sets}
+use Rattle.rules.proofs.Inverse.{by-bool}
 use Rattle.sorted.specs.Ways.{weave}
-use Rattle.sorted.proofs.Sorting.{by, split, clash}
+use Rattle.sorted.proofs.Sorting.{by, clash}
 use Rattle.sorted.proofs.Streams.{rest-length}
 use Rattle.notes.specs.Notes.{notAfter, joined}
 use Rattle.notes.specs.Places.{upToCR, textAt, starts}
 use Rattle.notes.proofs.Places.{places, starts-length}
 use Rattle.runs.specs.Runs.{coming}
 use Rattle.loom.specs.Loom.{Ready, Fine, Fresh, Taken, Fills, line, Emitted, choice, texts, Chosen, both, Turned, Over, all, Walked, NotesPut}
-use Rattle.loom.specs.declared.Place.{Place}
+use Rattle.place.specs.Through.{through, BothThrough}
+use Rattle.place.specs.declared.Place.{Place}
 use Rattle.loom.proofs.Reading.{fills-then}
 
 -- ---- the walk by the choice
@@ -25,24 +27,24 @@ step-second : (A : List (List ℕ)) (v : List ℕ) (B : List (List ℕ)) → 2 �
 unfolding choice
 step-second [] v B e = refl
 step-second (u ∷ A) v B e =
-    split (notAfter u v)
-    (λ f. split (notAfter v u) (λ g. absurd (omega (arith, rw (f, g) at e))) (λ g. absurd (omega (arith, rw (f, g) at e))))
+    by-bool (notAfter u v)
+    (λ f. by-bool (notAfter v u) (λ g. absurd (omega (arith, rw (f, g) at e))) (λ g. absurd (omega (arith, rw (f, g) at e))))
     (λ f. rw f)
 
 step-first : (u : List ℕ) (A B : List (List ℕ)) → 0 ≡ choice (u ∷ A) B → weave notAfter (u ∷ A) B ≡ u ∷ weave notAfter A B
 unfolding choice
 step-first u A [] e = refl
 step-first u A (v ∷ B) e =
-    split (notAfter u v)
-    (λ f. split (notAfter v u) (λ g. absurd (omega (arith, rw (f, g) at e))) (λ g. rw (f, g)))
+    by-bool (notAfter u v)
+    (λ f. by-bool (notAfter v u) (λ g. absurd (omega (arith, rw (f, g) at e))) (λ g. rw (f, g)))
     (λ f. absurd (omega (arith, rw f at e)))
 
 step-both : (u : List ℕ) (A : List (List ℕ)) (v : List ℕ) (B : List (List ℕ)) → (0 ≡ choice (u ∷ A) (v ∷ B) → ⊥) → (2 ≡ choice (u ∷ A) (v ∷ B) → ⊥)
     → weave notAfter (u ∷ A) (v ∷ B) ≡ u ∷ weave notAfter A B
 unfolding choice
 step-both u A v B e k =
-    split (notAfter u v)
-    (λ f. split (notAfter v u) (λ g. rw (f, g)) (λ g. absurd (e (rw (f, g)))))
+    by-bool (notAfter u v)
+    (λ f. by-bool (notAfter v u) (λ g. rw (f, g)) (λ g. absurd (e (rw (f, g)))))
     (λ f. absurd (k (rw f)))
 
 joined-more : (u : List ℕ) (M : List (List ℕ)) → joined (u ∷ M) ≡ line u ++ joined M
@@ -113,11 +115,15 @@ module _ (a b ha hb : List ℕ) (x y : Place) (out : List ℕ) (at : ℕ) (p : F
 
 -- ---- both through
 
-pub over-not : (x y : Place) → x .i < x .n → Over x y false
-over-not x y h = record { yes-first = λ e. clash e refl; yes-second = λ e. clash e refl; not-yet = λ e g. absurd (omega arith) }
-
-pub over-by : (x y : Place) → x .n ≤ x .i → Over x y (leb (y .n) (y .i))
-over-by x y h = record { yes-first = λ e. h; yes-second = λ e. leb-true (y .n) (y .i) e; not-yet = λ e g. leb-false (y .n) (y .i) e }
+pub over-of : (x y : Place) (r : Bool) → BothThrough x y r → Over x y r
+over-of x y r e =
+    by-bool (through x)
+    (λ f.
+    let d : r ≡ through y = e ∙ rw f in
+    record { yes-first = λ t. leb-true (x .n) (x .i) f; yes-second = λ t. leb-true (y .n) (y .i) (sym d ∙ t); not-yet = λ t g. leb-false (y .n) (y .i) (sym d ∙ t) })
+    (λ f.
+    let d : r ≡ false = e ∙ rw f in
+    record { yes-first = λ t. clash t d; yes-second = λ t. clash t d; not-yet = λ t g. absurd (omega (arith, leb-false (x .n) (x .i) f)) })
 
 -- ---- the whole walk
 

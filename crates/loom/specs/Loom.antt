@@ -1,6 +1,6 @@
 -- The notes of two slices put one after the other: how far each slice is read, what comes next, and what stands in the output.
 use Prim.Native.Nat.{ℕ, _+_, _-_, _≤_, _<_}
-use mathlib.Core.Bool.{Bool, true, false, cond}
+use mathlib.Core.Bool.{Bool, true, false}
 use mathlib.Core.List.{List, [], _∷_, _++_, map}
 use mathlib.Core.Path.{_≡_}
 use lib.Dec.{leb}
@@ -10,8 +10,9 @@ use Rattle.rules.specs.Choice.{need}
 use Rattle.sorted.specs.Ways.{weave}
 use Rattle.notes.specs.Notes.{notAfter, joined}
 use Rattle.notes.specs.Places.{textAt}
+use Rattle.compare.specs.Letters.{whoseOf}
 use Rattle.runs.specs.Runs.{coming}
-use Rattle.loom.specs.declared.Place.{Place}
+use Rattle.place.specs.declared.Place.{Place}
 
 -- ---- a slice, read run by run
 
@@ -58,7 +59,7 @@ pub record Emitted (s : List ℕ) (i : ℕ) (out : List ℕ) (at : ℕ) (out′ 
 unfoldable pub choice : List (List ℕ) → List (List ℕ) → ℕ
 choice [] B = 2
 choice (u ∷ A) [] = 0
-choice (u ∷ A) (v ∷ B) = cond (notAfter u v) (cond (notAfter v u) 1 0) 2
+choice (u ∷ A) (v ∷ B) = whoseOf u v
 
 -- the texts that come after `last`
 abbrev pub texts : List ℕ → ℕ → List (List ℕ)

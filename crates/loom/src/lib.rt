@@ -3,14 +3,9 @@
 ghost use mathlib.Core.List.{_∷_, []};
 ghost use Prim.Native.Nat.{_≤_, _<_};
 ghost use lib.ListN.{length};
-ghost use Rattle.loom.specs.Loom.{Ready, Fine, Fresh, Taken, Fills, Emitted, Chosen, Turned, Over, Walked, NotesPut};
-
-// Where a slice is read on: the i-th of n notes of its run, and the last one taken.
-pub struct Place {
-    pub n: usize,
-    pub i: usize,
-    pub last: usize,
-}
+ghost use Rattle.loom.specs.Loom.{Ready, Fine, Fresh, Taken, Fills, Emitted, Chosen, Turned, Walked, NotesPut};
+use place::Place;
+use place::is_over;
 
 // A run that has a note, or no note is left.
 fn ready(s: &[u8], heads: &mut [usize], p: Place) -> Place
@@ -78,15 +73,7 @@ fn which(a: &[u8], b: &[u8], ha: &[usize], hb: &[usize], x: Place, y: Place) -> 
     if y.n <= j {
         return 0;
     }
-    let g = ha[i];
-    let h = hb[j];
-    if compare::at_most(a, g, b, h) {
-        if compare::at_most(b, h, a, g) {
-            return 1;
-        }
-        return 0;
-    }
-    2
+    compare::whose(a, ha[i], b, hb[j])
 }
 
 // Where both slices are read on, and where the output is written on.
@@ -123,16 +110,6 @@ fn take_turn(
     }
     let q = advance(b, hb, y);
     Turn { x: p, y: q, at: to }
-}
-
-// Whether both are through.
-fn is_over(x: Place, y: Place) -> bool
-    ensures { λ r. ⌜ Over x y r ⌝ }
-{
-    if x.i < x.n {
-        return false;
-    }
-    y.n <= y.i
 }
 
 // All notes of the two put into the output behind `from` bytes, where they have room; the place after them.

@@ -20,11 +20,12 @@ use Rattle.rules.proofs.Inverse.{refuses-says, false-true}
 use Rattle.demands.specs.Faults.{Refused}
 use Rattle.demands.specs.Grammar.{Meets, flightOf}
 use Rattle.demands.proofs.Demands.{accepted-as, refused-first}
-use Rattle.evening.proofs.NeverFull.{check-never-full}
-use Rattle.next_fix.specs.Track.{trackSeal, trackOf, flightTracked, trackSaid, listAfter}
-use Rattle.next_fix.specs.declared.Record.{Record}
-use Rattle.track.specs.Tracks.{trackedTold, FileTracked}
-use Rattle.track.specs.declared.Tracked.{Tracked}
+use Rattle.untabled.proofs.NeverFull.{check-never-full}
+use Rattle.records.specs.Track.{trackSeal, trackOf, flightTracked, trackSaid, listAfter}
+use Rattle.records.specs.declared.Record.{Record}
+use Rattle.course.specs.Courses.{trackedTold}
+use Rattle.track.specs.Tracks.{FileTracked}
+use Rattle.course.specs.declared.Tracked.{Tracked}
 use Rattle.track.proofs.Tracking.{planned-accepted, counted-all}
 use Rattle.mapped.specs.Mapped.{BLines, Short}
 

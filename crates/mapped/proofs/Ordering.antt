@@ -28,8 +28,8 @@ use Rattle.rules.proofs.Inverse.{false-true}
 use Rattle.laws.proofs.Passing.{roleIn, Onward}
 use Rattle.laws.proofs.Walking.{InStep, both-go}
 use Rattle.trips.proofs.Each.{each-map}
-use Rattle.next_fix.specs.Track.{recordOf, recordsOf, trackFrom}
-use Rattle.next_fix.specs.declared.Record.{Record}
+use Rattle.records.specs.Track.{recordOf, recordsOf, trackFrom}
+use Rattle.records.specs.declared.Record.{Record}
 use Rattle.track.proofs.Stepping.{other-said, fixed}
 use Rattle.mapped.specs.Mapped.{Ordered}
 use Rattle.mapped.proofs.Records.{passed-timed, Good, Next, next}

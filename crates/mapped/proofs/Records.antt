@@ -34,9 +34,10 @@ use Rattle.laws.proofs.Walking.{columned-time, event-time, satellites-time}
 use Rattle.demands.specs.Grammar.{IsBLine, beginning}
 use Rattle.demands.specs.Readings.{ReadsLine}
 use Rattle.demands.proofs.EachLine.{fix-alone}
-use Rattle.next_fix.specs.Steps.{zeroRecord}
-use Rattle.next_fix.specs.Track.{recordsOf, trackFrom}
-use Rattle.next_fix.specs.declared.Record.{Record}
+use Rattle.demands.proofs.Standing.{beginning-next}
+use Rattle.records.specs.Track.{zeroRecord}
+use Rattle.records.specs.Track.{recordsOf, trackFrom}
+use Rattle.records.specs.declared.Record.{Record}
 use Rattle.track.proofs.Stepping.{other-said}
 use Rattle.mapped.specs.Mapped.{IsRecord}
 use Rattle.mapped.proofs.Days.{InTime, Walked, walked-on}
@@ -65,11 +66,6 @@ pub passed-in-time : (l : List ℕ) (st after : State) → judge l st ≡ says a
 passed-in-time l st after e n = let t = passed-timed l st after e n in (t .0, t .1)
 
 -- ---- the record at a place
-
-begin-more : (x : ℕ) (ls : List (List ℕ)) (l : List ℕ) → beginning x (ls ++ (l ∷ [])) ≡ beginning x ls + cond (eqb (getD l 0 0) x) 1 0
-unfolding beginning
-begin-more x [] l = omega arith
-begin-more x (k ∷ ls) l = omega (arith, begin-more x ls l)
 
 module _ (seal : Seal) (layouts : Layouts) (f : Flight) where
   abbrev layout : Layout
@@ -123,7 +119,7 @@ module _ (seal : Seal) (layouts : Layouts) (f : Flight) where
           → (i : ℕ) → i < length (recordsOf (walked t w) (fixSaid t layout) ++ records (walked t w) ls) → Found before (t ∷ textsOf ls) (recordsOf (walked t w) (fixSaid t layout) ++ records (walked t w) ls) i
       by false e x h′ later i less =
           let d = other-said layout t (eqb-false (getD t 0 0) (code "B") e) (walked t w) in
-          let n : beginning (code "B") (before ++ (t ∷ [])) ≡ beginning (code "B") before = begin-more (code "B") before t ∙ rw e (omega arith) in
+          let n : beginning (code "B") (before ++ (t ∷ [])) ≡ beginning (code "B") before = beginning-next t (code "B") before ∙ rw e (omega arith) in
           rw d (rw (same, n) at (later i (rw d at less)))
       by true e x h′ later zero less =
           let g = x .fix (eqb-true (getD t 0 0) (code "B") e) in
@@ -142,7 +138,7 @@ module _ (seal : Seal) (layouts : Layouts) (f : Flight) where
           })
       by true e x h′ later (suc j) less =
           let g = x .fix (eqb-true (getD t 0 0) (code "B") e) in
-          let c : beginning (code "B") (before ++ (t ∷ [])) ≡ beginning (code "B") before + 1 = begin-more (code "B") before t ∙ ap (λ (x : Bool). beginning (code "B") before + cond x 1 0) e in
+          let c : beginning (code "B") (before ++ (t ∷ [])) ≡ beginning (code "B") before + 1 = beginning-next t (code "B") before ∙ ap (λ (x : Bool). beginning (code "B") before + cond x 1 0) e in
           let n : beginning (code "B") (before ++ (t ∷ [])) + j ≡ beginning (code "B") before + suc j = omega (arith, c) in
           let m = rw (g .2) at less in
           rw (g .2) (rw (same, n) at (later j (omega (arith, m))))

@@ -15,11 +15,12 @@ use Rattle.rules.specs.Split.{boundsOf, lineText}
 use Rattle.rules.specs.declared.Flight.{Flight}
 use Rattle.demands.specs.Faults.{Refused}
 use Rattle.demands.specs.Grammar.{Meets, linesIn}
-use Rattle.next_fix.specs.Steps.{zeroRecord}
-use Rattle.next_fix.specs.Track.{trackSeal}
-use Rattle.next_fix.specs.declared.Record.{Record}
-use Rattle.track.specs.Tracks.{trackedTold, FileTracked}
-use Rattle.track.specs.declared.Tracked.{Tracked}
+use Rattle.records.specs.Track.{zeroRecord}
+use Rattle.records.specs.Track.{trackSeal}
+use Rattle.records.specs.declared.Record.{Record}
+use Rattle.course.specs.Courses.{trackedTold}
+use Rattle.track.specs.Tracks.{FileTracked}
+use Rattle.course.specs.declared.Tracked.{Tracked}
 use Rattle.mapped.specs.Mapped.{BLines, Short, IsRecord, Ordered, Reached}
 use Rattle.mapped.proofs.Answers as answers
 use Rattle.mapped.proofs.Whole as whole

@@ -24,11 +24,12 @@ use Rattle.laws.proofs.Walking.{both-start}
 use Rattle.demands.specs.Grammar.{Meets, linesIn, flightOf, beginning}
 use Rattle.demands.proofs.Demands.{accepted-as}
 use Rattle.demands.proofs.Reading.{lines-are}
-use Rattle.next_fix.specs.Steps.{zeroRecord}
-use Rattle.next_fix.specs.Track.{trackSeal, trackOf}
-use Rattle.next_fix.specs.declared.Record.{Record}
-use Rattle.track.specs.Tracks.{trackedTold, FileTracked}
-use Rattle.track.specs.declared.Tracked.{Tracked}
+use Rattle.records.specs.Track.{zeroRecord}
+use Rattle.records.specs.Track.{trackSeal, trackOf}
+use Rattle.records.specs.declared.Record.{Record}
+use Rattle.course.specs.Courses.{trackedTold}
+use Rattle.track.specs.Tracks.{FileTracked}
+use Rattle.course.specs.declared.Tracked.{Tracked}
 use Rattle.track.proofs.Accepted.{texts-read}
 use Rattle.mapped.specs.Mapped.{IsRecord, Ordered, Reached}
 use Rattle.mapped.proofs.Answers.{Stands, stands}

@@ -14,8 +14,8 @@ use Rattle.rules.specs.declared.Family.the-variants as family
 use Rattle.rules.specs.declared.Fix.{Fix}
 use Rattle.rules.specs.declared.Layout.{Layout}
 use Rattle.rules.proofs.Computed.{everything, fileOf}
-use Rattle.next_fix.specs.Track.{trackFrom, trackOf, flightTracked, trackSaid, listAfter}
-use Rattle.next_fix.specs.declared.Record.{Record}
+use Rattle.records.specs.Track.{trackFrom, trackOf, flightTracked, trackSaid, listAfter}
+use Rattle.records.specs.declared.Record.{Record}
 
 -- The first midnight shows between a B and a K line; the second, a fall of 43,201, between a K and an N line, and no B line falls there; the third is behind the leap second of an
 -- E line. Lines 3, 8, 12 and 14 are B lines.

@@ -19,8 +19,8 @@ use Rattle.words.specs.Values.{IsTime}
 use Rattle.demands.specs.Coming.{IsTimed}
 use Rattle.demands.specs.FieldTexts.{Stood}
 use Rattle.demands.specs.Grammar.{IsBLine, Meets, linesIn, beginning}
-use Rattle.next_fix.specs.Track.{trackSeal}
-use Rattle.next_fix.specs.declared.Record.{Record}
+use Rattle.records.specs.Track.{trackSeal}
+use Rattle.records.specs.declared.Record.{Record}
 
 -- ---- the answer
 

@@ -24,6 +24,7 @@ use Rattle.rules.specs.declared.Reason.the-variants.{TooLong, NoRoom, NotSame}
 use Rattle.rules.specs.declared.Refusal.{Refusal}
 use Rattle.rules.specs.declared.Seal.the-variants as seal
 use Rattle.rules.proofs.Inverse.{refuses-says, none-some, need-inv}
+use Rattle.rules.proofs.Texts.{sets-append}
 use Rattle.sorted.specs.Ways.{inOrder, weave}
 use Rattle.sorted.proofs.Pairs.{weave-is}
 use Rattle.notes.specs.Notes.{notAfter, joined, commonPart, notesIn, isSame}
@@ -34,7 +35,6 @@ use Rattle.notes.proofs.Places.{whole}
 use Rattle.common.proofs.Common.{front-is, front-inside, same-is}
 use Rattle.common.proofs.Accepted.{copy}
 use Rattle.weave.specs.Weave.{all, wovenSaid, outWoven, NotesWoven}
-use Rattle.weave.proofs.Reading.{sets-append}
 use Rattle.weave.specs.declared.Woven.{Woven}
 use Rattle.weave.specs.declared.Woven.the-variants as woven
 use Rattle.merge.specs.Merge.{StrictlyAccepted, mergeTold, FilesMerged}

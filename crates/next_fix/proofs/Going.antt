@@ -1,26 +1,26 @@
 -- Lines passed one after the other up to a B line: from each place on the lines that are left lead to the same, and the counts stay small. Assumes nothing.
 use Prim.Native.Nat.{ℕ, _+_, _-_, _≤_, _<_}
 use Prim.Native.Char.{code}
-use mathlib.Core.Bool.{Bool, true, false, cond}
+use mathlib.Core.Bool.{false}
 use mathlib.Core.List.{List, [], _∷_, _++_}
 use mathlib.Core.Option.{Option, none, some}
-use mathlib.Core.Path.{_≡_, refl, sym, _∙_, ap}
+use mathlib.Core.Path.{_≡_, refl, sym, _∙_}
 use native.Mathlib.Omega.{arith}
 use borrow.Author.Tests.{eq-eqb, ne-eqb}
 use lib.Dec.{eqb}
-use lib.ListN.{length, getD, take, drop, length-drop, drop-of-length-le}
+use lib.ListN.{length, getD, drop, length-drop, drop-of-length-le}
 use lib.Seq.{getD-drop, length-take-le}
 use Rattle.rules.specs.Choice.{part}
 use Rattle.rules.specs.Order.{Passing, onward, nextDay, back, passing}
 use Rattle.rules.specs.Split.{Lines, end, broken, line, linesOf}
 use Rattle.rules.specs.Walk.{Walk, timeOn, dayAfter, walkedBy}
 use Rattle.laws.proofs.Splitting.{cut}
-use Rattle.cut.specs.Steps.{endedAt}
+use Rattle.cut.specs.Ends.{endedAt}
 use Rattle.cut.specs.declared.scan.Ended.the-variants as ended
 use Rattle.cut.proofs.Cuts.{torn}
 use Rattle.cut.proofs.Cuts as cuts
 use Rattle.next_fix.specs.Steps.{walkOf, behind, skipped, Few, Spare}
-use Rattle.next_fix.specs.declared.Progress.{Progress}
+use Rattle.records.specs.declared.Progress.{Progress}
 
 -- ---- one line more
 
@@ -29,9 +29,9 @@ day-more onward day = omega arith
 day-more nextDay day = omega arith
 day-more back day = omega arith
 
-one-line : (o : Option ℕ) (w : Walk) → walkedBy o w .lines ≡ w .lines + 1
-one-line none w = refl
-one-line (some t) w = refl
+pub walk-lines : (o : Option ℕ) (w : Walk) → walkedBy o w .lines ≡ w .lines + 1
+walk-lines none w = refl
+walk-lines (some t) w = refl
 
 one-day : (o : Option ℕ) (w : Walk) → walkedBy o w .day ≤ w .day + 1
 one-day none w = omega arith
@@ -115,7 +115,7 @@ module _ (f : List ℕ) (p₀ : Progress) where
             seen = e + 2;
             below = omega arith;
             inside = c .fits;
-            lines = omega (arith, one-line (timeOn text) (walkOf p), w .lines, w .below, c .start);
+            lines = omega (arith, walk-lines (timeOn text) (walkOf p), w .lines, w .below, c .start);
             day = omega (arith, one-day (timeOn text) (walkOf p), w .day, w .below, c .start);
             is = next-is;
           })

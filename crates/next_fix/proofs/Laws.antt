@@ -32,11 +32,11 @@ use Rattle.rules.specs.declared.Role.the-variants as role
 use Rattle.rules.specs.declared.Time.{Time}
 use Rattle.rules.specs.declared.Time.the-variants as times
 use Rattle.finer.specs.Within.{fixWithin}
-use Rattle.next_fix.specs.Track.{recordOf}
+use Rattle.records.specs.Track.{recordOf}
 use Rattle.next_fix.specs.Steps.{walkOf, behind, skipped, noFix, passedBy, readAt, isFew, Few, stepOf}
-use Rattle.next_fix.specs.declared.FixStep.{FixStep}
-use Rattle.next_fix.specs.declared.Progress.{Progress}
-use Rattle.next_fix.specs.declared.Record.{Record}
+use Rattle.records.specs.declared.FixStep.{FixStep}
+use Rattle.records.specs.declared.Progress.{Progress}
+use Rattle.records.specs.declared.Record.{Record}
 
 -- the places, among the roles, of those that have no time
 abbrev pub untimed : List ℕ

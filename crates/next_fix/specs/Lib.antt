@@ -1,3 +1,2 @@
--- The track of a file, and a step from fix to fix.
-pub mod Track
+-- A step from fix to fix.
 pub mod Steps

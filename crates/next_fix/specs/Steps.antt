@@ -4,23 +4,21 @@ use Prim.Native.Nat.{ℕ, _+_, _≤_, _<_}
 use Prim.Native.Char.{code}
 use mathlib.Core.Bool.{Bool, _&&_, cond}
 use mathlib.Core.List.{List}
-use mathlib.Core.Option.{Option, none, some}
+use mathlib.Core.Option.{Option, some}
 use mathlib.Core.Path.{_≡_}
 use lib.Dec.{eqb, leb}
-use lib.IntN.{pos}
 use lib.ListN.{length, getD, drop}
 use Rattle.rules.specs.Choice.{need, on, part}
 use Rattle.rules.specs.Lines.{fixFields}
 use Rattle.rules.specs.Refusals.{Said, says, refuses}
 use Rattle.rules.specs.Split.{Lines, end, broken, line, linesOf}
 use Rattle.rules.specs.Walk.{Walk, timeOn, walkedBy}
-use Rattle.rules.specs.declared.Fix.{Fix}
 use Rattle.rules.specs.declared.FixFields.{FixFields}
 use Rattle.finer.specs.Within.{fixWithin}
-use Rattle.next_fix.specs.Track.{recordOf}
-use Rattle.next_fix.specs.declared.Record.{Record}
-use Rattle.next_fix.specs.declared.Progress.{Progress}
-use Rattle.next_fix.specs.declared.FixStep.{FixStep}
+use Rattle.records.specs.Track.{recordOf, zeroRecord}
+use Rattle.records.specs.declared.Record.{Record}
+use Rattle.records.specs.declared.Progress.{Progress}
+use Rattle.records.specs.declared.FixStep.{FixStep}
 
 -- the walk of a progress
 abbrev pub walkOf : Progress → Walk
@@ -35,21 +33,6 @@ unfoldable pub skipped : Lines → Progress → Progress
 skipped end p = p
 skipped (broken n) p = p
 skipped (line t ls) p = cond (eqb (getD t 0 0) (code "B")) p (skipped ls (behind (timeOn t) p (p .at + length t + 2)))
-
--- all zero
-abbrev pub zeroRecord : Record
-zeroRecord = record {
-  line = 0;
-  day = 0;
-  fix = record {
-    time = record { count = 0; decimals = 0 };
-    lat = record { count = 0; letter = 0; decimals = 0 };
-    lon = record { count = 0; letter = 0; decimals = 0 };
-    validity = 0;
-    pressure = record { metres = pos 0 };
-    gnss = record { metres = pos 0 };
-  };
-}
 
 abbrev pub noFix : Progress → FixStep
 noFix p = record { found = zeroRecord; next = p }

@@ -8,43 +8,20 @@ ghost use Rattle.rules.specs.Order.{passing};
 ghost use Rattle.rules.specs.Roles.{isTimed};
 ghost use Rattle.rules.specs.Split.{linesOf};
 ghost use Rattle.rules.specs.Walk.{timeOn, dayAfter};
-ghost use Rattle.next_fix.specs.Track.{recordOf};
+ghost use Rattle.records.specs.Track.{recordOf};
 ghost use Rattle.next_fix.specs.Steps.{walkOf, behind, skipped, isFew, Few, Spare, noFix, passedBy, readAt, FixStepped};
 use cut::Ended;
+use records::FixStep;
+use records::Progress;
+use records::Record;
 use rules::FinePosition;
 use rules::FineTime;
-use rules::Finer;
 use rules::Fix;
 use rules::FixFields;
 use rules::FixFieldsRead;
 use rules::Height;
 use rules::Role;
 use rules::Time;
-
-// A fix of the track: the number of its line, its day counted from 0, and what its reading gives.
-#[repr(C)]
-pub struct Record {
-    pub line: u32,
-    pub day: u32,
-    pub fix: Fix,
-}
-
-// How far the reading of a file's fixes has come: the place, how many lines are passed, the last time, the day; and how many bytes a B line of the file has, and where its columns of
-// finer digits stand.
-pub struct Progress {
-    pub at: usize,
-    pub lines: u32,
-    pub clock: u32,
-    pub day: u32,
-    pub size: usize,
-    pub finer: Finer,
-}
-
-// The fix that was found, and how far the reading has come with it.
-pub struct FixStep {
-    pub found: Record,
-    pub next: Progress,
-}
 
 // Whether a line of this role runs in time order.
 fn is_timed(r: Role) -> bool
@@ -62,7 +39,7 @@ fn is_timed(r: Role) -> bool
 fn time_on(line: &[u8]) -> Time
     ensures { λ r. ⌜ timeTold r ≡ timeOn (now (line .entry)) ⌝ }
 {
-    let role = order::role_of(line::kind_of(chars::byte(line, 0)));
+    let role = order::role_of(kind::kind_of(chars::byte(line, 0)));
     if !is_timed(role) {
         return Time::NoTime;
     }

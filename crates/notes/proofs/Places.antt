@@ -10,9 +10,10 @@ use lib.Dec.{leb, eqb}
 use lib.ListN.{length, drop, length-append, length-drop}
 use lib.Seq.{drop-drop, drop-length}
 use Rattle.rules.specs.Choice.{Each}
+use Rattle.rules.proofs.Inverse.{by-bool}
 use Rattle.sorted.specs.Sorted.{Total, hit, count, Above, Sorted}
 use Rattle.sorted.specs.Ways.{insert, into, inOrder, after, rest}
-use Rattle.sorted.proofs.Sorting.{by, split, clash, hit-is, hit-le-one, unique, into-count, into-sorted}
+use Rattle.sorted.proofs.Sorting.{by, clash, hit-is, hit-le-one, unique, into-count, into-sorted}
 use Rattle.notes.specs.Notes.{notAfter, joined}
 use Rattle.notes.specs.Places.{upToCR, Plain, Note, textAt, earlier, starts, inside, skip}
 use Rattle.notes.proofs.Texts.{text-total, text-trans, texts}
@@ -33,7 +34,7 @@ module _ (s : List ℕ) where
 
   place-inv : (i j : ℕ) → earlier s i j ≡ true → ((i ≤ j) × (low i j ≡ true)) ⊎ ((j < i) × (low j i ≡ false))
   place-inv i j e =
-      split (leb i j)
+      by-bool (leb i j)
       (λ f. let h = leb-true i j f in inl (h, sym (earlier-up i j h) ∙ e))
       (λ f. let h = leb-false i j f in inr (h, not-true (low j i) (sym (earlier-down i j h) ∙ e)))
 
@@ -47,8 +48,8 @@ module _ (s : List ℕ) where
 
   place-total : (i j : ℕ) → earlier s i j ≡ false → earlier s j i ≡ true
   place-total i j e =
-      split (leb i j)
-      (λ f. split (leb j i)
+      by-bool (leb i j)
+      (λ f. by-bool (leb j i)
       (λ g. let d : i ≡ j = omega (arith, leb-true i j f, leb-true j i g) in
       let k : low i j ≡ false = sym (earlier-up i j (leb-true i j f)) ∙ e in earlier-up j i (leb-true j i g) ∙ text-total (textAt s i) (textAt s j) k)
       (λ g. let k : low i j ≡ false = sym (earlier-up i j (leb-true i j f)) ∙ e in earlier-down j i (leb-false j i g) ∙ ap not k))
@@ -58,8 +59,8 @@ module _ (s : List ℕ) where
   tr i j k = text-trans (textAt s i) (textAt s j) (textAt s k)
 
   place-trans : (i j k : ℕ) → earlier s i j ≡ true → earlier s j k ≡ true → earlier s i k ≡ true
-  place-trans i j k e f = split (leb i k) (λ g. earlier-up i k (leb-true i k g) ∙ tr i j k (earlier-text i j e) (earlier-text j k f)) (λ g.
-      earlier-down i k (leb-false i k g) ∙ ap not (split (low k i) (λ h. go h (leb-false i k g) (place-inv i j e) (place-inv j k f)) (λ h. h)))
+  place-trans i j k e f = by-bool (leb i k) (λ g. earlier-up i k (leb-true i k g) ∙ tr i j k (earlier-text i j e) (earlier-text j k f)) (λ g.
+      earlier-down i k (leb-false i k g) ∙ ap not (by-bool (low k i) (λ h. go h (leb-false i k g) (place-inv i j e) (place-inv j k f)) (λ h. h)))
     where
       go : low k i ≡ true → k < i → ((i ≤ j) × (low i j ≡ true)) ⊎ ((j < i) × (low j i ≡ false)) → ((j ≤ k) × (low j k ≡ true)) ⊎ ((k < j) × (low k j ≡ false)) → low k i ≡ false
       go h g (inl p) (inl q) = absurd (omega (arith, p .0, q .0))
@@ -191,15 +192,12 @@ cut-at s t r i p e = rw e (cut-text t r p)
 cut-next : (s t r : List ℕ) (i j : ℕ) → drop i s ≡ t ++ 13 ∷ 10 ∷ r → i + (length t + 2) ≡ j → drop j s ≡ r
 cut-next s t r i j e h = rw (← h, ← drop-drop (length t + 2) i s, e) (drop-append t r)
 
-cut-inside : (s t r : List ℕ) (i : ℕ) → drop i s ≡ t ++ 13 ∷ 10 ∷ r → i + length t + 2 ≤ length s
-cut-inside s t r i e = omega (arith, length-drop i s, ap length e, length-append t (13 ∷ 10 ∷ r))
-
 cut-more : (s : List ℕ) (b : ℕ) (t r : List ℕ) (ts : List (List ℕ)) (i : ℕ) → Plain (b ∷ t) → drop i s ≡ b ∷ t ++ 13 ∷ 10 ∷ r → Cut s ts (starts (suc i + length t + 2) r)
     → Cut s ((b ∷ t) ∷ ts) (i ∷ inside (suc i) (t ++ 13 ∷ 10 ∷ r))
 cut-more s b t r ts i p e m =
     let a : textAt s i ≡ b ∷ t = cut-at s (b ∷ t) (10 ∷ r) i p e in
     rw (inside-plain t r (suc i) (p .1))
-    (record { texts-are = rw a (ap (λ (l : List (List ℕ)). (b ∷ t) ∷ l) (m .texts-are)); filled = (omega (arith, cut-inside s (b ∷ t) r i e), rw a, m .filled) })
+    (record { texts-are = rw a (ap (λ (l : List (List ℕ)). (b ∷ t) ∷ l) (m .texts-are)); filled = (omega (arith, length-drop i s, ap length e, length-append (b ∷ t) (13 ∷ 10 ∷ r)), rw a, m .filled) })
 
 cut-from : (s : List ℕ) (ts : List (List ℕ)) (i : ℕ) → Each Note ts → drop i s ≡ joined ts → Cut s ts (starts i (joined ts))
 cut-from s [] i g e = record { texts-are = refl; filled = tt }

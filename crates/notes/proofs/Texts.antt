@@ -7,22 +7,23 @@ use mathlib.Core.Path.{_≡_, refl}
 use native.Mathlib.Omega.{arith}
 use borrow.Author.Tests.{lt-ltb, le-ltb, ltb-true, ltb-false}
 use lib.Dec.{ltb}
+use Rattle.rules.proofs.Inverse.{by-bool}
 use Rattle.sorted.specs.Sorted.{Total}
-use Rattle.sorted.proofs.Sorting.{split, clash}
+use Rattle.sorted.proofs.Sorting.{clash}
 use Rattle.notes.specs.Notes.{notAfter}
 
 pub text-total : (x y : List ℕ) → notAfter x y ≡ false → notAfter y x ≡ true
 text-total [] y e = clash refl e
 text-total (a ∷ x) [] e = refl
 text-total (a ∷ x) (b ∷ y) e =
-    split (ltb a b) (λ f. clash refl (rw f at e)) (λ f.
-    split (ltb b a) (λ g. rw g) (λ g. rw (g, f) (text-total x y (rw (f, g) at e))))
+    by-bool (ltb a b) (λ f. clash refl (rw f at e)) (λ f.
+    by-bool (ltb b a) (λ g. rw g) (λ g. rw (g, f) (text-total x y (rw (f, g) at e))))
 
 -- how a text does not come after another
 text-inv : (a b : ℕ) (x y : List ℕ) → notAfter (a ∷ x) (b ∷ y) ≡ true → (a < b) ⊎ ((a ≡ b) × (notAfter x y ≡ true))
 text-inv a b x y e =
-    split (ltb a b) (λ f. inl (ltb-true a b f)) (λ f.
-    split (ltb b a) (λ g. clash (rw (f, g) at e) refl) (λ g. inr (omega (arith, ltb-false a b f, ltb-false b a g), rw (f, g) at e)))
+    by-bool (ltb a b) (λ f. inl (ltb-true a b f)) (λ f.
+    by-bool (ltb b a) (λ g. clash (rw (f, g) at e) refl) (λ g. inr (omega (arith, ltb-false a b f, ltb-false b a g), rw (f, g) at e)))
 
 text-less : (a b : ℕ) (x y : List ℕ) → a < b → notAfter (a ∷ x) (b ∷ y) ≡ true
 text-less a b x y h = rw (lt-ltb a b h)

@@ -60,7 +60,7 @@ whole-empty (b ∷ t) h = let z : ⊥ = omega arith in search
 
 -- ---- what was read has its digits, and is below the power of ten that they allow
 
-cond-some : (t : Bool) (a : Option ℕ) (w : ℕ) → cond t a none ≡ some w → (t ≡ true) × (a ≡ some w)
+pub cond-some : (t : Bool) (a : Option ℕ) (w : ℕ) → cond t a none ≡ some w → (t ≡ true) × (a ≡ some w)
 cond-some true a w e = (refl, e)
 cond-some false a w e = (cc, cc)
 

@@ -32,8 +32,6 @@ use Rattle.rules.specs.declared.NumberRead.the-variants as numberRead
 use Rattle.rules.specs.declared.FixFieldsRead.the-variants as fixFieldsRead
 use Rattle.rules.specs.declared.FixRead.the-variants as fixRead
 use Rattle.rules.specs.declared.TimeRead.the-variants as timeRead
-use Rattle.rules.specs.declared.FixReading.{FixReading}
-use Rattle.rules.specs.declared.ExtraReading.{ExtraReading}
 use Rattle.rules.specs.declared.Fix.{Fix}
 use Rattle.rules.specs.declared.DateRead.the-variants as dateRead
 use Rattle.rules.specs.declared.HeadRead.the-variants as headRead

@@ -11,8 +11,10 @@ use Rattle.rules.specs.Listing.{decimal, decimalIn}
 use Rattle.rules.specs.declared.Date.{Date}
 use Rattle.tens.specs.Tens.{fewOf}
 use Rattle.dates.specs.Dates.{twoDigits, dateShown}
-use Rattle.trail.specs.Trail.{colons, behindDot, shownSeconds, unitsOf, withDecimals, shownDegrees}
-use Rattle.outline.specs.Outline.{dayShown, whenShown, lasting, lastingShown, pointShown, timesShown, heightsShown, flightShown, latitudesShown, longitudesShown, boxShown, outlineShown}
+use Rattle.decimals.specs.Decimals.{colons, behindDot, shownSeconds, unitsOf, withDecimals, shownDegrees}
+use Rattle.twelve.specs.Twelve.{lasting}
+use Rattle.boxed.specs.Boxed.{pointShown, latitudesShown, longitudesShown, boxShown}
+use Rattle.outline.specs.Outline.{dayShown, whenShown, lastingShown, timesShown, heightsShown, flightShown, outlineShown}
 
 -- to unfold this is to unfold all that is computed here
 unfoldable everything : Unit {0}

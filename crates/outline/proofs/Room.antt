@@ -14,9 +14,11 @@ use Rattle.dates.specs.Dates.{twoDigits, dateShown}
 use Rattle.pieces.specs.Buffer.{Shown}
 use Rattle.pieces.proofs.Laws.{number-room, whole}
 use Rattle.show.proofs.Laws.{metres-room}
-use Rattle.trail.specs.Trail.{shownSeconds}
-use Rattle.trail.proofs.Room.{clock-length, degrees-room}
-use Rattle.outline.specs.Outline.{fixes, firstDay, firstSeconds, lastDay, lastSeconds, highest, lowest, hasPosition, leastLatitude, greatestLatitude, leastLongitude, greatestLongitude, dayShown, whenShown, lasting, lastingShown, pointOf, pointShown, timesShown, heightsShown, flightShown, latitudesShown, longitudesShown, boxShown, outlineShown, OutlinePut}
+use Rattle.decimals.specs.Decimals.{shownSeconds}
+use Rattle.decimals.proofs.Room.{clock-length}
+use Rattle.twelve.specs.Twelve.{fixes, firstDay, firstSeconds, lastDay, lastSeconds, lasting, highest, lowest}
+use Rattle.boxed.proofs.Room.{box-room}
+use Rattle.outline.specs.Outline.{dayShown, whenShown, lastingShown, timesShown, heightsShown, flightShown, outlineShown, OutlinePut}
 
 date-room : (d : Date) → length (dateShown d) ≤ 26
 unfolding dateShown twoDigits
@@ -57,22 +59,6 @@ module _ (l : List ℤ) where
       by : (t : Bool) → length (cond t (bytes " - - - - -") (timesShown l ++ heightsShown l)) ≤ 131
       by true = omega arith
       by false = simp length-append (omega (arith, times-room, heights-room))
-
-  latitudes-room : length (latitudesShown l) ≤ 66
-  unfolding latitudesShown pointShown
-  latitudes-room = simp length-append (omega (arith, degrees-room (pointOf (leastLatitude l)), degrees-room (pointOf (greatestLatitude l))))
-
-  longitudes-room : length (longitudesShown l) ≤ 66
-  unfolding longitudesShown pointShown
-  longitudes-room = simp length-append (omega (arith, degrees-room (pointOf (leastLongitude l)), degrees-room (pointOf (greatestLongitude l))))
-
-  box-room : length (boxShown l) ≤ 132
-  unfolding boxShown bytes
-  box-room = by (eqb (natAbs (hasPosition l)) 0)
-    where
-      by : (t : Bool) → length (cond t (bytes " - - - -") (latitudesShown l ++ longitudesShown l)) ≤ 132
-      by true = omega arith
-      by false = simp length-append (omega (arith, latitudes-room, longitudes-room))
 
 pub outline-room : (d : Date) (l : List ℤ) → length (outlineShown d l) ≤ 320
 unfolding outlineShown

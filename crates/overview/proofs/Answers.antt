@@ -26,19 +26,19 @@ use Rattle.demands.specs.Faults.{Refused}
 use Rattle.demands.specs.Grammar.{Meets, flightOf, linesIn, beginning}
 use Rattle.demands.proofs.Demands.{refused-first}
 use Rattle.demands.proofs.Reading.{lines-are}
-use Rattle.evening.proofs.NeverFull.{check-never-full}
-use Rattle.next_fix.specs.Steps.{zeroRecord}
-use Rattle.next_fix.specs.Track.{trackSeal, trackOf}
-use Rattle.next_fix.specs.declared.Record.{Record}
+use Rattle.untabled.proofs.NeverFull.{check-never-full}
+use Rattle.records.specs.Track.{zeroRecord}
+use Rattle.records.specs.Track.{trackSeal, trackOf}
 use Rattle.track.proofs.Tracking.{counted-all}
 use Rattle.mapped.specs.Mapped.{BLines, IsRecord}
 use Rattle.mapped.proofs.Answers.{met, meets-so}
 use Rattle.mapped.proofs.Days.{walked-first}
 use Rattle.mapped.proofs.Records.{record-at}
 use Rattle.mapped.proofs.Whole.{all-good}
-use Rattle.summary.specs.Summaries.{summedTold, countSaid, FileSummed}
-use Rattle.summary.specs.Summary.{runsOf, runAt, sizeOf, updated, fixesIn, flightSummed, summarySaid, updatedBy}
-use Rattle.summary.specs.declared.Summed.{Summed}
+use Rattle.reckon.specs.Reckoned.{summedTold, countSaid}
+use Rattle.summary.specs.Summaries.{FileSummed}
+use Rattle.reckon.specs.Summary.{runsOf, runAt, sizeOf, updated, fixesIn, flightSummed, summarySaid, updatedBy}
+use Rattle.reckon.specs.declared.Summed.{Summed}
 use Rattle.summary.proofs.Summing.{said-accepted}
 use Rattle.overview.specs.Overview.{Exceeds, Short, Tells, Summarises}
 use Rattle.overview.proofs.Numbers.{tells-told}

@@ -1,6 +1,6 @@
 -- An update of a flight whose earlier runs are in the list already gives the list that is made afresh. Assumes nothing.
 use Prim.Native.Nat.{ℕ, zero, suc, _+_, _*_, _-_, _/_, _≤_}
-use mathlib.Core.List.{List, [], _∷_, _++_, append-assoc}
+use mathlib.Core.List.{List, [], _++_, append-assoc}
 use mathlib.Core.Option.{none}
 use mathlib.Core.Path.{_≡_, refl, sym, ap, subst, _∙_}
 use native.Mathlib.Omega.{arith}
@@ -16,16 +16,17 @@ use Rattle.rules.specs.declared.Flight.{Flight}
 use Rattle.laws.proofs.Splitting.{textsOf}
 use Rattle.demands.specs.Grammar.{Meets, flightOf, linesIn}
 use Rattle.demands.proofs.Reading.{lines-are}
-use Rattle.next_fix.specs.Track.{trackSeal, trackOf}
-use Rattle.next_fix.specs.declared.Record.{Record}
+use Rattle.records.specs.Track.{trackSeal, trackOf}
+use Rattle.records.specs.declared.Record.{Record}
 use Rattle.track.proofs.Tracking.{counted-all}
 use Rattle.mapped.specs.Mapped.{BLines}
 use Rattle.mapped.proofs.Answers.{meets-so}
-use Rattle.summary.specs.Summaries.{summedTold, FileSummed}
-use Rattle.summary.specs.Summary.{told, runsOf, toldRuns, sizeOf, updated, fixesIn, flightSummed, updatedBy}
-use Rattle.summary.specs.declared.Summed.{Summed}
+use Rattle.reckon.specs.Reckoned.{summedTold}
+use Rattle.summary.specs.Summaries.{FileSummed}
+use Rattle.reckon.specs.Summary.{told, runsOf, toldRuns, sizeOf, updated, fixesIn, flightSummed, updatedBy}
+use Rattle.reckon.specs.declared.Summed.{Summed}
 use Rattle.summary.proofs.Filling.{length-told, length-runs}
-use Rattle.summary.proofs.Only.{summed-one}
+use Rattle.reckon.proofs.Only.{summed-one}
 use Rattle.overview.specs.Overview.{Grown, Kept}
 use Rattle.overview.proofs.Answers.{summed-accepted}
 use Rattle.overview.proofs.Answers as answers

@@ -25,8 +25,8 @@ use Rattle.laws.proofs.Splitting.{textsOf}
 use Rattle.demands.specs.Coming.{isAmong, IsTimed, those, firstEntries, entriesTold}
 use Rattle.demands.specs.Grammar.{laid}
 use Rattle.demands.proofs.Standing.{Stands, stands-start, stands-next, laid-out}
-use Rattle.next_fix.specs.Track.{recordsOf, trackFrom, trackOf}
-use Rattle.next_fix.specs.declared.Record.{Record}
+use Rattle.records.specs.Track.{recordsOf, trackFrom, trackOf}
+use Rattle.records.specs.declared.Record.{Record}
 use Rattle.track.proofs.Stepping.{other-said}
 use Rattle.overview.specs.Overview.{PutIn, done, put, kept, Grown}
 

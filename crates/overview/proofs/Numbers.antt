@@ -8,11 +8,11 @@ use lib.ListN.{length, take, drop, replicate, length-append, length-drop}
 use lib.Seq.{take-at, drop-at, drop-drop, length-take-le, getD-drop, ext-getD}
 use Rattle.rules.specs.Choice.{part}
 use Rattle.rules.specs.Fixes.{plain, plainLat, plainLon}
-use Rattle.next_fix.specs.declared.Record.{Record}
+use Rattle.records.specs.declared.Record.{Record}
 use Rattle.spans.specs.Extremes.{above, below, greatest, least}
 use Rattle.spans.proofs.Outmost.{upwards, downwards, outmost-is, outmost-only}
 use Rattle.spots.specs.Spots.{signedCount}
-use Rattle.summary.specs.Summary.{heights, marked, latitudes, longitudes, oneIfAny, told, runsOf, runAt, toldRuns, sizeOf, updated}
+use Rattle.reckon.specs.Summary.{heights, marked, latitudes, longitudes, oneIfAny, told, runsOf, runAt, toldRuns, sizeOf, updated}
 use Rattle.summary.proofs.Filling.{length-told, length-runs}
 use Rattle.overview.specs.Overview.{nth, AreEnds, Tells}
 

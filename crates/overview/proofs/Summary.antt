@@ -13,12 +13,13 @@ use lib.ListN.{length}
 use Rattle.rules.specs.Refusals.{says, refuses}
 use Rattle.demands.specs.Faults.{Refused}
 use Rattle.demands.specs.Grammar.{Meets, linesIn}
-use Rattle.next_fix.specs.Track.{trackSeal}
-use Rattle.next_fix.specs.declared.Record.{Record}
+use Rattle.records.specs.Track.{trackSeal}
+use Rattle.records.specs.declared.Record.{Record}
 use Rattle.mapped.specs.Mapped.{BLines}
-use Rattle.summary.specs.Summaries.{summedTold, FileSummed}
-use Rattle.summary.specs.Summary.{told, runsOf, sizeOf}
-use Rattle.summary.specs.declared.Summed.{Summed}
+use Rattle.reckon.specs.Reckoned.{summedTold}
+use Rattle.summary.specs.Summaries.{FileSummed}
+use Rattle.reckon.specs.Summary.{told, runsOf, sizeOf}
+use Rattle.reckon.specs.declared.Summed.{Summed}
 use Rattle.overview.specs.Overview.{Exceeds, Short, Tells, Summarises, Grown, Kept}
 use Rattle.overview.proofs.Answers as answers
 use Rattle.overview.proofs.Fresh as fresh

@@ -16,10 +16,10 @@ use Rattle.rules.specs.Refusals.{says, refuses}
 use Rattle.rules.proofs.Computed.{everything, fileOf}
 use Rattle.rules.proofs.Inverse.{false-true}
 use Rattle.demands.specs.Coming.{isAmong, those}
-use Rattle.next_fix.specs.Track.{trackFrom}
-use Rattle.next_fix.specs.declared.Record.{Record}
+use Rattle.records.specs.Track.{trackFrom}
+use Rattle.records.specs.declared.Record.{Record}
 use Rattle.spots.specs.Spots.{signedCount}
-use Rattle.summary.specs.Summary.{told, toldRuns, updated, flightSummed, summarySaid, summaryAfter}
+use Rattle.reckon.specs.Summary.{told, toldRuns, updated, flightSummed, summarySaid, summaryAfter}
 use Rattle.overview.specs.Overview.{nth, PutIn, done, put, kept, Grown}
 use Rattle.overview.proofs.Growing.{those-append, no-fix}
 

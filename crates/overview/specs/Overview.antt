@@ -1,5 +1,5 @@
 -- Document 02, 'A summary beside each flight': the words of what is demanded of a summary, said over the fixes and the lines of the file.
-use Prim.Native.Nat.{ℕ, _+_, _*_, _-_, _/_, _≤_, _<_}
+use Prim.Native.Nat.{ℕ, _+_, _-_, _/_, _≤_, _<_}
 use Prim.Native.Char.{code}
 use mathlib.Core.List.{List, [], _∷_, _++_}
 use mathlib.Core.Path.{_≡_}
@@ -10,14 +10,15 @@ use Rattle.rules.specs.Fixes.{plainTime}
 use Rattle.rules.specs.Refusals.{says}
 use Rattle.demands.specs.Coming.{IsTimed}
 use Rattle.demands.specs.Grammar.{Meets, linesIn}
-use Rattle.next_fix.specs.Steps.{zeroRecord}
-use Rattle.next_fix.specs.Track.{trackSeal}
-use Rattle.next_fix.specs.declared.Record.{Record}
+use Rattle.records.specs.Track.{zeroRecord}
+use Rattle.records.specs.Track.{trackSeal}
+use Rattle.records.specs.declared.Record.{Record}
 use Rattle.mapped.specs.Mapped.{BLines, IsRecord}
 use Rattle.spans.specs.Extremes.{Outmost, above, below}
-use Rattle.summary.specs.Summary.{heights, marked, latitudes, longitudes, runsOf, runAt, sizeOf}
-use Rattle.summary.specs.Summaries.{summedTold, FileSummed}
-use Rattle.summary.specs.declared.Summed.{Summed}
+use Rattle.reckon.specs.Summary.{heights, marked, latitudes, longitudes, runsOf, runAt, sizeOf}
+use Rattle.reckon.specs.Reckoned.{summedTold}
+use Rattle.summary.specs.Summaries.{FileSummed}
+use Rattle.reckon.specs.declared.Summed.{Summed}
 
 -- ---- the answer
 

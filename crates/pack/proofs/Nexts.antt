@@ -14,7 +14,7 @@ use Rattle.rules.specs.declared.Found.the-variants as found
 use Rattle.rules.specs.declared.Outcome.the-variants as outcome
 use Rattle.rules.specs.declared.Reason.the-variants as reason
 use Rattle.rules.specs.declared.Refusal.{Refusal}
-use Rattle.cut.specs.Steps.{unplaced}
+use Rattle.cut.specs.Ends.{unplaced}
 use Rattle.cut.proofs.Places.{refuses-unplaced}
 use Rattle.shelved.specs.Contents.{wordBytes, startOf, sizeOf, slotOf, bodyOf, sound}
 use Rattle.shelved.specs.Moves.{NextOf, movedTo}
@@ -23,7 +23,7 @@ use Rattle.shelved.specs.declared.Slot.{Slot}
 use Rattle.shelved.proofs.Tests.{by-eq, not-not, not-so}
 use Rattle.shelved.proofs.Sounds.{sound-read}
 use Rattle.shelved.proofs.Mids.{Mid, mid-move, mid-last, move-order, move-inside, next-bytes, next-size}
-use Rattle.slot.specs.Entries.{movedDown}
+use Rattle.stow.specs.Stow.{movedDown}
 use Rattle.pack.specs.Pack.{ShelfPacked}
 
 -- ---- the numbers of an entry that was read

@@ -7,11 +7,12 @@ use native.Mathlib.Omega.{arith}
 use lib.ListN.{getD, drop}
 use lib.Seq.{getD-take, getD-drop, ext-getD}
 use Rattle.rules.specs.Refusals.{says}
+use Rattle.rules.proofs.Inverse.{by-bool}
 use Rattle.only.proofs.Told.{outcome-one}
 use Rattle.only.proofs.Only.{OnlyBoth, alike}
 use Rattle.shelved.specs.Contents.{numberOf, sizeOf, sound}
 use Rattle.shelved.specs.Packing.{packSaid, packedStart, Untouched, Packed, PackedOrSame}
-use Rattle.shelved.proofs.Tests.{by-bool, by-eq}
+use Rattle.shelved.proofs.Tests.{by-eq}
 use Rattle.shelved.proofs.Bytes.{run}
 use Rattle.shelved.proofs.Packing.{by-outside}
 use Rattle.pack.specs.Pack.{ShelfPacked}

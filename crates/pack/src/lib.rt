@@ -51,8 +51,8 @@ fn move_to(shelf: &mut [u8], n: usize, at: usize) -> Slot
     ensures { λ r. ⌜ (r ≡ slotOf (now (shelf .entry)) n) × (now (shelf .exit) ≡ movedTo (now (shelf .entry)) n at) ⌝ }
 {
     let s = slot::slot_at(shelf, n);
-    slot::move_down(shelf, at, s.start as usize, s.size as usize);
-    slot::put_word(shelf, 12 * n + 4, at as u32);
+    stow::move_down(shelf, at, s.start as usize, s.size as usize);
+    stow::put_word(shelf, 12 * n + 4, at as u32);
     s
 }
 

@@ -3,7 +3,7 @@ use Prim.Native.Nat.{ℕ, zero, suc, _+_, _-_, _/_, _%_, _^_, _≤_, _<_}
 use mathlib.Core.Bool.{Bool, true, false, cond}
 use mathlib.Core.List.{List, [], _∷_, _++_}
 use mathlib.Core.Path.{_≡_, _∙_, ap, ap₂}
-use native.Mathlib.Nat.{add-zero, zero-add, div-lt-iff-lt-mul, pow-suc}
+use native.Mathlib.Nat.{zero-add, div-lt-iff-lt-mul, pow-suc}
 use native.Mathlib.Numerals.{add-one}
 use native.Mathlib.Omega.{arith}
 use borrow.Author.Tests.{lt-ltb, le-ltb}
@@ -11,15 +11,10 @@ use lib.Dec.{ltb, lit<}
 use lib.ListN.{length, take, drop, set, length-append, length-take, length-drop, length-set}
 use lib.Seq.{sets, length-sets, sets-eq, set-split, drop-at, length-take-le, take-all, take-nil, append-snoc}
 use Rattle.rules.specs.Listing.{decimalIn, decimal, shown, shownLetter}
+use Rattle.rules.proofs.Texts.{sets-append}
 use Rattle.pieces.specs.Buffer.{Shown, PiecePut}
 
 -- ---- pieces
-
-sets-append : (l : List ℕ) (at : ℕ) (a b : List ℕ) → sets l at (a ++ b) ≡ sets (sets l at a) (at + length a) b
-sets-append l at [] b = rw add-zero
-sets-append l at (x ∷ a) b =
-    let e : suc at + length a ≡ at + suc (length a) = omega arith in
-    sets-append (set l at x) (suc at) a b ∙ ap (λ (m : ℕ). sets (sets (set l at x) (suc at) a) m b) e
 
 take-both : (n : ℕ) (s t : List ℕ) → take n (s ++ t) ≡ take n s ++ take (n - length s) t
 take-both n [] t =

@@ -1,21 +1,20 @@
 -- A test of every byte, a byte at a time; what is mild is valid in every line, and is text. Assumes nothing.
 use Prim.Native.Nat.{ℕ, suc, _+_, _-_, _≤_, _<_}
-use mathlib.Core.Bool.{Bool, true, false, not, _&&_, _||_}
+use mathlib.Core.Bool.{Bool, true, false, not, _&&_, _||_, and-true}
 use mathlib.Core.List.{List, [], _∷_}
 use mathlib.Core.Option.{none}
 use mathlib.Core.Path.{_≡_, refl, sym, ap, _∙_}
-use native.Mathlib.Numerals.{add-one}
 use native.Mathlib.Omega.{arith}
-use borrow.Author.Tests.{leb-true, le-leb, eq-eqb, ne-eqb, eqb-true, not-true, not-false}
+use borrow.Author.Tests.{leb-true, le-leb, ne-eqb, eqb-true, not-true, not-false}
 use lib.Dec.{eqb, leb}
 use lib.ListN.{length, getD, drop, length-drop}
-use lib.Seq.{drop-cons}
-use Rattle.rules.proofs.Inverse.{and-inv}
+use Rattle.rules.proofs.Inverse.{and-inv, or-inv}
 use Rattle.rules.specs.Choice.{leads, firstOf}
 use Rattle.rules.specs.Chars.{isValid, firstInvalid, isDigit}
 use Rattle.rules.specs.Listed.{isDigits, isZeros}
-use Rattle.chars.proofs.Laws.{joined, told}
+use Rattle.chars.proofs.Laws.{joined, told, byte-is, byte-is-not}
 use Rattle.laws.proofs.Splitting.{Text}
+use Rattle.laws.proofs.LineEnds.{rest}
 use Rattle.plain.specs.Plain.{isPlain, isMild, isZero, every, everyFrom}
 
 -- ---- the loops: what was found so far and what is left decide as the whole does
@@ -24,13 +23,6 @@ swap : (p ok q : Bool) → ((p && ok) && q) ≡ (ok && (p && q))
 swap true ok q = refl
 swap false true q = refl
 swap false false q = refl
-
-and-right : (ok : Bool) → (ok && true) ≡ ok
-and-right true = refl
-and-right false = refl
-
-rest : (f : List ℕ) (i : ℕ) → i < length f → drop i f ≡ getD f i 0 ∷ drop (i + 1) f
-rest f i h = rw add-one (drop-cons f i 0 h)
 
 pub all-first : (test : ℕ → Bool) (s : List ℕ) → (true && everyFrom test 0 s) ≡ every test s
 all-first test s = let n : length s - 0 ≡ length s = omega arith in rw n
@@ -45,7 +37,7 @@ module _ (test : ℕ → Bool) (s : List ℕ) (i : ℕ) (ok whole : Bool) (e : (
 
   pub all-end : length s ≤ i → ok ≡ whole
   unfolding leads
-  all-end h = let n : length s - i ≡ 0 = omega arith in sym (and-right ok) ∙ rw n at e
+  all-end h = let n : length s - i ≡ 0 = omega arith in sym (and-true ok) ∙ rw n at e
 
 -- ---- a text from an offset on
 
@@ -60,13 +52,7 @@ pub zeros-first : (t : List ℕ) → (true && everyFrom isZero 0 t) ≡ isZeros 
 unfolding isZeros
 zeros-first = all-first isZero
 
-pub told-eq : (m n r : ℕ) → r ≡ m → r ≡ n → true ≡ eqb m n
-told-eq m n r e h = sym (eq-eqb m n (sym e ∙ h))
-
-pub told-ne : (m n r : ℕ) → r ≡ m → (r ≡ n → ⊥) → false ≡ eqb m n
-told-ne m n r e h = sym (ne-eqb m n λ z. h (e ∙ z))
-
-pub ruleset signs = (joined, told, not-true, not-false, told-eq, told-ne)
+pub ruleset signs = (joined, told, not-true, not-false, byte-is, byte-is-not)
 
 -- ---- plain bytes are mild, and mild bytes are valid
 
@@ -90,19 +76,14 @@ Range low high b = (low ≤ b) × (b ≤ high)
 
 -- what holds of the space, of the closing bracket and of both ranges holds of a mild byte
 module _ {P : Type 0} where
-  or-by : (x y : Bool) → (x ≡ true → P) → (y ≡ true → P) → (x || y) ≡ true → P
-  or-by true y f g e = f refl
-  or-by false y f g e = g e
-
   mild-by : (b : ℕ) → (b ≡ 32 → P) → (b ≡ 93 → P) → (Range 45 91 b → P) → (Range 95 125 b → P) → isMild b ≡ true → P
   unfolding isMild isPlain
   mild-by b space closing plain small e =
-      or-by _ (leb 95 b && leb b 125)
-      (or-by _ (leb 45 b && leb b 91)
-      (or-by (eqb b 32) (eqb b 93) (λ h. space (eqb-true b 32 h)) (λ h. closing (eqb-true b 93 h)))
+      or-inv _ (leb 95 b && leb b 125) e
+      (λ t. or-inv _ (leb 45 b && leb b 91) t
+      (λ s. or-inv (eqb b 32) (eqb b 93) s (λ h. space (eqb-true b 32 h)) (λ h. closing (eqb-true b 93 h)))
       (λ h. let k = and-inv (leb 45 b) (leb b 91) h in plain (leb-true 45 b (k .0), leb-true b 91 (k .1))))
       (λ h. let k = and-inv (leb 95 b) (leb b 125) h in small (leb-true 95 b (k .0), leb-true b 125 (k .1)))
-      e
 
 valid-between : (b : ℕ) → 45 ≤ b → b ≤ 125 → (b ≡ 92 → ⊥) → (b ≡ 94 → ⊥) → isValid false b ≡ true
 unfolding isValid

@@ -24,7 +24,7 @@ fn fill_point(p: Point, rest: &[u8], out: &mut [u8])
 pub fn point(p: Point, rest: &[u8], out: &mut [u8], place: usize) -> Wrote
     ensures { λ r. ⌜ PointWritten p (now (rest .entry)) place (now (out .entry)) r (now (out .exit)) ⌝ }
 {
-    if !limits::good_point(p, rest) {
+    if !range::good_point(p, rest) {
         return refused(Reason::BadValue);
     }
     let n = 20 + rest.len();

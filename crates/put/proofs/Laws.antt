@@ -1,8 +1,7 @@
--- What is put into an output: bytes one after the other, where they have room; and how many digits are put. Assumes nothing.
-use Prim.Native.Nat.{ℕ, zero, suc, _+_, _-_, _/_, _%_, _≤_, _<_}
+-- What is put into an output: bytes one after the other, where they have room; and digits, the last of them first. Assumes nothing.
+use Prim.Native.Nat.{ℕ, suc, _+_, _-_, _/_, _%_, _≤_, _<_}
 use mathlib.Core.List.{List, [], _∷_, _++_}
 use mathlib.Core.Path.{_≡_, refl, sym, _∙_, ap}
-use native.Mathlib.Nat.{add-zero}
 use native.Mathlib.Numerals.{add-one, sub-one}
 use native.Mathlib.Omega.{arith}
 use borrow.Author.Tests.{le-leb, lt-leb}
@@ -10,21 +9,10 @@ use lib.ListN.{length, getD, drop, set, length-append, drop-of-length-le}
 use lib.Seq.{sets, length-sets, set-comm, drop-cons}
 use Rattle.rules.specs.Numbers.{digitsOf}
 use Rattle.rules.specs.Writes.{putAt}
+use Rattle.rules.proofs.Texts.{digits-length, sets-append}
 use Rattle.put.specs.Puts.{Fills}
 
-pub digits-length : (n v : ℕ) → length (digitsOf n v) ≡ n
-unfolding digitsOf
-digits-length zero v = refl
-digits-length (suc n) v = simp (length-append, digits-length n (v / 10)) (add-one n)
-
 -- ---- bytes put one after the other
-
--- what is put in two goes is put in one
-pub sets-append : (l : List ℕ) (at : ℕ) (a b : List ℕ) → sets l at (a ++ b) ≡ sets (sets l at a) (at + length a) b
-sets-append l at [] b = rw add-zero
-sets-append l at (x ∷ a) b =
-    let e : suc at + length a ≡ at + suc (length a) = omega arith in
-    sets-append (set l at x) (suc at) a b ∙ ap (λ (m : ℕ). sets (sets (set l at x) (suc at) a) m b) e
 
 -- a store past what is put may go first
 pub sets-set : (l : List ℕ) (at : ℕ) (a : List ℕ) (i x : ℕ) → at + length a ≤ i → sets (set l i x) at a ≡ set (sets l at a) i x

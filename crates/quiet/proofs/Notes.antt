@@ -36,14 +36,15 @@ use Rattle.alike.proofs.Filters.{cut-as}
 use Rattle.alike.proofs.Alike.{says-alike, nth-alike, readings-alike, columns-alike}
 use Rattle.evening.specs.Evening.{Makes}
 use Rattle.evening.proofs.Evening.{merged-reads, merged-reads-second}
-use Rattle.next_fix.specs.Track.{trackOf}
-use Rattle.next_fix.specs.declared.Record.{Record}
-use Rattle.track.specs.Tracks.{trackedTold, FileTracked}
-use Rattle.track.specs.declared.Tracked.{Tracked}
-use Rattle.summary.specs.Summary.{updated}
+use Rattle.records.specs.Track.{trackOf}
+use Rattle.records.specs.declared.Record.{Record}
+use Rattle.course.specs.Courses.{trackedTold}
+use Rattle.track.specs.Tracks.{FileTracked}
+use Rattle.course.specs.declared.Tracked.{Tracked}
+use Rattle.reckon.specs.Summary.{updated}
 use Rattle.summary.specs.Summaries.{FileSummed}
-use Rattle.summary.specs.declared.Summed.{Summed}
-use Rattle.summary.proofs.Only.{summed-one}
+use Rattle.reckon.specs.declared.Summed.{Summed}
+use Rattle.reckon.proofs.Only.{summed-one}
 use Rattle.quiet.specs.Notes.{itsLines, ButForNotes, nth, unnumbered, daysAndFixes, NothingChanged}
 use Rattle.quiet.proofs.Walks.{walks-alike}
 use Rattle.quiet.proofs.Tracks as tracks

@@ -11,12 +11,12 @@ use Rattle.rules.specs.Choice.{need}
 use Rattle.rules.specs.Files.{verdict}
 use Rattle.rules.specs.Refusals.{says}
 use Rattle.rules.specs.declared.Flight.{Flight}
-use Rattle.next_fix.specs.Steps.{zeroRecord}
-use Rattle.next_fix.specs.Track.{trackSeal, trackOf}
-use Rattle.next_fix.specs.declared.Record.{Record}
+use Rattle.records.specs.Track.{zeroRecord}
+use Rattle.records.specs.Track.{trackSeal, trackOf}
+use Rattle.records.specs.declared.Record.{Record}
 use Rattle.spots.specs.Spots.{isMarked}
-use Rattle.summary.specs.Summary.{first, last, heights, marked, latitudes, longitudes, oneIfAny, told, runsOf, toldRuns, sizeOf, updated, fixesIn, summarySaid, summaryAfter}
-use Rattle.summary.specs.Summaries.{countSaid}
+use Rattle.reckon.specs.Summary.{first, last, heights, marked, latitudes, longitudes, oneIfAny, told, runsOf, toldRuns, sizeOf, updated, fixesIn, summarySaid, summaryAfter}
+use Rattle.reckon.specs.Reckoned.{countSaid}
 use Rattle.summary.proofs.Summing.{said-accepted, after-accepted}
 use Rattle.quiet.specs.Notes.{unnumbered}
 

@@ -16,8 +16,8 @@ use Rattle.rules.specs.declared.Reason.the-variants.{NoRoom}
 use Rattle.rules.specs.declared.Seal.{Seal}
 use Rattle.rules.specs.declared.Seal.the-variants as seal
 use Rattle.demands.proofs.Demands.{accepted-as, strict-is-usual-and-signed}
-use Rattle.next_fix.specs.Track.{trackSeal, trackOf, flightTracked, trackSaid, recordsIn, laidOver, listAfter}
-use Rattle.next_fix.specs.declared.Record.{Record}
+use Rattle.records.specs.Track.{trackSeal, trackOf, flightTracked, trackSaid, recordsIn, laidOver, listAfter}
+use Rattle.records.specs.declared.Record.{Record}
 use Rattle.quiet.specs.Notes.{unnumbered, daysAndFixes}
 
 -- what is accepted with a table is accepted with none, and what passes the strict check passes the usual one, and they say the same

@@ -20,8 +20,8 @@ use Rattle.rules.specs.declared.Layout.{Layout}
 use Rattle.laws.proofs.Splitting.{textsOf}
 use Rattle.demands.proofs.Sections.{before}
 use Rattle.alike.specs.Alike.{isL, withoutL}
-use Rattle.next_fix.specs.Track.{recordsOf, trackFrom}
-use Rattle.next_fix.specs.declared.Record.{Record}
+use Rattle.records.specs.Track.{recordsOf, trackFrom}
+use Rattle.records.specs.declared.Record.{Record}
 use Rattle.track.proofs.Stepping.{other-said}
 use Rattle.quiet.specs.Notes.{unnumbered}
 

@@ -22,9 +22,9 @@ use Rattle.rules.proofs.Damaged.{fiveLines, fiveLayout}
 use Rattle.rules.proofs.SignedFiles.{fourLines}
 use Rattle.alike.specs.Alike.{withoutL}
 use Rattle.mapped.proofs.Worked.{nights, tracked}
-use Rattle.next_fix.specs.Track.{trackFrom, trackOf}
+use Rattle.records.specs.Track.{trackFrom, trackOf}
 use Rattle.spots.specs.Spots.{signedCount}
-use Rattle.summary.specs.Summary.{told, toldRuns, updated, flightSummed, summaryAfter}
+use Rattle.reckon.specs.Summary.{told, toldRuns, updated, flightSummed, summaryAfter}
 use Rattle.quiet.specs.Notes.{ButForNotes, unnumbered}
 
 -- ---- document 01's file

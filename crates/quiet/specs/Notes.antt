@@ -18,9 +18,9 @@ use Rattle.rules.specs.declared.Seal.{Seal}
 use Rattle.laws.proofs.Splitting.{textsOf}
 use Rattle.demands.specs.Coming.{those}
 use Rattle.alike.specs.Alike.{withoutL, SameColumn}
-use Rattle.next_fix.specs.Track.{trackOf, trackSaid, listAfter}
-use Rattle.next_fix.specs.declared.Record.{Record}
-use Rattle.summary.specs.Summary.{summarySaid, summaryAfter}
+use Rattle.records.specs.Track.{trackOf, trackSaid, listAfter}
+use Rattle.records.specs.declared.Record.{Record}
+use Rattle.reckon.specs.Summary.{summarySaid, summaryAfter}
 
 -- the lines of a file, each without its CR LF
 abbrev pub itsLines : List ℕ → List (List ℕ)

@@ -1,11 +1,12 @@
-// Whether one field's value, or the text of a line, keeps to its limits.
+// Whether one field's value, a turn point, or the text of a line, keeps to its limits.
 ghost use mathlib.Core.Path.{_≡_};
 ghost use Rattle.rules.specs.Degrees.{isPosition};
-ghost use Rattle.range.specs.Tests.{CleanTest, DateTest, PlannedTest, LatitudeTest, LongitudeTest, AltitudeTest};
+ghost use Rattle.range.specs.Tests.{CleanTest, DateTest, PlannedTest, LatitudeTest, LongitudeTest, AltitudeTest, PointTest};
 use rules::Date;
 use rules::Found;
 use rules::Height;
 use rules::Planned;
+use rules::Point;
 use rules::Position;
 
 // Whether no character of a text is invalid outside H lines.
@@ -81,4 +82,20 @@ pub fn is_altitude(h: Height) -> bool
         return false;
     }
     z <= 99999
+}
+
+// Whether some C point line reads as the point, with this text behind it.
+pub fn good_point(p: Point, rest: &[u8]) -> bool
+    ensures { λ r. ⌜ PointTest p (now (rest .entry)) r ⌝ }
+{
+    if !is_latitude(p.lat) {
+        return false;
+    }
+    if !is_longitude(p.lon) {
+        return false;
+    }
+    if 255 < 18 + rest.len() {
+        return false;
+    }
+    is_clean(rest)
 }

@@ -8,7 +8,7 @@ use lib.IntN.{ℤ}
 use Rattle.rules.specs.Roles.{stageAfter}
 use Rattle.rules.specs.Families.{familyOf}
 use Rattle.rules.specs.Choice.{on, firstOf, leads, bytes}
-use Rattle.rules.specs.Refusals.{number, Said, says, refuses, andThen, outcomeTold}
+use Rattle.rules.specs.Refusals.{number, Said, says, refuses, outcomeTold}
 use Rattle.rules.specs.Chars.{isValid, firstInvalid, characters, isDigit, isCode, codesAt}
 use Rattle.rules.specs.Numbers.{spell, numberAt, wholeOf, digitsOf}
 use Rattle.rules.specs.Fields.{isSecond, timeAt, timeText, isLeap, daysOf, yearOf, dateAt, dateText, isEither, positionAt, positionText, altitudeAt, altitudeText}

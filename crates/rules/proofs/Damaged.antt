@@ -2,7 +2,7 @@
 -- byte worked out by hand; files with M and N lines, good and damaged. Computed. Assumes nothing.
 use Prim.Native.Nat.{ℕ}
 use Prim.Native.String.{String}
-use mathlib.Core.Bool.{Bool, true}
+use mathlib.Core.Bool.{true}
 use mathlib.Core.List.{List, [], _∷_, _++_}
 use mathlib.Core.Option.{some}
 use mathlib.Core.Path.{_≡_, refl}
@@ -17,7 +17,6 @@ use Rattle.rules.specs.Looks.{lookNumber}
 use Rattle.rules.specs.Listing.{listing}
 use Rattle.rules.specs.declared.Family.the-variants as family
 use Rattle.rules.specs.declared.Layout.{Layout}
-use Rattle.rules.specs.declared.Flight.{Flight}
 use Rattle.rules.proofs.Computed.{everything, fileOf, agree, Example, hold}
 use Rattle.rules.specs.declared.Seal.the-variants as seal
 

@@ -1,7 +1,7 @@
 -- Document 02, request 9, in examples that are computed: B lines with the columns TDS, LAD and LOD, their counts and decimals, and which of them are refused at a limit. Assumes nothing.
 use Prim.Native.Nat.{ℕ}
 use Prim.Native.String.{String}
-use mathlib.Core.Bool.{Bool, true}
+use mathlib.Core.Bool.{true}
 use mathlib.Core.List.{List, [], _∷_}
 use mathlib.Core.Path.{_≡_, refl}
 use lib.IntN.{ℤ, pos}

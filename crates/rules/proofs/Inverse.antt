@@ -1,6 +1,6 @@
 -- What a chain's answer says of its links, and what a test says of its parts. Assumes nothing.
 use Prim.Native.Nat.{ℕ}
-use mathlib.Core.Bool.{Bool, true, false, not, _&&_}
+use mathlib.Core.Bool.{Bool, true, false, _&&_, _||_}
 use mathlib.Core.Option.{Option, none, some}
 use mathlib.Core.Path.{_≡_, refl, sym}
 use native.Mathlib.Omega.{arith}
@@ -38,20 +38,28 @@ then-inv (refuses n l b) w f e = absurd (refuses-says e)
 
 -- ---- tests
 
+-- a test holds, or it fails
+pub by-bool : {A : Type 0} (t : Bool) → (t ≡ true → A) → (t ≡ false → A) → A
+by-bool true f g = f refl
+by-bool false f g = g refl
+
 pub and-inv : (a b : Bool) → (a && b) ≡ true → (a ≡ true) × (b ≡ true)
 and-inv true b e = (refl, e)
 and-inv false b e = absurd (false-true e)
+
+pub or-inv : {A : Type 0} (a b : Bool) → (a || b) ≡ true → (a ≡ true → A) → (b ≡ true → A) → A
+or-inv true b e f g = f refl
+or-inv false b e f g = g e
+
+pub or-neither : (a b : Bool) → (a || b) ≡ false → (a ≡ false) × (b ≡ false)
+or-neither true b e = absurd (false-true (sym e))
+or-neither false b e = (refl, e)
 
 -- tests that hold together are one
 pub bool-eq : (a b : Bool) → (a ≡ true → b ≡ true) → (b ≡ true → a ≡ true) → a ≡ b
 bool-eq true b f g = sym (f refl)
 bool-eq false true f g = g refl
 bool-eq false false f g = refl
-
--- a test that its opposite fails
-pub not-inv : (t : Bool) → not t ≡ true → t ≡ false
-not-inv false e = refl
-not-inv true e = absurd (false-true e)
 
 -- ---- a refusal of the line in hand, told with its line
 

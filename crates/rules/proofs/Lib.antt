@@ -1,5 +1,6 @@
 pub mod Inverse
 pub mod Times
+pub mod Texts
 pub mod Links
 pub mod Computed
 pub mod Marked

@@ -1,17 +1,17 @@
 -- The links of a chain: for each way that a definition goes on, a law that takes what the code found to what the definition says. `search links` puts a function's
 -- way out together from them. In each, x is the function's answer in the paper's terms, and r what it was told by the function that it called. Assumes nothing.
-use Prim.Native.Nat.{ℕ, suc, _+_, _≤_, _<_}
+use Prim.Native.Nat.{ℕ, _≤_, _<_}
 use mathlib.Core.Bool.{Bool, true, false, not, cond}
 use mathlib.Core.Option.{Option, none, some}
-use mathlib.Core.Path.{_≡_, refl, sym, _∙_}
+use mathlib.Core.Path.{_≡_, refl}
 use borrow.Author.Tests.{le-leb, lt-leb, eq-eqb, ne-eqb}
-use lib.Dec.{leb, ltb, eqb}
+use lib.Dec.{leb, eqb}
 use Rattle.rules.specs.Choice.{given, need, on}
-use Rattle.rules.specs.Refusals.{Said, says, refuses, andThen, refusal, outcomeTold}
-use Rattle.rules.specs.Numbers.{numberTold, wholeTold}
+use Rattle.rules.specs.Refusals.{Said, says, andThen, refusal, outcomeTold}
+use Rattle.rules.specs.Numbers.{numberTold}
 use Rattle.rules.specs.Fields.{timeTold, dayTold, positionTold, altitudeTold}
 use Rattle.rules.specs.Promises.{foundTold}
-use Rattle.rules.specs.Reads.{fixFieldsTold, timeReadTold, dateReadTold, headTold, pointTold}
+use Rattle.rules.specs.Reads.{fixFieldsTold, timeReadTold}
 use Rattle.rules.specs.Layouts.{columnTold, Span}
 use Rattle.rules.specs.declared.Refusal.{Refusal}
 use Rattle.rules.specs.declared.Outcome.{Outcome}
@@ -20,9 +20,6 @@ use Rattle.rules.specs.declared.Found.{Found}
 use Rattle.rules.specs.declared.Found.the-variants as found
 use Rattle.rules.specs.declared.Number.{Number}
 use Rattle.rules.specs.declared.Number.the-variants as number
-use Rattle.rules.specs.declared.Signed.{Signed}
-use Rattle.rules.specs.declared.Whole.{Whole}
-use Rattle.rules.specs.declared.Whole.the-variants as whole
 use Rattle.rules.specs.declared.Time.{Time}
 use Rattle.rules.specs.declared.Time.the-variants as time
 use Rattle.rules.specs.declared.Date.{Date}
@@ -39,14 +36,6 @@ use Rattle.rules.specs.declared.FixFieldsRead.{FixFieldsRead}
 use Rattle.rules.specs.declared.FixFieldsRead.the-variants as fixFieldsRead
 use Rattle.rules.specs.declared.TimeRead.{TimeRead}
 use Rattle.rules.specs.declared.TimeRead.the-variants as timeRead
-use Rattle.rules.specs.declared.DateRead.{DateRead}
-use Rattle.rules.specs.declared.DateRead.the-variants as dateRead
-use Rattle.rules.specs.declared.Head.{Head}
-use Rattle.rules.specs.declared.HeadRead.{HeadRead}
-use Rattle.rules.specs.declared.HeadRead.the-variants as headRead
-use Rattle.rules.specs.declared.Point.{Point}
-use Rattle.rules.specs.declared.PointRead.{PointRead}
-use Rattle.rules.specs.declared.PointRead.the-variants as pointRead
 use Rattle.rules.specs.declared.ColumnRead.{ColumnRead}
 use Rattle.rules.specs.declared.ColumnRead.the-variants as columnRead
 
@@ -123,14 +112,6 @@ number-value n r v x a f e g h = by-some numberTold n r x a f e (number.Value v)
 pub number-none : {B : Type 0} (n : Option ℕ) (r : Number) (x a : B) (f : ℕ → B) → numberTold r ≡ n → r ≡ number.NoNumber → x ≡ a → x ≡ given n a f
 unfolding numberTold
 number-none n r x a f e g h = by-none numberTold n r x a f e number.NoNumber refl g h
-
-pub whole-of : {B : Type 0} (n : Option Signed) (r : Whole) (v : Signed) (x a : B) (f : Signed → B) → wholeTold r ≡ n → r ≡ whole.Of v → x ≡ f v → x ≡ given n a f
-unfolding wholeTold
-whole-of n r v x a f e g h = by-some wholeTold n r x a f e (whole.Of v) v refl g h
-
-pub whole-none : {B : Type 0} (n : Option Signed) (r : Whole) (x a : B) (f : Signed → B) → wholeTold r ≡ n → r ≡ whole.NoWhole → x ≡ a → x ≡ given n a f
-unfolding wholeTold
-whole-none n r x a f e g h = by-none wholeTold n r x a f e whole.NoWhole refl g h
 
 pub time-secs : {B : Type 0} (n : Option ℕ) (r : Time) (v : ℕ) (x a : B) (f : ℕ → B) → timeTold r ≡ n → r ≡ time.Secs v → x ≡ f v → x ≡ given n a f
 unfolding timeTold

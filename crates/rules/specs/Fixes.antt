@@ -1,7 +1,7 @@
 -- Document 02, request 9: a fix and its fields. The bytes of a B line before its columns spell plain counts; the columns TDS, LAD and LOD of its I layout make time, latitude and
 -- longitude finer.
 use Prim.Native.Nat.{ℕ, _+_, _-_, _*_, _/_, _%_, _^_}
-use mathlib.Core.Bool.{Bool, _&&_, cond}
+use mathlib.Core.Bool.{cond}
 use mathlib.Core.List.{List}
 use lib.Dec.{eqb}
 use Rattle.rules.specs.Choice.{given, part, byte}
@@ -12,7 +12,6 @@ use Rattle.rules.specs.declared.Layout.{Layout}
 use Rattle.rules.specs.declared.Position.{Position}
 use Rattle.rules.specs.declared.Reach.{Reach}
 use Rattle.rules.specs.declared.Finer.{Finer}
-use Rattle.rules.specs.declared.FineTime.{FineTime}
 use Rattle.rules.specs.declared.FinePosition.{FinePosition}
 use Rattle.rules.specs.declared.FixFields.{FixFields}
 use Rattle.rules.specs.declared.Fix.{Fix}

@@ -9,9 +9,10 @@ use borrow.Author.Tests.{ltb-true, ltb-false, not-true, not-false}
 use lib.Dec.{ltb, eqb}
 use lib.ListN.{length, take, drop, getD, set, drop-of-length-le, length-append, length-take, length-drop}
 use lib.Seq.{drop-cons, drop-drop, sets, sets-eq, drop-set-lt, length-sets, length-take-le, getD-take, take-take, take-at, take-append-add, take-all, take-nil, drop-append-seam}
+use Rattle.rules.proofs.Inverse.{by-bool}
 use Rattle.sorted.specs.Sorted.{Sorted}
 use Rattle.sorted.specs.Ways.{keep, insert, gather}
-use Rattle.sorted.proofs.Sorting.{by, split, clash, insert-sorted}
+use Rattle.sorted.proofs.Sorting.{by, clash, insert-sorted}
 use Rattle.sorted.proofs.Streams.{insert-at, sorted-at, take-sorted, gather-is}
 use Rattle.notes.specs.Places.{textAt, earlier, starts, inside, skip}
 use Rattle.notes.proofs.Places.{places}
@@ -35,7 +36,7 @@ module _ (s : List ℕ) (x : ℕ) where
   inside-end e =
       let g : x + 2 ≡ suc (suc x) = omega arith in
       let g₁ : suc x + 1 ≡ x + 2 = omega arith in
-      split (ltb x (length s))
+      by-bool (ltb x (length s))
       (λ f. let h = ltb-true x (length s) f in
       let d : drop 1 (drop (suc x) s) ≡ drop (x + 2) s = drop-drop 1 (suc x) s ∙ ap (λ (n : ℕ). drop n s) g₁ in
       rw (drop-cons s x 0 h, not-false (eqb (getD s x 0) 13) (in-told s x h ∙ e), ← d, g) (skip-drop (suc x) (drop (suc x) s)))
@@ -74,7 +75,7 @@ module _ (s heads : List ℕ) (n x : ℕ) (fit : n ≤ length heads) (so : Sorte
   -- x comes behind the place at mid: then behind those before it
   pub below-mid : (mid : ℕ) → mid < n → earlier s x (getD heads mid 0) ≡ false → (k : ℕ) → k < mid + 1 → earlier s x (getD heads k 0) ≡ false
   below-mid mid h e k g =
-      split (earlier s x (getD heads k 0))
+      by-bool (earlier s x (getD heads k 0))
       (λ f.
       let w : earlier s (getD (take n heads) k 0) (getD (take n heads) mid 0) ≡ true = sorted-at (places s) 0 (take n heads) k mid so (omega arith) (omega (arith, length-take-le n heads fit)) in
       let v : earlier s (getD heads k 0) (getD heads mid 0) ≡ true = rw (getD-take n heads k 0 (omega arith), getD-take n heads mid 0 h) at w in

@@ -2,14 +2,14 @@
 use Prim.Native.Nat.{ℕ, suc, _+_, _≤_, _<_}
 use mathlib.Core.Bool.{Bool, true, false, not, _&&_, cond}
 use mathlib.Core.List.{List, [], _∷_}
-use mathlib.Core.Option.{Option, none, some}
+use mathlib.Core.Option.{some}
 use mathlib.Core.Path.{_≡_, refl, sym, _∙_}
 use native.Mathlib.Omega.{arith}
 use borrow.Author.Tests.{leb-true}
 use lib.Dec.{leb}
 use lib.ListN.{length}
 use Rattle.rules.specs.Choice.{firstOf, need}
-use Rattle.rules.specs.Refusals.{Said, says, no, outcomeTold}
+use Rattle.rules.specs.Refusals.{says, no, outcomeTold}
 use Rattle.rules.specs.Chars.{isValid, firstInvalid, characters}
 use Rattle.rules.specs.Lines.{isSized, shaped}
 use Rattle.rules.specs.Promises.{foundTold}

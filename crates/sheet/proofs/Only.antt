@@ -2,7 +2,7 @@
 use Prim.Native.Nat.{ℕ}
 use mathlib.Core.List.{List}
 use mathlib.Core.Path.{_≡_, sym, _∙_}
-use Rattle.next_fix.specs.declared.Progress.{Progress}
+use Rattle.records.specs.declared.Progress.{Progress}
 use Rattle.sheet.specs.Sheets.{SheetFilled}
 use Rattle.sheet.specs.declared.Sheet.{Sheet}
 

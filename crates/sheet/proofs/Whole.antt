@@ -1,7 +1,7 @@
 -- A sheet's lines have room in a block of 64,000 bytes, so none is cut; and sheets one after the other are the lines of the whole track. Assumes nothing.
-use Prim.Native.Nat.{ℕ, zero, suc, _+_, _-_, _*_, _≤_}
+use Prim.Native.Nat.{ℕ, zero, suc, _+_, _*_, _≤_}
 use mathlib.Core.Bool.{Bool, true, false, cond}
-use mathlib.Core.List.{List, [], _∷_, _++_, append-assoc}
+use mathlib.Core.List.{List, [], _++_, append-assoc}
 use mathlib.Core.Option.{none}
 use mathlib.Core.Path.{_≡_, refl, sym, ap, _∙_}
 use native.Mathlib.Nat.{zero-add, suc-add}
@@ -15,10 +15,10 @@ use Rattle.rules.specs.Refusals.{says}
 use Rattle.rules.specs.declared.Family.the-variants as family
 use Rattle.rules.specs.declared.Flight.{Flight}
 use Rattle.next_fix.specs.Steps.{stepOf}
-use Rattle.next_fix.specs.Track.{trackSeal, trackOf}
-use Rattle.next_fix.specs.declared.Progress.{Progress}
-use Rattle.track.specs.Stored.{fixesFrom}
-use Rattle.track.specs.Tracks.{startBy, fixSize}
+use Rattle.records.specs.Track.{trackSeal, trackOf}
+use Rattle.records.specs.declared.Progress.{Progress}
+use Rattle.records.specs.Stored.{fixesFrom}
+use Rattle.course.specs.Courses.{startBy, fixSize}
 use Rattle.track.proofs.Tracking.{found-all}
 use Rattle.pieces.specs.Buffer.{Shown}
 use Rattle.pieces.proofs.Laws.{whole}

@@ -5,8 +5,8 @@ use mathlib.Core.List.{List, [], _∷_, _++_}
 use mathlib.Core.Path.{_≡_}
 use lib.Dec.{ltb}
 use Rattle.next_fix.specs.Steps.{stepOf}
-use Rattle.next_fix.specs.declared.Progress.{Progress}
-use Rattle.next_fix.specs.declared.Record.{Record}
+use Rattle.records.specs.declared.Progress.{Progress}
+use Rattle.records.specs.declared.Record.{Record}
 use Rattle.pieces.specs.Buffer.{PiecePut}
 use Rattle.trail.specs.Trail.{recordShown}
 use Rattle.sheet.specs.declared.Sheet.{Sheet}

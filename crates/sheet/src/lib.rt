@@ -2,8 +2,8 @@
 ghost use mathlib.Core.Path.{_≡_};
 ghost use Rattle.pieces.specs.Buffer.{PiecePut};
 ghost use Rattle.sheet.specs.Sheets.{sheetOf, lineOf, SheetFilled};
-use next_fix::Progress;
-use next_fix::Record;
+use records::Progress;
+use records::Record;
 
 // A sheet in a lent block: how many bytes of it are used, how many fixes are still left, and how far the reading of the file has come.
 pub struct Sheet {

@@ -5,11 +5,9 @@ use mathlib.Core.List.{List, []}
 use mathlib.Core.Option.{none}
 use mathlib.Core.Path.{_≡_, refl, sym, ap, _∙_}
 use native.Mathlib.Omega.{arith}
-use borrow.Author.Tests.{eq-eqb, ne-eqb, le-leb}
-use lib.Dec.{eqb}
+use borrow.Author.Tests.{le-leb}
 use lib.ListN.{length, take, drop}
 use lib.Seq.{sets, length-sets}
-use Rattle.rules.specs.Choice.{need}
 use Rattle.rules.specs.Files.{CheckedTold, verdict}
 use Rattle.rules.specs.Refusals.{Said, says, refuses, refusal, andThen, outcome, outcomeTold}
 use Rattle.rules.specs.Writes.{putAt}
@@ -23,38 +21,17 @@ use Rattle.shelved.specs.Shelf.{shelfSeal, Spot, spotFor, addSaid, afterAdd, he
 use Rattle.shelved.specs.declared.Slot.{Slot}
 use Rattle.shelved.proofs.Bytes.{slot-length}
 use Rattle.shelved.proofs.Accepts.{holds, Adds, adds}
-use Rattle.shelf.specs.Calls.{addedTold, Extent, extentOf, askedTold, heldTold, planTold, FlightAdded, FlightAsked, BodyGiven, FlightRemoved}
-use Rattle.shelf.specs.declared.Added.the-variants as added
-use Rattle.shelf.specs.declared.Asked.{Asked}
-use Rattle.shelf.specs.declared.Asked.the-variants as asked
+use Rattle.shelf.specs.Holding.{heldTold}
+use Rattle.shelved.specs.Calls.{addedTold, Extent, extentOf, askedTold, FlightAdded, FlightAsked, BodyGiven, FlightRemoved}
+use Rattle.shelved.specs.declared.Added.the-variants as added
+use Rattle.shelved.specs.declared.Asked.{Asked}
+use Rattle.shelved.specs.declared.Asked.the-variants as asked
 use Rattle.shelf.specs.declared.Held.{Held}
 use Rattle.shelf.specs.declared.Held.the-variants as held
-use Rattle.shelf.specs.declared.Plan.{Plan}
-use Rattle.shelf.specs.declared.Plan.the-variants as plan
-
--- ---- links
-
-pub need-not : {A : Type 0} (t r : Bool) (x a : A) (f : Unit {0} → A) → r ≡ t → not r ≡ true → x ≡ a → x ≡ need t a f
-need-not true r x a f e g h = let z = rw e at g in let w : _≡_ {A = ℕ} 0 1 = cc in absurd (omega arith)
-need-not false r x a f e g h = h
-
-pub need-so : {A : Type 0} (t r : Bool) (x a : A) (f : Unit {0} → A) → r ≡ t → not r ≡ false → x ≡ f tt → x ≡ need t a f
-need-so true r x a f e g h = h
-need-so false r x a f e g h = let z = rw e at g in let w : _≡_ {A = ℕ} 0 1 = cc in absurd (omega arith)
-
-pub need-zero : {A : Type 0} (n : ℕ) (x a : A) (f : Unit {0} → A) → n ≡ 0 → x ≡ a → x ≡ need (not (eqb n 0)) a f
-need-zero n x a f e h = rw (eq-eqb n 0 e) h
-
-pub need-other : {A : Type 0} (n : ℕ) (x a : A) (f : Unit {0} → A) → (n ≡ 0 → ⊥) → x ≡ f tt → x ≡ need (not (eqb n 0)) a f
-need-other n x a f e h = rw (ne-eqb n 0 e) h
-
-pub not-zero : (n : ℕ) → (n ≡ 0 → ⊥) → not (eqb n 0) ≡ true
-not-zero n h = rw (ne-eqb n 0 h)
-
-pub is-zero : (n : ℕ) → n ≡ 0 → not (eqb n 0) ≡ false
-is-zero n h = rw (eq-eqb n 0 h)
-
-pub ruleset links = (need-not, need-so, need-zero, need-other)
+use Rattle.allot.specs.Plans.{planTold}
+use Rattle.allot.specs.declared.Plan.{Plan}
+use Rattle.allot.specs.declared.Plan.the-variants as plan
+use Rattle.allot.proofs.Links.{need-so}
 
 -- a refusal of one answer is that of another
 refused-alike : {A B : Type 0} (w : Refusal) (n l b : ℕ) → _≡_ {A = Said A} (refusal w) (refuses n l b) → _≡_ {A = Said B} (refusal w) (refuses n l b)

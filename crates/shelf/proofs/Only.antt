@@ -5,11 +5,11 @@ use mathlib.Core.Path.{refl, ap}
 use Rattle.rules.specs.Refusals.{Said, says, refuses}
 use Rattle.only.proofs.Told.{OneToOne, by-back, refusalOf, refusal-back, outcome-one}
 use Rattle.only.proofs.Only.{Only, OnlyBoth, same, alike}
-use Rattle.shelf.specs.Calls.{addedTold, Extent, askedTold, FlightAdded, FlightAsked, BodyGiven, FlightRemoved}
-use Rattle.shelf.specs.declared.Added.{Added}
-use Rattle.shelf.specs.declared.Added.the-variants as added
-use Rattle.shelf.specs.declared.Asked.{Asked}
-use Rattle.shelf.specs.declared.Asked.the-variants as asked
+use Rattle.shelved.specs.Calls.{addedTold, Extent, askedTold, FlightAdded, FlightAsked, BodyGiven, FlightRemoved}
+use Rattle.shelved.specs.declared.Added.{Added}
+use Rattle.shelved.specs.declared.Added.the-variants as added
+use Rattle.shelved.specs.declared.Asked.{Asked}
+use Rattle.shelved.specs.declared.Asked.the-variants as asked
 
 added-back : Said ℕ → Added
 added-back (says n) = added.At n

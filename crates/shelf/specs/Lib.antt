@@ -1,2 +1,2 @@
--- The calls on a shelf of flights.
-pub mod Calls
+-- What the functions of this crate tell each other.
+pub mod Holding

@@ -1,36 +1,23 @@
 // A shelf of flights in one lent buffer: a flight added, asked for, removed; the shelf packed.
 ghost use mathlib.Core.Path.{_≡_};
-ghost use Rattle.shelved.specs.Shelf.{usable, heldAt, spotFor, addSaid};
-ghost use Rattle.shelf.specs.Calls.{heldTold, planTold, FlightAdded, FlightAsked, BodyGiven, FlightRemoved};
+ghost use Rattle.shelved.specs.Shelf.{heldAt, addSaid};
+ghost use Rattle.allot.specs.Plans.{planTold};
+ghost use Rattle.shelved.specs.Calls.{FlightAdded, FlightAsked, BodyGiven, FlightRemoved};
+ghost use Rattle.shelf.specs.Holding.{heldTold};
+use allot::Plan;
 pub use pack::pack;
 use rules::Found;
 use rules::Outcome;
 use rules::Reason;
 use rules::Refusal;
 use rules::Seal;
+use shelved::Added;
+use shelved::Asked;
 use shelved::Slot;
-
-// The start of an added body; or the refusal.
-pub enum Added {
-    At(usize),
-    Refused(Refusal),
-}
-
-// The start and the length of a flight's body; or the refusal.
-pub enum Asked {
-    Body(usize, usize),
-    Refused(Refusal),
-}
 
 // The entry of a flight that is held; or the refusal.
 enum Held {
     At(usize),
-    Refused(Refusal),
-}
-
-// The entry and the start for a body that is to be added; or the refusal.
-enum Plan {
-    Spot(usize, usize),
     Refused(Refusal),
 }
 
@@ -95,35 +82,6 @@ pub fn remove(shelf: &mut [u8], number: u32) -> Outcome
     }
 }
 
-// Whether a number is not 0 and not in use.
-fn is_usable(shelf: &[u8], number: u32) -> bool
-    ensures { λ r. ⌜ r ≡ usable (now (shelf .entry)) number ⌝ }
-{
-    if number == 0 {
-        return false;
-    }
-    let Found::At(_) = contents::entry_of(shelf, number) else {
-        return true;
-    };
-    false
-}
-
-// The entry and the start for a body of `size` bytes. Refused with 28, 29 or 30.
-fn spot_for(shelf: &[u8], number: u32, size: usize) -> Plan
-    ensures { λ r. ⌜ planTold r ≡ spotFor (now (shelf .entry)) number size ⌝ }
-{
-    if !is_usable(shelf, number) {
-        return Plan::Refused(cut::unplaced(Reason::Id));
-    }
-    let Found::At(k) = contents::entry_of(shelf, 0) else {
-        return Plan::Refused(cut::unplaced(Reason::Entries));
-    };
-    let Found::At(at) = gap::place_for(shelf, size) else {
-        return Plan::Refused(cut::unplaced(Reason::NoRun));
-    };
-    Plan::Spot(k, at)
-}
-
 // The entry and the start for a file. Refused with 27, then the file's own refusal, then 28, 29 or 30.
 fn plan_add(shelf: &[u8], number: u32, file: &[u8]) -> Plan
     ensures { λ r. ⌜ planTold r ≡ addSaid (now (shelf .entry)) number (now (file .entry)) ⌝ }
@@ -135,7 +93,7 @@ fn plan_add(shelf: &[u8], number: u32, file: &[u8]) -> Plan
     let found = checked.outcome;
     match found {
         Outcome::Refused(why) => Plan::Refused(why),
-        Outcome::Accepted => spot_for(shelf, number, file.len()),
+        Outcome::Accepted => allot::spot_for(shelf, number, file.len()),
     }
 }
 

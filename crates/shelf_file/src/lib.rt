@@ -2,15 +2,15 @@
 // when it is whole.
 use console::fate_of;
 use console::print_refused;
+use fate::Fate;
 use named::read_named;
 use rules::Outcome;
 use rules::Reason;
 use rules::Refusal;
 use rules::Seal;
-use shelf::Added;
-use shelf::Asked;
+use shelved::Added;
+use shelved::Asked;
 use verbs::Deed;
-use verbs::Fate;
 use verbs::Flight;
 
 // A refusal of the shelf: it names no line.
@@ -90,7 +90,7 @@ fn list(shelf: &[u8]) -> u32 {
     let mut n = 0;
     while n < 64 {
         let fate = tell_entry(shelf, n);
-        status = verbs::worse(status, verbs::status_of(fate));
+        status = fate::worse(status, fate::status_of(fate));
         if is_unwritten(fate) {
             return status;
         }
@@ -101,7 +101,7 @@ fn list(shelf: &[u8]) -> u32 {
 
 fn list_sound(name: &[u8], shelf: &[u8]) -> u32 {
     if !contents::is_sound(shelf) {
-        return verbs::status_of(refuse(name, cut::unplaced(Reason::Shelf)));
+        return fate::status_of(refuse(name, cut::unplaced(Reason::Shelf)));
     }
     list(shelf)
 }
@@ -118,12 +118,12 @@ fn get(name: &[u8], shelf: &[u8], number: u32) -> Fate {
 fn on_read(deed: Deed, number: u32, name: &[u8], input: &mut [u8]) -> u32 {
     let got = read_named(name, input);
     if !got.whole {
-        return verbs::status_of(Fate::Unread);
+        return fate::status_of(Fate::Unread);
     }
     let n = got.count;
     match deed {
         Deed::List => list_sound(name, &input[..n]),
-        _ => verbs::status_of(get(name, &input[..n], number)),
+        _ => fate::status_of(get(name, &input[..n], number)),
     }
 }
 
@@ -215,7 +215,7 @@ fn on_changed(
 ) -> u32 {
     let mut new = [0u8; 4608];
     let n = notice::beside(name, &mut new);
-    verbs::status_of(claim(deed, i, number, name, &new[..n], input, other))
+    fate::status_of(claim(deed, i, number, name, &new[..n], input, other))
 }
 
 fn deed_at(i: usize) -> Deed {

@@ -1,6 +1,6 @@
 -- Where a body fits: a body in the way moves the search to its end, and loses no start. Assumes nothing.
 use Prim.Native.Nat.{ℕ, _+_, _-_, _≤_, _<_}
-use mathlib.Core.Bool.{true, false, not}
+use mathlib.Core.Bool.{true, false, not, and-false}
 use mathlib.Core.List.{List}
 use mathlib.Core.Logic.{_⊎_}
 use mathlib.Core.Option.{none, some}
@@ -9,11 +9,11 @@ use native.Mathlib.Omega.{arith}
 use borrow.Author.Tests.{leb-true, leb-false, le-leb, lt-leb, not-true, not-false}
 use lib.Dec.{leb}
 use lib.ListN.{length}
-use Rattle.rules.proofs.Inverse.{and-inv}
+use Rattle.rules.proofs.Inverse.{and-inv, or-neither}
 use Rattle.shelved.specs.Ranges.{least, every}
 use Rattle.shelved.specs.Contents.{startOf, endOf, clear}
 use Rattle.shelved.specs.Shelf.{clearOf, fits, blockerOf, placeFor}
-use Rattle.shelved.proofs.Tests.{by-le, and-none, both, or-neither}
+use Rattle.shelved.proofs.Tests.{by-le, both}
 use Rattle.shelved.proofs.Ranges.{every-at, every-of, every-not, least-skip, least-hit, least-over, least-some, least-none}
 use Rattle.shelved.proofs.Sounds.{clear-apart}
 
@@ -67,7 +67,7 @@ pub fits-blocked : (b : List ℕ) (size at n u : ℕ) → Blocks b size at n →
 unfolding fits
 fits-blocked b size at n u k p q =
     rw (every-not (clearOf b size u) 64 n (k .entry) (overlaps u (u + size) (startOf b n) (endOf b n) (omega (arith, k .low)) q))
-    (and-none (leb (u + size) (length b)))
+    (and-false (leb (u + size) (length b)))
 
 -- the search from a start on decides as the whole search: one turn, and its three ends
 module _ (b : List ℕ) (size at : ℕ) where
@@ -91,17 +91,10 @@ module _ (b : List ℕ) (size at : ℕ) where
   pub place-end : length b ≤ at → least (fits b size) at (length b - at) ≡ none
   place-end h = least-over (fits b size) at (length b - at) (λ u p q. absurd (omega arith))
 
--- "the smallest start where it fits"; "30 NO_RUN exactly when no free run is long enough"
+-- "the smallest start where it fits"
 pub place-smallest : (b : List ℕ) (size at : ℕ) → placeFor b size ≡ some at
     → (768 ≤ at) × (Fits b size at) × ((u : ℕ) → 768 ≤ u → u < at → fits b size u ≡ false)
 unfolding placeFor
 place-smallest b size at e =
     let l = least-some (fits b size) 768 (length b - 768) at e in
     (l .low, fits-read b size at (l .passes), l .first)
-
-pub no-run : (b : List ℕ) (size : ℕ) → 768 ≤ length b → 1 ≤ size → placeFor b size ≡ none → (u : ℕ) → 768 ≤ u → fits b size u ≡ false
-unfolding placeFor
-no-run b size r h e u p =
-    by-le (length b) u
-    (λ g. fits-over b size u (omega arith))
-    (λ g. least-none (fits b size) 768 (length b - 768) e u p (omega arith))

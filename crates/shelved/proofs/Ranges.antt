@@ -1,14 +1,14 @@
 -- The three ways to go through numbers. Assumes nothing.
 use Prim.Native.Nat.{ℕ, zero, suc, _+_, _-_, _≤_, _<_}
-use mathlib.Core.Bool.{Bool, true, false, cond}
+use mathlib.Core.Bool.{Bool, true, false, cond, and-false}
 use mathlib.Core.Option.{none, some}
 use mathlib.Core.Path.{_≡_, refl, sym}
 use native.Mathlib.Nat.{add-zero, sub-zero}
 use native.Mathlib.Numerals.{add-one}
 use native.Mathlib.Omega.{arith}
-use Rattle.rules.proofs.Inverse.{and-inv}
+use Rattle.rules.proofs.Inverse.{and-inv, by-bool}
 use Rattle.shelved.specs.Ranges.{least, every, total}
-use Rattle.shelved.proofs.Tests.{by-bool, by-eq, and-none}
+use Rattle.shelved.proofs.Tests.{by-eq}
 
 -- ---- the least
 
@@ -90,7 +90,7 @@ unfolding every
 every-not test zero n h e = absurd (omega arith)
 every-not test (suc k) n h e =
     by-eq n k
-    (λ q. rw (← q, e) (and-none (every test n)))
+    (λ q. rw (← q, e) (and-false (every test n)))
     (λ q. rw (every-not test k n (omega arith) e))
 
 -- ---- sums
@@ -110,12 +110,6 @@ total-change f g (suc k) n p h =
     (λ q. let s = total-change f g k n (omega arith) (λ m r d. h m (omega arith) d) in
     let e = h k (omega arith) (λ e. q (sym e)) in
     omega arith)
-
--- some of the numbers that are summed
-pub total-some : (f : ℕ → ℕ) (k n : ℕ) → n < k → f n ≤ total f k
-unfolding total
-total-some f zero n p = absurd (omega arith)
-total-some f (suc k) n p = by-eq n k (λ q. rw q (omega arith)) (λ q. let s = total-some f k n (omega arith) in omega arith)
 
 pub total-le : (f g : ℕ → ℕ) (k : ℕ) → ((n : ℕ) → n < k → f n ≤ g n) → total f k ≤ total g k
 unfolding total

@@ -6,12 +6,9 @@ use mathlib.Core.Path.{_≡_, refl, sym, _∙_}
 use native.Mathlib.Omega.{arith}
 use lib.Dec.{eqb, leb}
 use borrow.Author.Tests.{eqb-true, eqb-false, leb-true, leb-false, le-leb, lt-leb, eq-eqb, ne-eqb}
+use Rattle.rules.proofs.Inverse.{by-bool}
 
 module _ {A : Type 0} where
-  pub by-bool : (t : Bool) → (t ≡ true → A) → (t ≡ false → A) → A
-  by-bool true f g = f refl
-  by-bool false f g = g refl
-
   -- equal, or not
   pub by-eq : (m n : ℕ) → (m ≡ n → A) → ((m ≡ n → ⊥) → A) → A
   by-eq m n f g = by-bool (eqb m n) (λ e. f (eqb-true m n e)) (λ e. g (eqb-false m n e))
@@ -19,10 +16,6 @@ module _ {A : Type 0} where
   -- at most, or more
   pub by-le : (m n : ℕ) → (m ≤ n → A) → (n < m → A) → A
   by-le m n f g = by-bool (leb m n) (λ e. f (leb-true m n e)) (λ e. g (leb-false m n e))
-
-pub and-none : (s : Bool) → (s && false) ≡ false
-and-none true = refl
-and-none false = refl
 
 pub or-cases : (s t : Bool) → (s || t) ≡ true → (s ≡ true) ⊎ (t ≡ true)
 or-cases true t e = inl refl
@@ -37,10 +30,6 @@ or-right false t e = e
 
 pub both : (s t : Bool) → s ≡ true → t ≡ true → (s && t) ≡ true
 both s t e g = rw (e, g)
-
-pub or-neither : (s t : Bool) → (s || t) ≡ false → (s ≡ false) × (t ≡ false)
-or-neither true t e = let z : _≡_ {A = ℕ} 0 1 = cc in absurd (omega arith)
-or-neither false t e = (refl, e)
 
 -- ---- a function that tests one thing after the other, in the form that `search` finds: x is its answer
 

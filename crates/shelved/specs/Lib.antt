@@ -4,3 +4,4 @@ pub mod Contents
 pub mod Shelf
 pub mod Packing
 pub mod Moves
+pub mod Calls

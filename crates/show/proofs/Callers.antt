@@ -1,29 +1,22 @@
 -- What a caller asks of a line that was put into its buffer, which `pieces` shows of every text; and that the column lines are those of the rules for every entry that a layout line can spell. Assumes nothing.
-use Prim.Native.Nat.{ℕ, _/_, _%_, _≤_}
-use mathlib.Core.Bool.{Bool, true, false, _&&_, _||_}
+use Prim.Native.Nat.{ℕ, _/_, _%_}
+use mathlib.Core.Bool.{true, _&&_}
 use mathlib.Core.List.{List}
-use mathlib.Core.Path.{_≡_, refl}
+use mathlib.Core.Path.{_≡_}
 use native.Mathlib.Omega.{arith}
-use borrow.Author.Tests.{le-leb, leb-true}
+use borrow.Author.Tests.{le-leb}
 use lib.Dec.{leb}
 pub use Rattle.pieces.proofs.Callers.{shown-text, shown-counts, shown-fits}
-use Rattle.rules.specs.Chars.{isDigit, isCode}
+use Rattle.rules.specs.Chars.{isCode}
 use Rattle.rules.specs.Listed.{isCodeWord}
 use Rattle.rules.specs.Layouts.{isSpelt}
 use Rattle.rules.specs.Listing.{columnShown}
 use Rattle.rules.specs.declared.Entry.{Entry}
 use Rattle.rules.proofs.Inverse.{and-inv}
+use Rattle.basics.proofs.Laws.{code-high}
 use Rattle.show.specs.Lines.{columnLine}
 
 -- ---- the entries of a layout that was read are shown
-
-code-high : (b : ℕ) → isCode b ≡ true → b ≤ 90
-unfolding isCode isDigit
-code-high b e = by (leb 48 b && leb b 57) (λ d. omega (arith, leb-true b 57 (and-inv (leb 48 b) (leb b 57) d .1))) e
-  where
-    by : (d : Bool) → (d ≡ true → b ≤ 90) → (d || (leb 65 b && leb b 90)) ≡ true → b ≤ 90
-    by true low h = low refl
-    by false low h = leb-true b 90 (and-inv (leb 65 b) (leb b 90) h .1)
 
 pub column-spelt : (l : List ℕ) (e : Entry) → isSpelt e ≡ true → columnLine l e ≡ columnShown l e
 unfolding columnLine isSpelt isCodeWord

@@ -3,7 +3,7 @@ use Prim.Native.Nat.{ℕ}
 use mathlib.Core.List.{List}
 use Rattle.only.proofs.Only.{Only, same}
 use Rattle.shelved.specs.declared.Slot.{Slot}
-use Rattle.slot.specs.Entries.{SlotRead, ClearTest, WordPut, SlotPut, BytesMoved}
+use Rattle.slot.specs.Entries.{SlotRead, ClearTest, SlotPut}
 
 pub only-slot-read : (b : List ℕ) (n : ℕ) → Only (SlotRead b n)
 only-slot-read b n = same
@@ -11,11 +11,5 @@ only-slot-read b n = same
 pub only-clear-test : (start size : ℕ) (t : Slot) → Only (ClearTest start size t)
 only-clear-test start size t = same
 
-pub only-word-put : (v at : ℕ) (b : List ℕ) → Only (WordPut v at b)
-only-word-put v at b = same
-
 pub only-slot-put : (s : Slot) (n : ℕ) (b : List ℕ) → Only (SlotPut s n b)
 only-slot-put s n b = same
-
-pub only-bytes-moved : (to from n : ℕ) (b : List ℕ) → Only (BytesMoved to from n b)
-only-bytes-moved to from n b = same

@@ -1,10 +1,10 @@
-// An entry of a shelf, read and put; and bytes moved down in a shelf.
-ghost use Prim.Native.Nat.{_+_, _*_, _%_, _≤_, _<_};
+// An entry of a shelf, read and put.
+ghost use Prim.Native.Nat.{_+_, _*_, _≤_, _<_};
 ghost use mathlib.Core.Path.{_≡_};
 ghost use lib.Dec.{leb};
 ghost use lib.ListN.{length};
 ghost use Rattle.shelved.specs.Contents.{word};
-ghost use Rattle.slot.specs.Entries.{SlotRead, ClearTest, WordPut, SlotPut, BytesMoved};
+ghost use Rattle.slot.specs.Entries.{SlotRead, ClearTest, SlotPut};
 use shelved::Slot;
 
 // A byte as a number of four bytes.
@@ -84,26 +84,6 @@ pub fn is_clear(start: usize, size: usize, t: Slot) -> bool
     t.start as usize + t.size as usize <= start
 }
 
-// The low byte of a number.
-fn low(v: u32) -> u8
-    ensures { λ r. ⌜ r ≡ v % 256 ⌝ }
-{
-    (v % 256) as u8
-}
-
-// A number as four bytes from a place on, the low byte first. They have room there as a whole, or nothing changes.
-pub fn put_word(b: &mut [u8], at: usize, v: u32)
-    ensures { λ _. ⌜ WordPut v at (now (b .entry)) (now (b .exit)) ⌝ }
-{
-    if b.len() < at || b.len() - at < 4 {
-        return;
-    }
-    b[at] = low(v);
-    b[at + 1] = low(v / 256);
-    b[at + 2] = low(v / 256 / 256);
-    b[at + 3] = low(v / 256 / 256 / 256);
-}
-
 // The entry n. Its bytes have room as a whole, or nothing changes.
 pub fn put_slot(b: &mut [u8], n: usize, s: Slot)
     ensures { λ _. ⌜ SlotPut s n (now (b .entry)) (now (b .exit)) ⌝ }
@@ -111,24 +91,7 @@ pub fn put_slot(b: &mut [u8], n: usize, s: Slot)
     if b.len() < 12 || (b.len() - 12) / 12 < n {
         return;
     }
-    put_word(b, 12 * n, s.number);
-    put_word(b, 12 * n + 4, s.start);
-    put_word(b, 12 * n + 4 + 4, s.size);
-}
-
-// n bytes moved to a place that is not behind theirs, the first byte first. Nothing changes where it is behind theirs, or they do not lie inside the buffer.
-pub fn move_down(b: &mut [u8], to: usize, from: usize, n: usize)
-    ensures { λ _. ⌜ BytesMoved to from n (now (b .entry)) (now (b .exit)) ⌝ }
-{
-    if from < to {
-        return;
-    }
-    if b.len() < from || b.len() - from < n {
-        return;
-    }
-    let mut i = 0;
-    while i < n {
-        b[to + i] = b[from + i];
-        i += 1;
-    }
+    stow::put_word(b, 12 * n, s.number);
+    stow::put_word(b, 12 * n + 4, s.start);
+    stow::put_word(b, 12 * n + 4 + 4, s.size);
 }

@@ -6,6 +6,7 @@ use mathlib.Core.Logic.{_↔_}
 use mathlib.Core.Path.{_≡_, refl, sym, _∙_, ap}
 use native.Mathlib.Omega.{arith}
 use lib.ListN.{length}
+use Rattle.rules.proofs.Inverse.{by-bool}
 use Rattle.sorted.specs.Sorted.{Total, hit, count, Above, Sorted}
 use Rattle.sorted.specs.Ways.{insert, into, meet, weave}
 
@@ -16,16 +17,12 @@ module _ {A : Type 0} (P : A → Type 0) where
   by true u v f g = f refl
   by false u v f g = g refl
 
-pub split : {P : Type 0} (b : Bool) → (b ≡ true → P) → (b ≡ false → P) → P
-split true f g = f refl
-split false f g = g refl
-
 pub clash : {P : Type 0} {b : Bool} → b ≡ true → b ≡ false → P
 clash p q = let z : _≡_ {A = ℕ} 0 1 = cc in absurd (omega arith)
 
 module _ {A : Type 0} {le : A → A → Bool} (O : Total le) where
   pub reflexive : (x : A) → le x x ≡ true
-  reflexive x = split (le x x) (λ e. e) (λ e. O .total x x e)
+  reflexive x = by-bool (le x x) (λ e. e) (λ e. O .total x x e)
 
   pub hit-self : (x : A) → hit le x x ≡ 1
   unfolding hit
@@ -42,11 +39,11 @@ module _ {A : Type 0} {le : A → A → Bool} (O : Total le) where
 
   pub hit-behind : (x y : A) → le y x ≡ false → hit le x y ≡ 0
   unfolding hit
-  hit-behind x y e = split (le x y) (λ f. rw (f, e)) (λ f. rw f)
+  hit-behind x y e = by-bool (le x y) (λ f. rw (f, e)) (λ f. rw f)
 
   pub hit-is : (x y : A) → 1 ≤ hit le x y → x ≡ y
   unfolding hit
-  hit-is x y h = split (le x y) (λ f. split (le y x) (λ g. O .antisym x y f g) (λ g. absurd (omega (arith, hit-behind x y g)))) (λ f. absurd (omega (arith, hit-before x y f)))
+  hit-is x y h = by-bool (le x y) (λ f. by-bool (le y x) (λ g. O .antisym x y f g) (λ g. absurd (omega (arith, hit-behind x y g)))) (λ f. absurd (omega (arith, hit-before x y f)))
 
   -- 1 exactly where the two are the same
   pub hit-exactly : (x y : A) → (hit le x y ≡ 1) ↔ (x ≡ y)
@@ -55,8 +52,8 @@ module _ {A : Type 0} {le : A → A → Bool} (O : Total le) where
   -- ---- what occurs in a list that lies above x does not come before x
   pub above-member : (x z : A) (ys : List A) → Above le x ys → 1 ≤ count le z ys → le x z ≡ true
   above-member x z [] a h = absurd (omega arith)
-  above-member x z (y ∷ ys) a h = split (le x z) (λ e. e) (λ e.
-      let g : hit le z y ≡ 0 = split (le z y) (λ f. split (le y z) (λ k. clash (O .trans x y z (a .0) k) e) (λ k. hit-behind z y k)) (λ f. hit-before z y f) in
+  above-member x z (y ∷ ys) a h = by-bool (le x z) (λ e. e) (λ e.
+      let g : hit le z y ≡ 0 = by-bool (le z y) (λ f. by-bool (le y z) (λ k. clash (O .trans x y z (a .0) k) e) (λ k. hit-behind z y k)) (λ f. hit-before z y f) in
       above-member x z ys (a .1) (omega arith))
 
   -- a list in order is known by how often each occurs in it

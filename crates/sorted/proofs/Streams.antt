@@ -1,14 +1,15 @@
 -- The sort in runs: the first k of what comes after `last`, found by one look at each element; and how it goes on. Assumes nothing.
-use Prim.Native.Nat.{ℕ, zero, suc, _+_, _-_, _≤_, _<_}
+use Prim.Native.Nat.{ℕ, zero, suc, _+_, _≤_, _<_}
 use mathlib.Core.Bool.{Bool, true, false, cond}
 use mathlib.Core.List.{List, [], _∷_, _++_}
 use mathlib.Core.Path.{_≡_, refl, ap}
 use native.Mathlib.Omega.{arith}
 use lib.ListN.{length, take, drop, getD}
 use lib.Seq.{take-take, take-nil}
+use Rattle.rules.proofs.Inverse.{by-bool}
 use Rattle.sorted.specs.Sorted.{Total, hit, count, Above, Sorted}
 use Rattle.sorted.specs.Ways.{insert, into, after, rest, keep, gather}
-use Rattle.sorted.proofs.Sorting.{by, split, clash, reflexive, hit-self, hit-is, hit-before, absent, unique, into-count, into-sorted, into-length}
+use Rattle.sorted.proofs.Sorting.{by, clash, reflexive, hit-self, hit-is, hit-before, absent, unique, into-count, into-sorted, into-length}
 
 module _ {A : Type 0} {le : A → A → Bool} (O : Total le) where
   -- ---- what comes after `last`
@@ -57,19 +58,19 @@ module _ {A : Type 0} {le : A → A → Bool} (O : Total le) where
       c z = rw (← rest-count z last xs, e)
 
       later : le h last ≡ false
-      later = split (le h last) (λ f. absurd (omega (arith, c h, after-none h last xs f, hit-self O h))) (λ f. f)
+      later = by-bool (le h last) (λ f. absurd (omega (arith, c h, after-none h last xs f, hit-self O h))) (λ f. f)
 
       counts : (z : A) → count le z (rest le h xs) ≡ count le z q
       counts z =
-          split (le z h)
-          (λ f. split (le h z)
-          (λ g. split (le z last)
+          by-bool (le z h)
+          (λ f. by-bool (le h z)
+          (λ g. by-bool (le z last)
           (λ k. omega (arith, c z, rest-count z h xs, after-none z h xs f, after-none z last xs k))
           (λ k. let d : z ≡ h = O .antisym z h f g in let w : hit le z h ≡ hit le h h = rw d in
           omega (arith, c z, rest-count z h xs, after-none z h xs f, after-all z last xs k, one z, hit-self O h)))
           (λ g. omega (arith, rest-count z h xs, after-none z h xs f, absent O z h q g (s .0))))
           (λ f.
-          let k : le z last ≡ false = split (le z last) (λ k. clash (O .trans h z last (O .total z h f) k) later) (λ k. k) in
+          let k : le z last ≡ false = by-bool (le z last) (λ k. clash (O .trans h z last (O .total z h f) k) later) (λ k. k) in
           omega (arith, c z, rest-count z h xs, after-all z h xs f, after-all z last xs k, hit-before O z h f))
 
   -- ---- the first k

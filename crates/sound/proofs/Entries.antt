@@ -1,5 +1,5 @@
 -- The entries of a layout line both ways: three code characters, one entry, and entries one behind the other, which each keep to the rules. Assumes nothing.
-use Prim.Native.Nat.{ℕ, zero, suc, _+_, _-_, _*_, _/_, _%_, _≤_, _<_}
+use Prim.Native.Nat.{ℕ, zero, suc, _+_, _*_, _/_, _%_, _≤_, _<_}
 use mathlib.Core.Bool.{Bool, true, false, _&&_, _||_}
 use mathlib.Core.List.{List, [], _∷_, _++_, append-assoc}
 use mathlib.Core.Option.{none, some}
@@ -7,7 +7,7 @@ use mathlib.Core.Path.{_≡_, refl, sym, ap, _∙_}
 use native.Mathlib.Omega.{arith}
 use borrow.Author.Tests.{le-leb, leb-true}
 use lib.Dec.{leb}
-use lib.ListN.{length, getD, drop, length-append}
+use lib.ListN.{length, getD, drop}
 use Rattle.rules.specs.Choice.{leads}
 use Rattle.rules.specs.Refusals.{says}
 use Rattle.rules.specs.Chars.{isDigit, isCode, codesAt}
@@ -18,9 +18,10 @@ use Rattle.rules.specs.Writes.{entryText, entryTexts}
 use Rattle.rules.specs.declared.Entry.{Entry}
 use Rattle.rules.specs.declared.Layout.{Layout}
 use Rattle.rules.proofs.Inverse.{none-some, refuses-says, false-true, given-inv, need-inv, then-inv, and-inv}
+use Rattle.rules.proofs.Texts.{digits-length, entry-length}
 use Rattle.trips.proofs.Laws.{past, byte-here}
 use Rattle.trips.proofs.Texts.{digit-range}
-use Rattle.trips.proofs.Digits.{digits-length, number-there, number-here}
+use Rattle.trips.proofs.Digits.{number-there, number-here}
 use Rattle.trips.proofs.Placing.{Fits, placed-there, placed-said, fits-there}
 
 -- ---- three code characters
@@ -94,10 +95,6 @@ code-here s at x r h e =
     simp (e, q .0, q .1, p .1, a, b, c, packed-back x)
 
 -- ---- one entry
-
-pub entry-length : (e : Entry) → length (entryText e) ≡ 7
-unfolding entryText
-entry-length e = simp (length-append, digits-length)
 
 -- what an entry that was read says of the line
 pub record EntryThere (l : List ℕ) (at to start : ℕ) (before : Layout) (e : Entry) : Type 0 where

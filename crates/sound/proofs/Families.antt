@@ -12,7 +12,8 @@ use Rattle.rules.specs.declared.Extra.the-variants as extra
 use Rattle.rules.specs.declared.Family.{Family}
 use Rattle.rules.specs.declared.Family.the-variants as family
 use Rattle.rules.specs.declared.Role.the-variants as role
-use Rattle.rules.proofs.Inverse.{false-true, and-inv, not-inv}
+use Rattle.rules.proofs.Inverse.{false-true, and-inv}
+use borrow.Author.Tests.{not-true}
 
 -- what holds of each family
 abbrev pub every : (P : Family → Type 0) → P family.B → P (family.Extra extra.K) → P (family.Extra extra.N) → (f : Family) → P f
@@ -28,7 +29,7 @@ all-pass test e =
     every (λ f. test f ≡ true) (b .0) (x .0) (x .1)
 
 pub none-pass : (test : Family → Bool) → (not (test family.B) && (not (test (family.Extra extra.K)) && not (test (family.Extra extra.N)))) ≡ true → (f : Family) → test f ≡ false
-none-pass test e f = not-inv (test f) (all-pass (λ g. not (test g)) e f)
+none-pass test e f = not-true (test f) (all-pass (λ g. not (test g)) e f)
 
 -- ---- the roles of their letters
 

@@ -85,9 +85,9 @@ read-long : (f : Family) (l : List ℕ) (layout : Layout) (v : FieldsIn f) → f
 read-long family.B = front-long fix-front
 read-long (family.Extra x) = front-long (extra-front x)
 
-first-byte : (f : Family) → 1 ≤ firstStart f
-first-byte family.B = omega arith
-first-byte (family.Extra x) = omega arith
+pub start-low : (f : Family) → 1 ≤ firstStart f
+start-low family.B = omega arith
+start-low (family.Extra x) = omega arith
 
 -- ---- together
 
@@ -103,7 +103,7 @@ answer-fits start layout l o s n =
 -- of a line that is read with its layout
 pub read-fits : (f : Family) (l : List ℕ) (layout : Layout) (v : FieldsIn f) → length (layout .entries) ≡ 13 → fieldsSaid f l layout ≡ says v → fitsLine l layout ≡ true
 read-fits f l layout v full e =
-    answer-fits (firstStart f) layout l (first-byte f) (record { right = by-said f l layout v e .1; full = full }) (read-long f l layout v e)
+    answer-fits (firstStart f) layout l (start-low f) (record { right = by-said f l layout v e .1; full = full }) (read-long f l layout v e)
 
 -- and then only the code decides
 pub look-there : (l : List ℕ) (es : Layout) (name : List ℕ) → fitsLine l es ≡ true → lookSaid l es name ≡ given (look es (packedOf name)) (no Absent 0) (λ s. says s)

@@ -2,12 +2,11 @@
 -- numbers. Assumes nothing.
 use mathlib.Core.Bool.{Bool, true, false, cond}
 use mathlib.Core.List.{List, [], _∷_}
-use mathlib.Core.Path.{_≡_, refl, sym, ap, _∙_}
-use lib.IntN.{ℤ, pos}
-use Rattle.spans.specs.Extremes.{outer, outmostFrom, above, below, greatest, least}
+use mathlib.Core.Path.{_≡_, refl, ap}
+use lib.IntN.{ℤ}
+use Rattle.spans.specs.Extremes.{outmostFrom, above, below, greatest, least}
 use Rattle.spans.specs.Sums.{higherOf, lowerOf, noSpan, joinedSpan, merged, joined}
 use Rattle.spans.specs.declared.Figure.{Figure}
-use Rattle.spans.specs.declared.Moment.{Moment}
 use Rattle.spans.specs.declared.Span.{Span}
 use Rattle.spans.specs.declared.Sum.{Sum}
 use Rattle.spans.proofs.Outmost.{outer-thrice, upwards, downwards}

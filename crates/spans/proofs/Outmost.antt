@@ -1,6 +1,6 @@
 -- The outermost of some numbers by its meaning, for every order: it is one of them, none lies further out, and no other number is so; and of three it is one, however they are
 -- taken in pairs. Then the two orders, upwards and downwards. Assumes nothing.
-use mathlib.Core.Bool.{Bool, true, false, not, cond}
+use mathlib.Core.Bool.{Bool, true, false, not}
 use mathlib.Core.List.{List, [], _∷_}
 use mathlib.Core.Logic.{_⊎_, inl, inr}
 use mathlib.Core.Path.{_≡_, refl, sym, ap, _∙_, subst}
@@ -11,12 +11,8 @@ use lib.Dec.{T}
 use lib.IntN.{ℤ, pos, negsuc}
 use lib.Signed.{ltZ, _≤ℤ_, _<ℤ_, ≤ℤ-refl, ltZ-no, ltZ-yes, <ℤ-≤ℤ-trans, clashℤ}
 use Rattle.rules.specs.Choice.{Each}
-use Rattle.rules.proofs.Inverse.{false-true}
+use Rattle.rules.proofs.Inverse.{false-true, by-bool}
 use Rattle.spans.specs.Extremes.{OneOf, outer, outmostFrom, outmost, Outmost, above, below}
-
-by-test : {A : Type 0} (t : Bool) → (t ≡ true → A) → (t ≡ false → A) → A
-by-test true f g = f refl
-by-test false f g = g refl
 
 -- an order of all numbers
 pub record Order (past : ℤ → ℤ → Bool) : Type 0 where
@@ -29,16 +25,16 @@ module _ (past : ℤ → ℤ → Bool) (o : Order past) where
   -- ---- the one further out of two
 
   outer-one : (a b : ℤ) → (outer past a b ≡ a) ⊎ (outer past a b ≡ b)
-  outer-one a b = by-test (past a b) (λ e. inr (rw e)) (λ e. inl (rw e))
+  outer-one a b = by-bool (past a b) (λ e. inr (rw e)) (λ e. inl (rw e))
 
   outer-past : (a b : ℤ) → (past (outer past a b) a ≡ false) × (past (outer past a b) b ≡ false)
-  outer-past a b = by-test (past a b) (λ e. rw e (o .one-way a b e, o .itself b)) (λ e. rw e (o .itself a, e))
+  outer-past a b = by-bool (past a b) (λ e. rw e (o .one-way a b e, o .itself b)) (λ e. rw e (o .itself a, e))
 
   pub outer-thrice : (a b c : ℤ) → outer past (outer past a b) c ≡ outer past a (outer past b c)
   outer-thrice a b c = by (past a b) refl (past b c) refl
     where
       by : (x : Bool) → past a b ≡ x → (y : Bool) → past b c ≡ y → outer past (outer past a b) c ≡ outer past a (outer past b c)
-      by true e true f = by-test (past a c) (λ g. rw (e, f, g)) (λ g. absurd (false-true (sym (o .further b c a (o .one-way b c f) g) ∙ e)))
+      by true e true f = by-bool (past a c) (λ g. rw (e, f, g)) (λ g. absurd (false-true (sym (o .further b c a (o .one-way b c f) g) ∙ e)))
       by true e false f = rw (e, f, e)
       by false e true f = rw (e, f)
       by false e false f = rw (e, f, e, o .further c b a f e)
@@ -81,7 +77,7 @@ not-lt : (a b : ℤ) → ltZ a b ≡ false → b ≤ℤ a
 not-lt a b e = ltZ-no {a = a} {b = b} (subst (λ (t : Bool). T (not t)) (sym e) tt)
 
 itself : (a : ℤ) → ltZ a a ≡ false
-itself a = by-test (ltZ a a) (λ t. clashℤ (is-lt a a t) (≤ℤ-refl a)) (λ t. t)
+itself a = by-bool (ltZ a a) (λ t. clashℤ (is-lt a a t) (≤ℤ-refl a)) (λ t. t)
 
 one-way : (a b : ℤ) → ltZ a b ≡ true → ltZ b a ≡ false
 one-way (pos a) (pos b) e = le-ltb b a (le-of-lt (ltb-true a b e))
@@ -90,7 +86,7 @@ one-way (negsuc a) (pos b) e = refl
 one-way (negsuc a) (negsuc b) e = le-ltb a b (le-of-lt (ltb-true b a e))
 
 further : (a b c : ℤ) → ltZ b a ≡ false → ltZ c b ≡ false → ltZ c a ≡ false
-further a b c e f = by-test (ltZ c a) (λ t. clashℤ (<ℤ-≤ℤ-trans (is-lt c a t) (not-lt b a e)) (not-lt c b f)) (λ t. t)
+further a b c e f = by-bool (ltZ c a) (λ t. clashℤ (<ℤ-≤ℤ-trans (is-lt c a t) (not-lt b a e)) (not-lt c b f)) (λ t. t)
 
 equal : (a b : ℤ) → ltZ a b ≡ false → ltZ b a ≡ false → a ≡ b
 equal (pos a) (pos b) e f = ap pos (omega (arith, ltb-false a b e, ltb-false b a f))

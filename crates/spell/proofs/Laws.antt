@@ -10,12 +10,10 @@ use Rattle.rules.specs.Writes.{putAt}
 use Rattle.rules.specs.declared.Date.{Date}
 use Rattle.rules.specs.declared.Position.{Position}
 use Rattle.rules.proofs.Times.{by-pairs}
+use Rattle.rules.proofs.Texts.{digits-length, pairs-length}
 use Rattle.put.specs.Puts.{Fills}
-use Rattle.put.proofs.Laws.{digits-length, put-last, put-then, byte-then}
+use Rattle.put.proofs.Laws.{put-last, put-then, byte-then}
 use Rattle.height.proofs.Laws.{altitude-then}
-
-pub pairs-length : (a b c : ℕ) → length (pairsText a b c) ≡ 6
-pairs-length a b c = simp (length-append, digits-length)
 
 pub time-length : (t : ℕ) → length (timeText t) ≡ 6
 time-length = by-pairs (λ l. length l ≡ 6) pairs-length

@@ -2,7 +2,7 @@
 use Prim.Native.Char.{code}
 use Prim.Native.Nat.{ℕ, _/_, _≤_, _<_}
 use mathlib.Core.Bool.{Bool, true, false}
-use mathlib.Core.Path.{_≡_, refl, sym, ap, _∙_}
+use mathlib.Core.Path.{_≡_, sym, ap, _∙_}
 use borrow.Author.Tests.{le-leb, lt-leb}
 use lib.IntN.{pos, negℤ}
 use Rattle.rules.specs.Fields.{isEither}
@@ -11,9 +11,9 @@ use Rattle.spans.specs.Sums.{noFigure, figureOf}
 use Rattle.rules.specs.declared.FinePosition.{FinePosition}
 use Rattle.rules.specs.declared.FineTime.{FineTime}
 use Rattle.rules.specs.declared.Position.{Position}
-use Rattle.tens.specs.Tens.{fewOf, powerOf}
+use Rattle.tens.specs.Tens.{powerOf}
 use Rattle.tens.proofs.Laws.{few-all}
-use Rattle.next_fix.specs.declared.Record.{Record}
+use Rattle.records.specs.declared.Record.{Record}
 use Rattle.spans.specs.declared.Figure.{Figure}
 use Rattle.spans.specs.declared.Span.{Span}
 use Rattle.spans.specs.declared.Sum.{Sum}

@@ -1,6 +1,6 @@
 -- One answer at most meets the promise of this crate. Assumes nothing.
 use Rattle.only.proofs.Only.{Only, same}
-use Rattle.next_fix.specs.declared.Record.{Record}
+use Rattle.records.specs.declared.Record.{Record}
 use Rattle.spots.specs.Spots.{FixAlone}
 
 pub only-fix-alone : (r : Record) → Only (FixAlone r)

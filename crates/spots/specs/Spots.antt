@@ -1,6 +1,6 @@
 -- Document 02, 'A summary beside each flight': what one fix has to tell, as plain counts, and as values of the code.
 use Prim.Native.Char.{code}
-use Prim.Native.Nat.{ℕ, _≤_}
+use Prim.Native.Nat.{ℕ}
 use mathlib.Core.Bool.{Bool, true, cond}
 use mathlib.Core.Path.{_≡_}
 use lib.Dec.{eqb, leb}
@@ -13,7 +13,7 @@ use Rattle.rules.specs.declared.Fix.{Fix}
 use Rattle.rules.specs.declared.Height.{Height}
 use Rattle.rules.specs.declared.Position.{Position}
 use Rattle.tens.specs.Tens.{fewOf}
-use Rattle.next_fix.specs.declared.Record.{Record}
+use Rattle.records.specs.declared.Record.{Record}
 use Rattle.spans.specs.Sums.{noFigure, figureOf, noSpan}
 use Rattle.spans.specs.declared.Figure.{Figure}
 use Rattle.spans.specs.declared.Moment.{Moment}

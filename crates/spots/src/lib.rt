@@ -3,7 +3,7 @@ ghost use Prim.Native.Nat.{_≤_};
 ghost use mathlib.Core.Path.{_≡_};
 ghost use lib.IntN.{pos, negℤ};
 ghost use Rattle.spots.specs.Spots.{takenTime, takenPosition, signedFigure, heightFigure, spanIf, FixAlone};
-use next_fix::Record;
+use records::Record;
 use rules::FinePosition;
 use rules::FineTime;
 use rules::Height;

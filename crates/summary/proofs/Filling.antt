@@ -1,5 +1,5 @@
 -- A list filled run by run is the list that the document asks for: what is told of the whole is joined from the runs, and each run from `keep` on stands at its place. Assumes nothing.
-use Prim.Native.Nat.{ℕ, zero, suc, _+_, _*_, _-_, _/_, _≤_, _<_}
+use Prim.Native.Nat.{ℕ, zero, suc, _+_, _*_, _-_, _/_, _≤_}
 use mathlib.Core.Bool.{Bool, true, false, cond}
 use mathlib.Core.List.{List, [], _∷_, _++_, append-assoc}
 use mathlib.Core.Path.{_≡_, refl, sym, ap, subst, _∙_}
@@ -8,22 +8,22 @@ use native.Mathlib.Omega.{arith}
 use borrow.Author.Tests.{le-leb, lt-ltb, le-ltb, ltb-true, ltb-false}
 use lib.Dec.{ltb}
 use lib.IntN.{ℤ}
-use lib.ListN.{length, set, take, drop, length-append, length-drop, drop-of-length-le}
+use lib.ListN.{length, set, take, drop, length-append, drop-of-length-le}
 use lib.Seq.{sets, sets-eq, length-sets, length-take-le, take-all, take-add, drop-drop, take-at, drop-at}
 use Rattle.rules.specs.Choice.{Each}
-use Rattle.next_fix.specs.declared.FixStep.{FixStep}
-use Rattle.next_fix.specs.declared.Progress.{Progress}
-use Rattle.next_fix.specs.declared.Record.{Record}
+use Rattle.records.specs.declared.FixStep.{FixStep}
+use Rattle.records.specs.declared.Progress.{Progress}
+use Rattle.records.specs.declared.Record.{Record}
 use Rattle.spans.specs.Sums.{noSum, joined}
 use Rattle.spans.specs.declared.Sum.{Sum}
 use Rattle.spans.proofs.Joining.{joined-thrice}
 use Rattle.slots.specs.Slots.{numbersOf, putAt}
 use Rattle.spots.specs.Spots.{aloneOf}
 use Rattle.trips.proofs.Each.{each-cut}
-use Rattle.track.specs.Stored.{fixesFrom}
-use Rattle.summary.specs.Filled.{sumOver, nextRun, putFrom, stepped, legOf, turnedLeg, turnedList, wholeFrom, listFrom, filled}
-use Rattle.summary.specs.Summary.{told, runsOf, toldRuns, sizeOf, updated}
-use Rattle.summary.specs.declared.Leg.{Leg}
+use Rattle.records.specs.Stored.{fixesFrom}
+use Rattle.reckon.specs.Filled.{sumOver, nextRun, putFrom, stepped, turnedLeg, turnedList, wholeFrom, listFrom, filled}
+use Rattle.reckon.specs.Summary.{told, runsOf, toldRuns, sizeOf, updated}
+use Rattle.reckon.specs.declared.Leg.{Leg}
 use Rattle.summary.proofs.Telling.{Fits, told-is}
 
 -- ---- sums of lists

@@ -1,10 +1,10 @@
 -- The fixes of an accepted file fit: each number that is told of one is a number of the list, and there are no more fixes than bytes. Assumes nothing.
-use Prim.Native.Nat.{ℕ, _+_, _*_, _≤_}
+use Prim.Native.Nat.{ℕ, _+_, _≤_}
 use Prim.Native.Char.{code}
 use mathlib.Core.Bool.{Bool, true, false, _&&_, cond}
 use mathlib.Core.List.{List, [], _∷_, _++_}
 use mathlib.Core.Option.{none}
-use mathlib.Core.Path.{_≡_, refl, sym, ap, _∙_}
+use mathlib.Core.Path.{_≡_, refl, ap}
 use native.Mathlib.Omega.{arith}
 use borrow.Author.Tests.{le-leb, leb-true, eqb-true, eqb-false}
 use lib.Dec.{eqb, leb}
@@ -32,10 +32,10 @@ use Rattle.trips.proofs.LineTrip.{line-limits}
 use Rattle.demands.specs.Grammar.{beginning}
 use Rattle.demands.specs.Readings.{ReadsLine, ReadsFix}
 use Rattle.demands.proofs.EachLine.{fix-alone}
-use Rattle.next_fix.specs.Track.{trackSeal, recordOf, recordsOf, trackFrom, trackOf, flightTracked}
-use Rattle.next_fix.specs.declared.Record.{Record}
+use Rattle.records.specs.Track.{trackSeal, recordOf, recordsOf, trackFrom, trackOf, flightTracked}
+use Rattle.next_fix.proofs.Going.{walk-lines}
 use Rattle.track.proofs.Accepted.{file-short, texts-read, letters-counted}
-use Rattle.track.proofs.Stepping.{other-said, walk-within, walk-lines}
+use Rattle.track.proofs.Stepping.{other-said, walk-within}
 use Rattle.summary.proofs.Telling.{Fits}
 
 -- ---- each fix
@@ -98,12 +98,9 @@ beginning-within x (l ∷ ls) = by (eqb (getD l 0 0) x) (beginning-within x ls)
     by false h = omega (arith, h)
 
 module _ (file : List ℕ) (f : Flight) (accepted : verdict trackSeal file none ≡ says f) where
-  short : length file ≤ 16777216
-  short = file-short trackSeal file f accepted
-
   pub fixes-fit : Each Fits (trackOf file (f .layouts .b))
   fixes-fit =
-      fits-from (f .layouts) (linesOf file) setOut (texts-read trackSeal file f accepted) (omega arith) (omega (arith, lines-within (linesOf file) file refl, short))
+      fits-from (f .layouts) (linesOf file) setOut (texts-read trackSeal file f accepted) (omega arith) (omega (arith, lines-within (linesOf file) file refl, file-short trackSeal file f accepted))
 
   pub few-fixes : countOf family.B (f .counts) ≤ length file
   few-fixes = omega (arith, letters-counted trackSeal file f accepted family.B, beginning-within (code "B") (textsOf (linesOf file)), lines-within (linesOf file) file refl)

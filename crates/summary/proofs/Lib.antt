@@ -1,6 +1,5 @@
 -- The laws of this crate.
 pub mod Telling
-pub mod Turning
 pub mod Filling
 pub mod Fitting
 pub mod Summing

@@ -1,11 +1,11 @@
 -- What the code answers and leaves in the list, by the number of fixes, is what the document asks for of the file. Assumes nothing.
-use Prim.Native.Nat.{ℕ, _/_, _≤_, _<_}
+use Prim.Native.Nat.{ℕ, _/_, _≤_}
 use mathlib.Core.Bool.{Bool, true, false}
 use mathlib.Core.List.{List}
 use mathlib.Core.Option.{none}
 use mathlib.Core.Path.{_≡_, refl, sym, ap, subst, _∙_}
 use native.Mathlib.Omega.{arith}
-use borrow.Author.Tests.{le-leb, lt-leb, leb-true}
+use borrow.Author.Tests.{le-leb, leb-true}
 use lib.Dec.{leb}
 use lib.IntN.{ℤ}
 use lib.ListN.{length}
@@ -16,44 +16,37 @@ use Rattle.rules.specs.declared.Flight.{Flight}
 use Rattle.rules.specs.declared.Reason.the-variants as reason
 use Rattle.rules.specs.declared.Refusal.{Refusal}
 use Rattle.rules.proofs.Inverse.{refuses-says}
-use Rattle.cut.specs.Steps.{unplaced}
 use Rattle.next_fix.specs.Steps.{stepOf}
-use Rattle.next_fix.specs.Track.{trackSeal, trackOf}
-use Rattle.next_fix.specs.declared.FixStep.{FixStep}
-use Rattle.next_fix.specs.declared.Progress.{Progress}
-use Rattle.next_fix.specs.declared.Record.{Record}
-use Rattle.track.specs.Stored.{fixesFrom}
-use Rattle.track.specs.Tracks.{trackedTold, startBy, fixSize, CourseTold, CoursePlanned}
-use Rattle.track.specs.declared.Course.{Course}
-use Rattle.track.specs.declared.Tracked.the-variants as tracked
+use Rattle.records.specs.Track.{trackSeal, trackOf}
+use Rattle.records.specs.declared.FixStep.{FixStep}
+use Rattle.records.specs.declared.Progress.{Progress}
+use Rattle.records.specs.declared.Record.{Record}
+use Rattle.records.specs.Stored.{fixesFrom}
+use Rattle.course.specs.Courses.{trackedTold, startBy, fixSize, CourseTold}
+use Rattle.track.specs.Tracks.{CoursePlanned}
+use Rattle.course.specs.declared.Course.{Course}
+use Rattle.course.specs.declared.Tracked.the-variants as tracked
 use Rattle.track.proofs.Accepted.{file-short}
 use Rattle.track.proofs.Tracking.{found-all}
-use Rattle.summary.specs.Filled.{filled}
-use Rattle.summary.specs.Summaries.{summedTold, countSaid, countAfter, FixesSummed, FileSummed}
-use Rattle.summary.specs.Summary.{runsOf, sizeOf, updated, fixesIn, flightSummed, summarySaid, updatedBy, summaryAfter}
-use Rattle.summary.specs.declared.Summed.{Summed}
-use Rattle.summary.specs.declared.Summed.the-variants as summed
+use Rattle.reckon.specs.Filled.{filled}
+use Rattle.reckon.specs.Reckoned.{summedTold, countSaid, countAfter, fewSaid, fewAfter, FixesSummed}
+use Rattle.summary.specs.Summaries.{FileSummed}
+use Rattle.reckon.specs.Summary.{runsOf, sizeOf, updated, fixesIn, flightSummed, summarySaid, updatedBy, summaryAfter}
+use Rattle.reckon.specs.declared.Summed.{Summed}
+use Rattle.reckon.specs.declared.Summed.the-variants as summed
 use Rattle.summary.proofs.Telling.{Fits}
 use Rattle.summary.proofs.Filling.{filled-is}
 use Rattle.summary.proofs.Fitting.{fixes-fit, few-fixes, track-fits}
 
--- ---- by the number of fixes
+-- ---- a number of fixes that a file can have
 
-module _ (step : Progress → FixStep) (start : Progress) (count old : ℕ) (list : List ℤ) where
-  pub old-over : (w : Refusal) → count < old → w ≡ unplaced reason.BadValue → FixesSummed step start count old list (summed.Refused w) list
-  unfolding summedTold countSaid countAfter
-  old-over w h e = record { told = rw (lt-leb old count h, e); numbers = rw (lt-leb old count h) }
+pub few-told : (count old room : ℕ) → count ≤ 16777216 → fewSaid count old room ≡ countSaid count old room
+unfolding fewSaid
+few-told count old room h = rw (le-leb count 16777216 h)
 
-  pub list-short : (w : Refusal) → old ≤ count → length list < sizeOf (runsOf count) → w ≡ unplaced reason.NoRoom → FixesSummed step start count old list (summed.Refused w) list
-  unfolding summedTold countSaid countAfter
-  list-short w g h e =
-      record { told = rw (le-leb old count g, lt-leb (sizeOf (runsOf count)) (length list) h, e); numbers = rw (le-leb old count g, lt-leb (sizeOf (runsOf count)) (length list) h) }
-
-  pub list-filled : (after : List ℤ) → old ≤ count → sizeOf (runsOf count) ≤ length list → after ≡ filled step start count (old / 256) list
-      → FixesSummed step start count old list (summed.Runs (runsOf count)) after
-  unfolding summedTold countSaid countAfter
-  list-filled after g h e =
-      record { told = rw (le-leb old count g, le-leb (sizeOf (runsOf count)) (length list) h); numbers = rw (le-leb old count g, le-leb (sizeOf (runsOf count)) (length list) h) e }
+pub few-left : (step : Progress → FixStep) (start : Progress) (count old : ℕ) (list : List ℤ) → count ≤ 16777216 → fewAfter step start count old list ≡ countAfter step start count old list
+unfolding fewAfter
+few-left step start count old list h = rw (le-leb count 16777216 h)
 
 -- ---- of an accepted file
 
@@ -116,9 +109,10 @@ module _ (file : List ℕ) (c : Course) (planned : CoursePlanned file (length fi
   pub file-summed : (n : ℕ) (r : Summed) (after : List ℤ) → c .answer ≡ tracked.Count n → FixesSummed (stepOf file) (c .start) n old list r after → FileSummed file old list r after
   unfolding countAfter
   file-summed n r after g w = record {
-    told = w .told ∙ ap (λ (k : ℕ). countSaid k old (length list)) (x .count) ∙ sym (said-accepted file old (length list) f (x .accepted));
+    told = w .told ∙ few-told n old (length list) (count-small n g) ∙ ap (λ (k : ℕ). countSaid k old (length list)) (x .count) ∙ sym (said-accepted file old (length list) f (x .accepted));
     numbers =
         w .numbers
+        ∙ few-left (stepOf file) (c .start) n old list (count-small n g)
         ∙ by (leb old n) refl (leb (sizeOf (runsOf n)) (length list)) refl
         ∙ ap (λ (rs : List Record). Put n rs) found
         ∙ ap (λ (k : ℕ). Put k (trackOf file (f .layouts .b))) (x .count)

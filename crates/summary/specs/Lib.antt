@@ -1,4 +1,2 @@
--- The summary of a flight, and the promises of this crate.
-pub mod Summary
-pub mod Filled
+-- The promise of this crate.
 pub mod Summaries

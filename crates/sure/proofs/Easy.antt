@@ -1,6 +1,6 @@
 -- A line whose columns are mild and whose other bytes are read as a time or within bounds has mild bytes alone: digits are mild, and so are the bounds. Assumes nothing.
 use Prim.Native.Nat.{ℕ, zero, suc, _+_, _-_, _*_, _≤_}
-use mathlib.Core.Bool.{Bool, true, false, cond, _&&_, _||_}
+use mathlib.Core.Bool.{Bool, true, false, _&&_, _||_}
 use mathlib.Core.List.{List, [], _∷_}
 use mathlib.Core.Option.{Option, none, some}
 use mathlib.Core.Path.{_≡_, refl, sym, _∙_}
@@ -8,7 +8,6 @@ use native.Mathlib.Omega.{arith}
 use borrow.Author.Tests.{leb-true, le-leb, eq-eqb}
 use lib.Dec.{leb}
 use lib.ListN.{length, getD, drop, length-drop}
-use lib.Seq.{drop-drop}
 use Rattle.rules.specs.Families.{firstStart}
 use Rattle.rules.specs.Choice.{leads, given, need, byte, bytes}
 use Rattle.rules.specs.Chars.{isDigit}
@@ -18,11 +17,10 @@ use Rattle.rules.specs.Numbers.{spell, numberAt}
 use Rattle.rules.specs.declared.Family.{Family}
 use Rattle.rules.specs.declared.Family.the-variants as family
 use Rattle.rules.specs.declared.Time.{Time}
-use Rattle.number.proofs.Laws.{digit-low, digit-high}
+use Rattle.number.proofs.Laws.{digit-low, digit-high, cond-some}
 use Rattle.plain.specs.Plain.{isPlain, isMild, every}
 use Rattle.rules.proofs.Inverse.{and-inv}
 use Rattle.plain.proofs.Laws.{plain-mild}
-use Rattle.front.proofs.There.{cond-some}
 use Rattle.front.specs.Front.{between, isWithin, lows, highs, nears, isBounded, isFront}
 use Rattle.sure.specs.Sure.{keepsPattern, isEasy, fieldsTime, cleanTime, patternTime, sureTime}
 use Rattle.sure.proofs.Laws.{front-time}

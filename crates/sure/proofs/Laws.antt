@@ -1,12 +1,12 @@
 -- The pattern of a layout, an entry at a time; and a pattern that is kept, a column at a time. Assumes nothing.
 use Prim.Native.Nat.{ℕ, suc, _+_, _*_, _/_, _≤_, _<_}
-use mathlib.Core.Bool.{Bool, true, false, _&&_, _||_}
+use mathlib.Core.Bool.{Bool, true, false}
 use mathlib.Core.List.{List, [], _∷_}
 use mathlib.Core.Option.{Option, none, some}
-use mathlib.Core.Path.{_≡_, refl, sym, ap, _∙_}
+use mathlib.Core.Path.{_≡_, refl, sym, _∙_}
 use native.Mathlib.Omega.{arith}
 use borrow.Author.Tests.{ne-eqb}
-use lib.ListN.{length, getD, set, take, drop, replicate, length-take, length-drop, drop-of-length-le}
+use lib.ListN.{length, getD, set, drop, length-take, length-drop, drop-of-length-le}
 use lib.Seq.{sets, drop-cons, getD-take}
 use Rattle.rules.specs.Choice.{given, on, part, byte}
 use Rattle.rules.specs.Fields.{mostLatitude, mostLongitude, timeAt, timeTold}
@@ -14,7 +14,6 @@ use Rattle.rules.specs.Layouts.{unused, entriesOf}
 use Rattle.rules.specs.Lines.{fixFields, atLimit}
 use Rattle.rules.specs.Reads.{fixFieldsTold}
 use Rattle.rules.specs.Refusals.{Said, breaks}
-use Rattle.rules.specs.declared.Entry.{Entry}
 use Rattle.rules.specs.declared.FixFields.{FixFields}
 use Rattle.rules.specs.declared.FixFieldsRead.{FixFieldsRead}
 use Rattle.rules.specs.declared.FixFieldsRead.the-variants as fixFieldsRead

@@ -5,18 +5,17 @@ use mathlib.Core.List.{List, [], _∷_}
 use mathlib.Core.Option.{Option, none, some}
 use mathlib.Core.Path.{_≡_, refl, sym, ap, _∙_}
 use native.Mathlib.Omega.{arith}
-use borrow.Author.Tests.{leb-true, le-leb, eqb-true}
+use borrow.Author.Tests.{leb-true, le-leb, eqb-true, not-true}
 use lib.Dec.{eqb, leb}
 use lib.ListN.{length, getD, take, drop}
 use lib.Seq.{drop-drop}
 use Rattle.rules.specs.Families.{firstStart}
 use Rattle.rules.specs.Choice.{leads, firstOf, given, need, part, byte}
 use Rattle.rules.specs.Chars.{isDigit, characters}
-use Rattle.rules.specs.Fields.{timeAt}
 use Rattle.rules.specs.Layouts.{entriesOf, spanOf, columnText, badColumn, columns, lineLength, withEntry, isSaid, isSpelt, placed, allPlaced, allowed}
 use Rattle.rules.specs.Lines.{isSized, shaped, shapedBy, bLine, extraLine, columnedLine, fixFields, atLimit}
 use Rattle.rules.specs.Listed.{listedNumber, listed, unlisted, isDigits, keepsSign, keepsRule, offLimit, isPast, keepsLimit}
-use Rattle.rules.specs.Refusals.{Said, says, refuses, no}
+use Rattle.rules.specs.Refusals.{Said, says, refuses}
 use Rattle.rules.specs.declared.AtLimit.{AtLimit}
 use Rattle.rules.specs.declared.Entry.{Entry}
 use Rattle.rules.specs.declared.Family.{Family}
@@ -24,7 +23,7 @@ use Rattle.rules.specs.declared.Family.the-variants as family
 use Rattle.rules.specs.declared.FixFields.{FixFields}
 use Rattle.rules.specs.declared.Layout.{Layout}
 use Rattle.plain.specs.Plain.{isMild, every}
-use Rattle.rules.proofs.Inverse.{and-inv}
+use Rattle.rules.proofs.Inverse.{and-inv, or-inv}
 use Rattle.plain.proofs.Laws.{mild-valid}
 use Rattle.sure.specs.Sure.{ruleOf, keepsAs, patternOf, keepsPattern, belowTime, timeOf, fieldsTime, sureTime}
 
@@ -116,10 +115,6 @@ module _ (l : List ℕ) (least : ℕ) (one : 1 ≤ least) (d : isDigits (drop (b
       let last : e .first ≤ e .last = leb-true (e .first) (e .last) (q .0) in
       rw (column-digits e (omega arith)) (none-by-digits es (e .last + 1) (withEntry before e) (suc n) (omega arith) (s .1))
 
-or-inv : {P : Type 0} (p q : Bool) → (p || q) ≡ true → (p ≡ true → P) → (q ≡ true → P) → P
-or-inv true q e f g = f refl
-or-inv false q e f g = g e
-
 -- the columns of a line with no coordinate at its limit keep their rules
 columns-said : (f : Family) (l : List ℕ) (layout : Layout) → allowed (firstStart f) layout ≡ true → (isDigits (drop (byte (firstStart f)) l) || keepsPattern l (patternOf (entriesOf layout))) ≡ true
     → columns offLimit l layout ≡ says tt
@@ -167,10 +162,6 @@ record FieldsTimed (s : Said FixFields) (t : ℕ) : Type 0 where
   time : fix .time ≡ t
   off : atLimit fix ≡ offLimit
 
-is-not : (t : Bool) → not t ≡ true → t ≡ false
-is-not true e = sym e
-is-not false e = refl
-
 limits : (a b : AtLimit) → a .lat ≡ b .lat → a .lon ≡ b .lon → a ≡ b
 limits a b e f = ap (λ (x : Bool). record { lat = x; lon = a .lon }) e ∙ ap (λ (y : Bool). record { lat = b .lat; lon = y }) f
 
@@ -180,7 +171,7 @@ fields-timed (says f) t e =
     let a = need-some (not (atLimit f .lat)) _ t e in
     let b = need-some (not (atLimit f .lon)) _ t (a .1) in
     let same : some (f .time) ≡ some t = b .1 in
-    record { fix = f; read = refl; time = cc; off = limits (atLimit f) offLimit (is-not (atLimit f .lat) (a .0)) (is-not (atLimit f .lon) (b .0)) }
+    record { fix = f; read = refl; time = cc; off = limits (atLimit f) offLimit (not-true (atLimit f .lat) (a .0)) (not-true (atLimit f .lon) (b .0)) }
 fields-timed (refuses n l b) t e = let z : _≡_ {A = ℕ} 0 1 = cc in absurd (omega arith)
 
 fix-said : (layout : Layout) (l : List ℕ) (f : FixFields) → shapedBy (firstStart family.B) layout l ≡ says tt → fixFields l ≡ says f → atLimit f ≡ offLimit → columns offLimit l layout ≡ says tt → bLine layout l ≡ says f

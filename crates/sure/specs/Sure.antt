@@ -9,7 +9,7 @@ use lib.Dec.{eqb}
 use lib.ListN.{length, getD, drop, replicate}
 use lib.Seq.{sets}
 use Rattle.rules.specs.Families.{firstStart}
-use Rattle.rules.specs.Choice.{given, need, part, byte, bytes}
+use Rattle.rules.specs.Choice.{given, need, part, byte}
 use Rattle.rules.specs.Fields.{timeAt, timeTold}
 use Rattle.rules.specs.Layouts.{entriesOf}
 use Rattle.rules.specs.Lines.{fixFields, atLimit}

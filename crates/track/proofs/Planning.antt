@@ -1,4 +1,4 @@
--- What the check says of a file, made into a plan: each way out of `plan` and of its parts is a way through `flightTracked`. Assumes nothing.
+-- What the check says of a file, made into a plan: each way out of `plan` is a way through `flightTracked`. Assumes nothing.
 use Prim.Native.Nat.{ℕ, _≤_, _<_}
 use mathlib.Core.Bool.{Bool, true, false}
 use mathlib.Core.List.{List}
@@ -22,38 +22,15 @@ use Rattle.rules.specs.declared.Outcome.the-variants as outcomes
 use Rattle.rules.specs.declared.Reason.the-variants as reason
 use Rattle.rules.specs.declared.Refusal.{Refusal}
 use Rattle.rules.proofs.Inverse.{refuses-says}
-use Rattle.cut.specs.Steps.{unplaced}
-use Rattle.next_fix.specs.Track.{trackSeal, flightTracked}
-use Rattle.next_fix.specs.declared.Progress.{Progress}
-use Rattle.track.specs.Tracks.{trackedTold, startBy, fixSize, countIn, CourseTold, FlightPlanned, CoursePlanned}
-use Rattle.track.specs.declared.Course.{Course}
-use Rattle.track.specs.declared.Tracked.the-variants as tracked
-
--- ---- the length of a B line
-
-module _ (s : Said ℕ) (r : LengthRead) (e : lengthTold r ≡ s) where
-  pub size-bytes : (n : ℕ) → r ≡ lengthRead.Bytes n → n ≡ valueOr 0 s
-  unfolding lengthTold
-  size-bytes n g = rw (← e, g)
-
-  pub size-none : (w : Refusal) → r ≡ lengthRead.Refused w → 0 ≡ valueOr 0 s
-  unfolding lengthTold
-  size-none w g = rw (← e, g)
+use Rattle.cut.specs.Ends.{unplaced}
+use Rattle.records.specs.Track.{trackSeal, flightTracked}
+use Rattle.records.specs.declared.Progress.{Progress}
+use Rattle.course.specs.Courses.{trackedTold, startBy, fixSize, countIn, CourseTold, FlightPlanned}
+use Rattle.track.specs.Tracks.{CoursePlanned}
+use Rattle.course.specs.declared.Course.{Course}
+use Rattle.course.specs.declared.Tracked.the-variants as tracked
 
 -- ---- the plan
-
-pub refused-told : (w : Refusal) (start : Progress) → start ≡ startBy 0 emptyLayout → CourseTold (refusal w) (record { answer = tracked.Refused w; count = 0; start = start })
-unfolding trackedTold
-refused-told w start e = record { told = refl; count = refl; start = e }
-
-module _ (f : Flight) (room : ℕ) where
-  pub flight-short : (w : Refusal) (r : Course) → room < countOf family.B (f .counts) → w ≡ unplaced reason.NoRoom → CourseTold (refusal w) r → FlightPlanned f room r
-  flight-short w r h e t = rw (lt-leb (countOf family.B (f .counts)) room h) (rw e at t)
-
-  pub flight-fits : (size : ℕ) (start : Progress) → countOf family.B (f .counts) ≤ room → size ≡ fixSize f → start ≡ startBy size (f .layouts .b)
-      → FlightPlanned f room (record { answer = tracked.Count (countOf family.B (f .counts)); count = countOf family.B (f .counts); start = start })
-  unfolding trackedTold
-  flight-fits size start h e g = rw (le-leb (countOf family.B (f .counts)) room h) (record { told = refl; count = refl; start = g ∙ ap (λ (n : ℕ). startBy n (f .layouts .b)) e })
 
 -- a refusal with no value, as one of a flight
 flightless : Said (Unit {0}) → Said Flight

@@ -31,11 +31,12 @@ use Rattle.demands.specs.Grammar.{beginning}
 use Rattle.finer.specs.Within.{fixWithin}
 use Rattle.finer.proofs.Read.{fix-made}
 use Rattle.next_fix.specs.Steps.{walkOf, behind, skipped, passedBy, readAt, isFew, stepOf}
-use Rattle.next_fix.specs.Track.{recordOf, recordsOf, trackFrom}
-use Rattle.next_fix.specs.declared.FixStep.{FixStep}
-use Rattle.next_fix.specs.declared.Progress.{Progress}
-use Rattle.next_fix.specs.declared.Record.{Record}
-use Rattle.track.specs.Stored.{fixesFrom}
+use Rattle.records.specs.Track.{recordOf, recordsOf, trackFrom}
+use Rattle.records.specs.declared.FixStep.{FixStep}
+use Rattle.records.specs.declared.Progress.{Progress}
+use Rattle.records.specs.declared.Record.{Record}
+use Rattle.next_fix.proofs.Going.{walk-lines}
+use Rattle.records.specs.Stored.{fixesFrom}
 
 -- ---- a B line that reads
 
@@ -77,10 +78,6 @@ day-within back day lines h = omega arith
 pub walk-within : (o : Option ℕ) (w : Walk) → w .day ≤ w .lines → walkedBy o w .day ≤ walkedBy o w .lines
 walk-within none w h = omega arith
 walk-within (some t) w h = day-within (passing (w .clock) t) (w .day) (w .lines) h
-
-pub walk-lines : (o : Option ℕ) (w : Walk) → walkedBy o w .lines ≡ w .lines + 1
-walk-lines none w = refl
-walk-lines (some t) w = refl
 
 -- the first byte of a line, in the file
 first-there : (file t : List ℕ) (at b : ℕ) → part at (at + length t) file ≡ t → getD t 0 0 ≡ suc b → getD file at 0 ≡ suc b

@@ -7,10 +7,10 @@ use native.Mathlib.Numerals.{add-one}
 use native.Mathlib.Omega.{arith}
 use lib.ListN.{length, set, take, drop, take-append-drop}
 use lib.Seq.{drop-set-lt, take-suc-set}
-use Rattle.next_fix.specs.declared.FixStep.{FixStep}
-use Rattle.next_fix.specs.declared.Progress.{Progress}
-use Rattle.next_fix.specs.declared.Record.{Record}
-use Rattle.track.specs.Stored.{fixesFrom}
+use Rattle.records.specs.declared.FixStep.{FixStep}
+use Rattle.records.specs.declared.Progress.{Progress}
+use Rattle.records.specs.declared.Record.{Record}
+use Rattle.records.specs.Stored.{fixesFrom}
 
 -- what the list will be: t fixes from the progress c on go to place i on
 abbrev pub Will : (Progress → FixStep) → Progress → ℕ → ℕ → List Record → List Record

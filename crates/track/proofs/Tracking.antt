@@ -22,11 +22,12 @@ use Rattle.laws.proofs.Splitting.{textsOf}
 use Rattle.demands.specs.Readings.{ReadsLine}
 use Rattle.demands.proofs.EachLine.{fix-alone}
 use Rattle.next_fix.specs.Steps.{stepOf}
-use Rattle.next_fix.specs.Track.{trackSeal, trackOf, flightTracked}
-use Rattle.next_fix.specs.declared.Record.{Record}
-use Rattle.track.specs.Stored.{fixesFrom, stored}
-use Rattle.track.specs.Tracks.{startBy, fixSize, CourseTold, CoursePlanned, FileTracked}
-use Rattle.track.specs.declared.Course.{Course}
+use Rattle.records.specs.Track.{trackSeal, trackOf, flightTracked}
+use Rattle.records.specs.declared.Record.{Record}
+use Rattle.records.specs.Stored.{fixesFrom, stored}
+use Rattle.course.specs.Courses.{startBy, fixSize, CourseTold}
+use Rattle.track.specs.Tracks.{CoursePlanned, FileTracked}
+use Rattle.course.specs.declared.Course.{Course}
 use Rattle.track.proofs.Stepping.{Here, AllRead, steps-find, as-many}
 use Rattle.track.proofs.Accepted.{file-short, texts-read, letters-counted, length-told}
 
@@ -42,9 +43,6 @@ module _ (file : List ℕ) (f : Flight) (accepted : verdict trackSeal file none 
   abbrev layout : Layout
   layout = f .layouts .b
 
-  short : length file ≤ 16777216
-  short = file-short trackSeal file f accepted
-
   pub read : AllRead layout (linesOf file)
   read = all-read (f .layouts) (linesOf file) (texts-read trackSeal file f accepted)
 
@@ -52,9 +50,9 @@ module _ (file : List ℕ) (f : Flight) (accepted : verdict trackSeal file none 
   counted-all = as-many layout (linesOf file) setOut read ∙ sym (letters-counted trackSeal file f accepted family.B)
 
   pub found-all : fixesFrom (stepOf file) (startBy (fixSize f) layout) (countOf family.B (f .counts)) ≡ trackOf file layout
-  found-all = rw (← counted-all) (steps-find file short layout (linesOf file) (startBy (fixSize f) layout) here read)
+  found-all = rw (← counted-all) (steps-find file (file-short trackSeal file f accepted) layout (linesOf file) (startBy (fixSize f) layout) here read)
     where
-      here : Here file short layout (startBy (fixSize f) layout) (linesOf file)
+      here : Here file (file-short trackSeal file f accepted) layout (startBy (fixSize f) layout) (linesOf file)
       here = record { lines = refl; inside = omega arith; passed = omega arith; days = omega arith; size = length-told trackSeal file f accepted family.B; finer = refl }
 
 -- ---- the whole track

@@ -1,3 +1,2 @@
 -- The promises of this crate.
-pub mod Stored
 pub mod Tracks

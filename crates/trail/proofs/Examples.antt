@@ -15,7 +15,8 @@ use Rattle.rules.specs.declared.FineTime.{FineTime}
 use Rattle.rules.specs.declared.FinePosition.{FinePosition}
 use Rattle.rules.specs.declared.Fix.{Fix}
 use Rattle.tens.specs.Tens.{fewOf}
-use Rattle.trail.specs.Trail.{colons, behindDot, extraShown, shownSeconds, shownClock, unitsOf, withDecimals, shownDegrees, momentShown, heightsShown, recordShown}
+use Rattle.decimals.specs.Decimals.{colons, behindDot, extraShown, shownSeconds, shownClock, unitsOf, withDecimals, shownDegrees}
+use Rattle.trail.specs.Trail.{momentShown, heightsShown, recordShown}
 
 abbrev pub clock : ℕ → ℕ → FineTime
 clock count decimals = record { count = count; decimals = decimals }

@@ -1,4 +1,3 @@
--- What the proofs share, the examples, and that a line has room.
-pub mod Laws
+-- The examples, and that a line has room.
 pub mod Examples
 pub mod Room

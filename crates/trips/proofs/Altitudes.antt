@@ -1,7 +1,7 @@
 -- An altitude both ways: five digits, or a minus and four that are not all zero, read as metres exactly where those metres' text stands. Assumes nothing.
 use Prim.Native.Nat.{ℕ, zero, suc, _+_, _/_, _%_, _^_, _≤_}
 use Prim.Native.Char.{code}
-use mathlib.Core.Bool.{Bool, true, false, cond, _&&_, and-true}
+use mathlib.Core.Bool.{Bool, true, false, cond}
 use mathlib.Core.List.{List, [], _∷_, _++_}
 use mathlib.Core.Option.{none, some}
 use mathlib.Core.Path.{_≡_, refl, sym, _∙_, ap}
@@ -9,19 +9,19 @@ use native.Mathlib.Numerals.{add-one}
 use native.Mathlib.Omega.{arith}
 use borrow.Author.Tests.{le-leb, leb-true, eqb-true, eq-eqb, ne-eqb}
 use lib.Dec.{leb, eqb}
-use lib.IntN.{ℤ, pos, negsuc, negℤ, natAbs}
-use lib.Signed.{leZ, nonNeg}
-use lib.ListN.{length, getD, drop}
+use lib.IntN.{ℤ, pos, negsuc, negℤ}
+use lib.ListN.{getD, drop}
 use Rattle.rules.specs.Choice.{given, need, on}
 use Rattle.rules.specs.Chars.{isValid}
 use Rattle.rules.specs.Numbers.{numberAt, digitsOf}
 use Rattle.rules.specs.Fields.{altitudeAt, altitudeText, metresText}
 use Rattle.rules.specs.declared.Height.{Height}
 use Rattle.rules.specs.Limits.{isMetres, isAltitude}
-use Rattle.rules.proofs.Inverse.{none-some, bool-eq, given-inv, need-inv}
+use Rattle.rules.proofs.Inverse.{none-some, given-inv, need-inv}
+use Rattle.rules.proofs.Texts.{metres-length}
 use Rattle.trips.proofs.Laws.{past, byte-there, byte-here}
 use Rattle.trips.proofs.Texts.{areValid}
-use Rattle.trips.proofs.Digits.{digits-length, digits-clean, digits-front, number-there, number-here}
+use Rattle.trips.proofs.Digits.{digits-clean, digits-front, number-there, number-here}
 use Rattle.trips.proofs.Trip.{Trip}
 
 -- what an altitude that was read says of the line: the digits of metres, or a minus and the digits of metres below
@@ -73,10 +73,6 @@ text-here s at (negsuc n) r h e =
     let v = number-here s (at + 1) 4 (n + 1) r (omega arith) (omega (arith, leb-true (n + 1) 9999 h)) e₂ in
     simp (eq-eqb (getD s at 0) (code "-") m, v ∙ ap some (add-one n), le-leb 1 (suc n) (omega arith))
 
-long : (z : ℤ) → length (metresText z) ≡ 5
-long (pos n) = digits-length 5 n
-long (negsuc n) = ap suc (digits-length 4 (n + 1))
-
 clean : (z : ℤ) → areValid (metresText z) ≡ true
 unfolding areValid isValid
 clean (pos n) = digits-clean 5 n
@@ -85,7 +81,7 @@ clean (negsuc n) = digits-clean 4 (n + 1)
 pub altitude-trip : Trip altitudeAt altitudeText 5 isAltitude
 unfolding altitudeText isAltitude
 altitude-trip = record {
-  long = λ h. long (h .metres);
+  long = λ h. metres-length (h .metres);
   clean = λ h g. clean (h .metres);
   there = λ s at to h t e. text-there s at to (h .metres) t (altitude-there s at h e);
   limits = λ s at h e. within s at (h .metres) (altitude-there s at h e);
@@ -99,23 +95,3 @@ no-minus-zero s at r e =
     let m = byte-here s at (code "-") _ e in
     let e₂ = past s at 1 (at + 1) (code "-" ∷ []) _ refl refl e in
     simp (eq-eqb (getD s at 0) (code "-") m, number-here s (at + 1) 4 0 r (omega arith) (omega arith) e₂)
-
--- ---- the limits, as code tests them
-
--- "So -9,999 to 99,999."
-pub altitude-between : (h : Height) → isAltitude h ≡ (leZ (negℤ (pos 9999)) (h .metres) && leZ (h .metres) (pos 99999))
-unfolding isAltitude
-altitude-between h = go (h .metres)
-  where
-    go : (z : ℤ) → isMetres z ≡ (leZ (negsuc 9998) z && leZ z (pos 99999))
-    go (pos n) = refl
-    go (negsuc n) = bool-eq _ _ (λ e. rw and-true (le-leb n 9998 (omega (arith, leb-true (n + 1) 9999 e)))) (λ e. le-leb (n + 1) 9999 (omega (arith, leb-true n 9998 (rw and-true at e))))
-
--- by the sign and the metres from zero
-pub altitude-magnitude : (h : Height) → isAltitude h ≡ cond (nonNeg (h .metres)) (leb (natAbs (h .metres)) 99999) (leb (natAbs (h .metres)) 9999)
-unfolding isAltitude
-altitude-magnitude h = go (h .metres)
-  where
-    go : (z : ℤ) → isMetres z ≡ cond (nonNeg z) (leb (natAbs z) 99999) (leb (natAbs z) 9999)
-    go (pos n) = refl
-    go (negsuc n) = rw add-one

@@ -1,7 +1,7 @@
 -- A column at a limit, in parts: it keeps its rule, and holds zeros where its coordinate is at its limit. Zeros spell 0, so a finer count stays within the limit times its power
 -- of ten. Assumes nothing.
 use Prim.Native.Nat.{ℕ, zero, suc, _+_, _*_, _^_, _≤_, _<_}
-use mathlib.Core.Bool.{Bool, true, false, not, _&&_, _||_, cond}
+use mathlib.Core.Bool.{Bool, true, false, not, _&&_, cond}
 use mathlib.Core.List.{List, [], _∷_}
 use mathlib.Core.Logic.{_↔_, _⊎_, inl, inr}
 use mathlib.Core.Option.{Option, none, some}
@@ -18,7 +18,7 @@ use Rattle.rules.specs.Listed.{keepsRule, lad, lod, isZeros, isPast, keepsLimit
 use Rattle.rules.specs.Fixes.{decimalsOf, digitsAt, refined}
 use Rattle.rules.specs.declared.AtLimit.{AtLimit}
 use Rattle.rules.specs.declared.Reach.{Reach}
-use Rattle.rules.proofs.Inverse.{false-true, none-some, and-inv, need-inv}
+use Rattle.rules.proofs.Inverse.{false-true, none-some, and-inv, need-inv, or-neither}
 use Rattle.trips.proofs.Refined.{digits-below}
 
 -- ---- the column's rule
@@ -38,10 +38,6 @@ module _ (at : Bool) (x y : ℕ) (t : List ℕ) where
       here true false q h = refl
       here false c q h = refl
 
-either-false : (a b : Bool) → (a || b) ≡ false → (a ≡ false) × (b ≡ false)
-either-false false b e = (refl, e)
-either-false true b e = let z : _≡_ {A = ℕ} 0 1 = cc in absurd (omega arith)
-
 -- what it says of a column that it keeps its rule at a limit
 pub record AtLimits (at : AtLimit) (x : ℕ) (t : List ℕ) : Type 0 where
   pub rule : keepsRule x t ≡ true
@@ -55,7 +51,7 @@ limits-exactly at x t = (there (isPast at x t) refl, here)
     there : (p : Bool) → isPast at x t ≡ p → cond p false (keepsRule x t) ≡ true → AtLimits at x t
     there true q e = absurd (false-true e)
     there false q e =
-        let h = either-false (at .lat && (eqb x lad && not (isZeros t))) _ q in
+        let h = or-neither (at .lat && (eqb x lad && not (isZeros t))) _ q in
         record { rule = e; lat = past-one (at .lat) x lad t .0 (h .0); lon = past-one (at .lon) x lod t .0 (h .1) }
 
     here : AtLimits at x t → keepsLimit at x t ≡ true

@@ -14,7 +14,8 @@ use Rattle.rules.specs.Fields.{isLeap, months, daysOf, yearOf, dateAt, dateText
 use Rattle.rules.specs.declared.Date.{Date}
 use Rattle.rules.specs.Limits.{isDate}
 use Rattle.rules.proofs.Inverse.{none-some, false-true, given-inv, need-inv, and-inv}
-use Rattle.trips.proofs.Digits.{number-there, pairs-length, pairs-clean, pairs-there, pairs-here}
+use Rattle.rules.proofs.Texts.{pairs-length}
+use Rattle.trips.proofs.Digits.{number-there, pairs-clean, pairs-there, pairs-here}
 use Rattle.trips.proofs.Trip.{Trip}
 
 -- ---- the days of a month, and the years of two digits

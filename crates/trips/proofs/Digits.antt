@@ -8,20 +8,15 @@ use native.Mathlib.Nat.{add-zero, pow-suc, pow-succ', one-le-pow, div-div-eq-div
 use native.Mathlib.Omega.{arith}
 use borrow.Author.Tests.{le-leb, leb-true}
 use lib.Dec.{leb}
-use lib.ListN.{length, drop, length-append}
+use lib.ListN.{drop}
 use lib.Seq.{drop-drop}
-use Rattle.rules.specs.Choice.{leads}
 use Rattle.rules.specs.Chars.{isDigit}
 use Rattle.rules.specs.Numbers.{spell, numberAt, digitsOf, pairsText}
 use Rattle.rules.proofs.Inverse.{none-some, need-inv}
+use Rattle.rules.proofs.Texts.{digits-length}
 use Rattle.trips.proofs.Laws.{past}
 use Rattle.trips.proofs.Texts.{areValid, digit-range, digit-valid, both-valid}
 use Rattle.trips.proofs.Trip.{Trip}
-
-pub digits-length : (n v : ℕ) → length (digitsOf n v) ≡ n
-unfolding digitsOf
-digits-length zero v = refl
-digits-length (suc n) v = rw (length-append, digits-length n (v / 10)) (omega arith)
 
 -- the first of the digits
 pub digits-front : (n v : ℕ) → digitsOf (suc n) v ≡ (48 + v / 10 ^ n % 10) ∷ digitsOf n v
@@ -105,12 +100,6 @@ number-there s at n to v t e =
 
 -- ---- the trip
 
--- each of them is a digit
-pub digits-are : (n v : ℕ) → leads isDigit n (digitsOf n v) ≡ true
-unfolding leads digitsOf
-digits-are zero v = refl
-digits-are (suc n) v = rw (digits-front n v, digit-is (v / 10 ^ n % 10) (omega arith)) (digits-are n v)
-
 pub digits-clean : (n v : ℕ) → areValid (digitsOf n v) ≡ true
 unfolding digitsOf areValid
 digits-clean zero v = refl
@@ -128,9 +117,6 @@ number-trip n most h m = record {
 }
 
 -- ---- three pairs of digits, as a time and a date have them
-
-pub pairs-length : (a b c : ℕ) → length (pairsText a b c) ≡ 6
-pairs-length a b c = simp (length-append, digits-length)
 
 -- together they are the digits of one number
 pub pairs-join : (a b c : ℕ) → b ≤ 99 → c ≤ 99 → pairsText a b c ≡ digitsOf 6 (a * 10000 + (b * 100 + c))

@@ -7,7 +7,7 @@ use mathlib.Core.Path.{_≡_, refl, _∙_, ap}
 use native.Mathlib.Omega.{arith}
 use borrow.Author.Tests.{eqb-true, ne-eqb}
 use lib.Dec.{eqb}
-use lib.ListN.{length, drop}
+use lib.ListN.{drop}
 use Rattle.rules.specs.Choice.{given}
 use Rattle.rules.specs.Numbers.{numberAt}
 use Rattle.rules.specs.Fields.{dateAt, dateText}
@@ -18,8 +18,9 @@ use Rattle.rules.specs.declared.Planned.{Planned}
 use Rattle.rules.specs.declared.Planned.the-variants as planned
 use Rattle.rules.specs.Limits.{isPlanned}
 use Rattle.rules.proofs.Inverse.{none-some, given-inv}
+use Rattle.rules.proofs.Texts.{planned-length}
 use Rattle.trips.proofs.Texts.{areValid}
-use Rattle.trips.proofs.Digits.{digits-length, digits-clean, number-there, number-here, pairs-join}
+use Rattle.trips.proofs.Digits.{digits-clean, number-there, number-here, pairs-join}
 use Rattle.trips.proofs.Dates.{date-trip, date-within}
 use Rattle.trips.proofs.Trip.{Trip}
 
@@ -63,11 +64,6 @@ text-here s at (planned.On d) r h e =
     let n = number-here s at 6 v r (omega arith) (omega arith) (rw (pairs-join (d .day) (d .month) (d .year % 100) (omega arith) (omega arith)) at e) in
     simp (n, ne-eqb v 0 (omega arith), date-trip .here s at d r h e)
 
-long : (f : Planned) → length (plannedText f) ≡ 6
-unfolding plannedText
-long (planned.On d) = date-trip .long d
-long planned.NotGiven = digits-length 6 0
-
 clean : (f : Planned) → isPlanned f ≡ true → areValid (plannedText f) ≡ true
 unfolding plannedText isPlanned
 clean (planned.On d) g = date-trip .clean d g
@@ -75,7 +71,7 @@ clean planned.NotGiven g = digits-clean 6 0
 
 pub planned-trip : Trip plannedAt plannedText 6 isPlanned
 planned-trip = record {
-  long = long;
+  long = planned-length;
   clean = clean;
   there = λ s at to f t e. text-there s at to f t (planned-there s at f e);
   limits = λ s at f e. within s at f (planned-there s at f e);

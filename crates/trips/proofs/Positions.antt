@@ -16,9 +16,10 @@ use Rattle.rules.specs.Fields.{isEither, positionAt, positionText, latitudeAt, 
 use Rattle.rules.specs.Degrees.{isPosition, isLatitude, isLongitude}
 use Rattle.rules.specs.declared.Position.{Position}
 use Rattle.rules.proofs.Inverse.{none-some, given-inv, need-inv, and-inv}
+use Rattle.rules.proofs.Texts.{digits-length}
 use Rattle.trips.proofs.Laws.{past, byte-there, byte-here}
 use Rattle.trips.proofs.Texts.{areValid, both-valid, valid-low}
-use Rattle.trips.proofs.Digits.{digits-length, digits-clean, number-there, number-here}
+use Rattle.trips.proofs.Digits.{digits-clean, number-there, number-here}
 use Rattle.trips.proofs.Trip.{Trip}
 
 -- one of two valid characters is valid

@@ -1,6 +1,6 @@
 -- The tests of equal values: each holds of two values exactly when they are one. Assumes nothing.
 use mathlib.Core.Bool.{Bool, true, _&&_}
-use mathlib.Core.Path.{_≡_, refl, sym, _∙_, ap}
+use mathlib.Core.Path.{_≡_, refl, ap}
 use mathlib.Core.Logic.{_↔_}
 use borrow.Author.Tests.{eqb-true, eq-eqb}
 use lib.Dec.{eqb}
@@ -15,9 +15,6 @@ use Rattle.rules.proofs.Inverse.{false-true, and-inv}
 pub record Tells {A : Type 0} (same : A → A → Bool) : Type 0 where
   pub itself : (a : A) → same a a ≡ true
   pub one : (a b : A) → same a b ≡ true → a ≡ b
-
-pub same-one : {A : Type 0} {same : A → A → Bool} → Tells same → (a b : A) → (same a b ≡ true) ↔ (a ≡ b)
-same-one {same = same} t a b = (t .one a b, λ e. ap (λ x. same a x) (sym e) ∙ t .itself a)
 
 pub number-tells : Tells eqb
 number-tells = record { itself = λ n. eq-eqb n n refl; one = eqb-true }

@@ -2,7 +2,7 @@
 use Prim.Native.Nat.{ℕ, _+_, _*_, _/_, _%_, _≤_}
 use mathlib.Core.Bool.{Bool, true, false}
 use mathlib.Core.List.{List, _++_}
-use mathlib.Core.Logic.{_⊎_, inl, inr}
+use mathlib.Core.Logic.{inl, inr}
 use mathlib.Core.Option.{none, some}
 use mathlib.Core.Path.{_≡_, refl}
 use native.Mathlib.Omega.{arith}
@@ -14,7 +14,8 @@ use Rattle.rules.specs.Fields.{isSecond, timeAt, timeText}
 use Rattle.rules.specs.Limits.{isTime}
 use Rattle.rules.proofs.Inverse.{none-some, given-inv, need-inv}
 use Rattle.rules.proofs.Times.{SecondIn, second-inv, by-pairs}
-use Rattle.trips.proofs.Digits.{pairs-length, pairs-clean, pairs-there, pairs-here}
+use Rattle.rules.proofs.Texts.{pairs-length}
+use Rattle.trips.proofs.Digits.{pairs-clean, pairs-there, pairs-here}
 use Rattle.trips.proofs.Texts.{areValid}
 use Rattle.trips.proofs.Trip.{Trip}
 

@@ -1,5 +1,5 @@
 -- A field both ways, whatever field it is: what `Trip` asks of a reader and a text, and what follows from it. Assumes nothing.
-use Prim.Native.Nat.{ℕ, _+_, _-_, _≤_, _<_}
+use Prim.Native.Nat.{ℕ, _+_, _≤_, _<_}
 use mathlib.Core.Bool.{Bool, true}
 use mathlib.Core.List.{List, [], _++_, append-nil}
 use mathlib.Core.Option.{Option, some}
@@ -7,8 +7,6 @@ use mathlib.Core.Path.{_≡_, refl, sym, ap}
 use mathlib.Core.Logic.{_↔_}
 use native.Mathlib.Omega.{arith}
 use lib.ListN.{length, drop, length-append, length-drop}
-use lib.Seq.{take-at, drop-append-seam}
-use Rattle.rules.specs.Choice.{part}
 use Rattle.trips.proofs.Texts.{areValid}
 
 -- `read` finds a value exactly where the value's text stands, `width` bytes of valid characters, and the value is within its limits.
@@ -20,16 +18,6 @@ pub record Trip {A : Type 0} (read : List ℕ → ℕ → Option A) (text : A �
   pub here : (s : List ℕ) (at : ℕ) (v : A) (r : List ℕ) → within v ≡ true → drop at s ≡ text v ++ r → read s at ≡ some v
 
 module _ {A : Type 0} {read : List ℕ → ℕ → Option A} {text : A → List ℕ} {width : ℕ} {within : A → Bool} (trip : Trip read text width within) where
-  -- written, then read: the value's text, with anything before and behind it, reads as the value
-  pub written-read : (v : A) (before behind : List ℕ) → within v ≡ true → read (before ++ (text v ++ behind)) (length before) ≡ some v
-  written-read v before behind h = trip .here _ (length before) v behind h (drop-append-seam before (text v ++ behind))
-
-  -- read, then written: the bytes that were read are the value's text
-  pub read-written : (s : List ℕ) (at : ℕ) (v : A) → read s at ≡ some v → part at (at + width) s ≡ text v
-  read-written s at v e =
-      let n : at + width - at ≡ width = omega arith in
-      rw (n, trip .there s at (at + width) v refl e) (take-at (text v) (drop (at + width) s) width (trip .long v))
-
   -- the whole field stands there
   pub reaches : (s : List ℕ) (at : ℕ) (v : A) → 0 < width → read s at ≡ some v → at + width ≤ length s
   reaches s at v p e =
@@ -39,7 +27,3 @@ module _ {A : Type 0} {read : List ℕ → ℕ → Option A} {text : A → List 
   -- a value is within its limits exactly when its own text reads as it
   pub exactly : (v : A) → (read (text v) 0 ≡ some v) ↔ (within v ≡ true)
   exactly v = (trip .limits (text v) 0 v, λ h. trip .here (text v) 0 v [] h (sym (append-nil (text v))))
-
-  -- and exactly when any text at any place does, which then is its own
-  pub somewhere : (v : A) → ((s : List ℕ) × (at : ℕ) × (read s at ≡ some v)) ↔ (within v ≡ true)
-  somewhere v = (λ t. trip .limits (t .0) (t .1) v (t .2), λ h. (text v, 0, exactly v .1 h))

@@ -137,7 +137,7 @@ pub fn read(line: &[u8], told: Told) -> Told {
     let fixes = told.fixes;
     let extras = told.extras;
     let unsigned = told.unsigned;
-    let kind = line::kind_of(chars::byte(line, 0));
+    let kind = kind::kind_of(chars::byte(line, 0));
     match kind {
         Kind::I => Told {
             fixes: print_layout(Family::B, line, fixes),

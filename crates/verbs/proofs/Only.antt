@@ -6,11 +6,9 @@ use mathlib.Core.Option.{Option, none, some}
 use mathlib.Core.Path.{_≡_, refl, sym, ap, _∙_}
 use Rattle.verbs.specs.Words.{VerbGiven, OptionTest, NamesTest}
 use Rattle.verbs.specs.Deeds.{flightTold, DeedGiven, FlightGiven}
-use Rattle.verbs.specs.Status.{StatusGiven, WorseGiven}
 use Rattle.verbs.specs.declared.deeds.Deed.{Deed}
 use Rattle.verbs.specs.declared.deeds.Flight.{Flight}
 use Rattle.verbs.specs.declared.deeds.Flight.the-variants.{Is, NoFlight}
-use Rattle.verbs.specs.declared.Fate.{Fate}
 use Rattle.verbs.specs.declared.Verb.{Verb}
 
 pub only-verb-given : (word : List ℕ) (r r′ : Verb) → VerbGiven word r → VerbGiven word r′ → r ≡ r′
@@ -21,12 +19,6 @@ only-option-test word r r′ e e′ = e ∙ sym e′
 
 pub only-names-test : (word : List ℕ) (r r′ : Bool) → NamesTest word r → NamesTest word r′ → r ≡ r′
 only-names-test word r r′ e e′ = e ∙ sym e′
-
-pub only-status-given : (fate : Fate) (r r′ : ℕ) → StatusGiven fate r → StatusGiven fate r′ → r ≡ r′
-only-status-given fate r r′ e e′ = e ∙ sym e′
-
-pub only-worse-given : (a b r r′ : ℕ) → WorseGiven a b r → WorseGiven a b r′ → r ≡ r′
-only-worse-given a b r r′ e e′ = e ∙ sym e′
 
 pub only-deed-given : (word : List ℕ) (r r′ : Deed) → DeedGiven word r → DeedGiven word r′ → r ≡ r′
 only-deed-given word r r′ e e′ = e ∙ sym e′

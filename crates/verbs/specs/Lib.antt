@@ -1,4 +1,3 @@
--- The words of the program igc, and its exit status.
+-- The words of the program igc.
 pub mod Words
 pub mod Deeds
-pub mod Status

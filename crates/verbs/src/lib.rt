@@ -1,9 +1,8 @@
-// What the words of the program igc mean, and with which status it ends.
+// What the words of the program igc mean.
 mod deeds;
 
 ghost use mathlib.Core.Path.{_≡_};
 ghost use Rattle.verbs.specs.Words.{same, aboutOf, VerbGiven, OptionTest, NamesTest};
-ghost use Rattle.verbs.specs.Status.{StatusGiven, WorseGiven};
 pub use deeds::Deed;
 pub use deeds::Flight;
 pub use deeds::deed_of;
@@ -20,14 +19,6 @@ pub enum Verb {
     Help,
     Version,
     NoVerb,
-}
-
-// What became of a file.
-pub enum Fate {
-    Accepted,
-    Refused,
-    Unread,
-    Unwritten,
 }
 
 // Whether two texts are the same.
@@ -104,26 +95,4 @@ pub fn begins_names(word: &[u8]) -> bool
     ensures { λ r. ⌜ NamesTest (now (word .entry)) r ⌝ }
 {
     is_same(word, b"--")
-}
-
-// The status of a call on one file.
-pub fn status_of(fate: Fate) -> u32
-    ensures { λ r. ⌜ StatusGiven fate r ⌝ }
-{
-    match fate {
-        Fate::Accepted => 0,
-        Fate::Refused => 1,
-        Fate::Unread => 2,
-        Fate::Unwritten => 2,
-    }
-}
-
-// The status of two calls in one: 2 wins over 1, and 1 over 0.
-pub fn worse(a: u32, b: u32) -> u32
-    ensures { λ r. ⌜ WorseGiven a b r ⌝ }
-{
-    if b <= a {
-        return a;
-    }
-    b
 }

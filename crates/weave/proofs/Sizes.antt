@@ -1,15 +1,16 @@
 -- How long the notes of two slices can be, woven into one: not longer than the slices, but for the CR LF that each may lack at its end. Assumes nothing.
 use Prim.Native.Nat.{ℕ, suc, _+_, _≤_}
-use mathlib.Core.Bool.{Bool, true, false}
-use mathlib.Core.List.{List, [], _∷_, _++_, map}
+use mathlib.Core.Bool.{Bool}
+use mathlib.Core.List.{List, [], _∷_, map}
 use mathlib.Core.Path.{_≡_, refl, sym, _∙_, ap}
 use native.Mathlib.Numerals.{add-one}
 use native.Mathlib.Omega.{arith}
 use lib.Dec.{eqb}
 use lib.ListN.{length, drop, length-append}
 use lib.Seq.{drop-drop}
+use Rattle.rules.proofs.Inverse.{by-bool}
 use Rattle.sorted.specs.Ways.{insert, into, after, rest, meet, weave}
-use Rattle.sorted.proofs.Sorting.{by, split}
+use Rattle.sorted.proofs.Sorting.{by}
 use Rattle.notes.specs.Notes.{notAfter, joined}
 use Rattle.notes.specs.Places.{upToCR, textAt, earlier, starts, inside, skip}
 use Rattle.loom.specs.Loom.{texts, all}
@@ -71,7 +72,7 @@ module _ (s : List ℕ) where
     starts-size (b ∷ l) i e =
         let n = drop-next s l i b e in
         let t = text-first l i b e in
-        split (eqb b 13)
+        by-bool (eqb b 13)
         (λ c. rw (t, c) (omega (arith, skip-size l (suc i) n)))
         (λ c. rw (t, c) (omega (arith, length-append (upToCR l) (13 ∷ 10 ∷ joined (map (textAt s) (inside (suc i) l))), inside-size l (suc i) n)))
 
@@ -79,7 +80,7 @@ module _ (s : List ℕ) where
     inside-size [] i e = omega arith
     inside-size (b ∷ l) i e =
         let n = drop-next s l i b e in
-        split (eqb b 13) (λ c. rw c (omega (arith, skip-size l (suc i) n))) (λ c. rw c (omega (arith, inside-size l (suc i) n)))
+        by-bool (eqb b 13) (λ c. rw c (omega (arith, skip-size l (suc i) n))) (λ c. rw c (omega (arith, inside-size l (suc i) n)))
 
     skip-size : (l : List ℕ) (i : ℕ) → drop i s ≡ l → length (joined (map (textAt s) (skip i l))) ≤ length l + 1
     skip-size [] i e = omega arith

@@ -6,7 +6,7 @@ use mathlib.Core.Logic.{_⊎_, inl, inr, _↔_}
 use mathlib.Core.Option.{Option, none, some}
 use mathlib.Core.Path.{_≡_, refl, sym, ap, _∙_}
 use native.Mathlib.Omega.{arith}
-use borrow.Author.Tests.{eq-eqb, ne-eqb, eqb-true, eqb-false, not-false}
+use borrow.Author.Tests.{eq-eqb, ne-eqb, eqb-true, eqb-false, not-false, not-true}
 use lib.Dec.{eqb}
 use lib.ListN.{length}
 use Rattle.rules.specs.Choice.{given, need}
@@ -15,7 +15,7 @@ use Rattle.rules.specs.Refusals.{number, Said, says, refuses, no, andThen}
 use Rattle.rules.specs.declared.Flight.{Flight}
 use Rattle.rules.specs.declared.Reason.the-variants as reason
 use Rattle.rules.specs.declared.Seal.the-variants as seal
-use Rattle.rules.proofs.Inverse.{refuses-says, false-true, then-inv, not-inv}
+use Rattle.rules.proofs.Inverse.{refuses-says, false-true, then-inv}
 use Rattle.demands.specs.Grammar.{Meets, flightOf}
 use Rattle.demands.proofs.Demands.{accepted-as, refused-first}
 use Rattle.shelved.specs.Contents.{numberOf, sound}
@@ -274,7 +274,7 @@ module _ (b : List ℕ) (number : ℕ) where
       let y : _≡_ {A = Said ℕ} (says (r .0)) (says n) = r .2 in
       let z : r .0 ≡ n = cc in
       let w = entry-exactly b number n .0 (rw z at (r .1)) in
-      (keeps-exactly b .0 (p .0), eqb-false number 0 (not-inv (eqb number 0) (q .0)), w .0, w .1))))
+      (keeps-exactly b .0 (p .0), eqb-false number 0 (not-true (eqb number 0) (q .0)), w .0, w .1))))
 
   -- whatever is said of the entry found, its refusals are the same
   pub then-held : {A : Type 0} (f : ℕ → A) (n l x : ℕ) → (andThen (heldAt b number) (λ m. says (f m)) ≡ refuses n l x) ↔ (Broken b n l x ⊎ NotFound b number n l x)

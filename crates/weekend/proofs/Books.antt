@@ -24,9 +24,9 @@ use Rattle.shelved.proofs.Tests.{by-eq}
 use Rattle.shelved.proofs.Bytes.{length-run}
 use Rattle.shelved.proofs.Accepts.{adds as accepted, holds}
 use Rattle.pack.specs.Pack.{ShelfPacked}
-use Rattle.shelf.specs.Calls.{addedTold, FlightAdded, BodyGiven, FlightRemoved}
-use Rattle.shelf.specs.declared.Added.{Added}
-use Rattle.shelf.specs.declared.Added.the-variants as added
+use Rattle.shelved.specs.Calls.{addedTold, FlightAdded, BodyGiven, FlightRemoved}
+use Rattle.shelved.specs.declared.Added.{Added}
+use Rattle.shelved.specs.declared.Added.the-variants as added
 use Rattle.weekend.specs.Weekend.{IsShelf, HeldIn}
 use Rattle.weekend.specs.Calls.{Call, adds, removes, packs, lastAdded, bytesAdded, bytesRemoved, Empty, Reached, empty, added-one, asked-one, removed-one, packed-all}
 use Rattle.weekend.proofs.Answers.{met, held-says, pack-says}

@@ -9,5 +9,6 @@ pub mod Covers
 pub mod Packs
 pub mod Promised
 pub mod Books
+pub mod Unread
 pub mod Worked
 pub mod Shelf

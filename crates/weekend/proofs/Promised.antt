@@ -13,7 +13,7 @@ use Rattle.rules.specs.declared.Outcome.{Outcome}
 use Rattle.rules.specs.declared.Seal.the-variants as seal
 use Rattle.rules.proofs.Inverse.{refuses-says, false-true, then-inv}
 use Rattle.demands.proofs.Demands.{refused-first}
-use Rattle.evening.proofs.NeverFull.{check-never-full}
+use Rattle.untabled.proofs.NeverFull.{check-never-full}
 use Rattle.shelved.specs.Contents.{startOf, sizeOf, slotOf, held}
 use Rattle.shelved.specs.Packing.{Packed}
 use Rattle.shelved.specs.Shelf.{addSaid, afterAdd, heldAt, afterRemove, askSaid, partOf}
@@ -21,9 +21,9 @@ use Rattle.shelved.specs.declared.Slot.{Slot}
 use Rattle.shelved.proofs.Bytes.{length-run}
 use Rattle.shelved.proofs.Accepts.{Holds, Adds, adds, holds}
 use Rattle.pack.specs.Pack.{ShelfPacked}
-use Rattle.shelf.specs.Calls.{addedTold, Extent, extentOf, askedTold, FlightAdded, FlightAsked, BodyGiven, FlightRemoved}
-use Rattle.shelf.specs.declared.Added.{Added}
-use Rattle.shelf.specs.declared.Asked.{Asked}
+use Rattle.shelved.specs.Calls.{addedTold, Extent, extentOf, askedTold, FlightAdded, FlightAsked, BodyGiven, FlightRemoved}
+use Rattle.shelved.specs.declared.Added.{Added}
+use Rattle.shelved.specs.declared.Asked.{Asked}
 use Rattle.weekend.specs.Weekend.{IsShelf, FreeRun, Broken, AddRefused, NotFound, AddsAt, Puts, HeldIn, Zeroes, Packs, AskedAsBefore, FoundAsBefore, AskedAs, AskedInVain}
 use Rattle.weekend.proofs.Answers.{by-sum, then-ways, add-refuses, add-said, adds-at, held-refuses, held-says, held-in, then-held, pack-refuses, pack-says}
 use Rattle.weekend.proofs.After.{Same, add-keeps, add-puts, add-asked, add-same, remove-keeps, remove-zeroes, remove-asked, remove-same}

@@ -18,13 +18,14 @@ use Rattle.demands.specs.Grammar.{Meets, linesIn, flightOf}
 use Rattle.demands.specs.Readings.{Readable}
 use Rattle.shelved.specs.Contents.{word, wordBytes, startOf, sizeOf, held, sound}
 use Rattle.pack.specs.Pack.{ShelfPacked}
-use Rattle.shelf.specs.Calls.{addedTold, askedTold, FlightAdded, FlightAsked, BodyGiven, FlightRemoved}
-use Rattle.shelf.specs.declared.Added.{Added}
-use Rattle.shelf.specs.declared.Asked.{Asked}
-use Rattle.weekend.specs.Weekend.{IsShelf, FreeRun, Broken, AddRefused, NotFound, AddsAt, Puts, HeldIn, Zeroes, Packs, AskedAsBefore, FoundAsBefore, AskedAs, AskedInVain}
+use Rattle.shelved.specs.Calls.{addedTold, askedTold, FlightAdded, FlightAsked, BodyGiven, FlightRemoved}
+use Rattle.shelved.specs.declared.Added.{Added}
+use Rattle.shelved.specs.declared.Asked.{Asked}
+use Rattle.weekend.specs.Weekend.{IsShelf, SameTable, FreeRun, Broken, AddRefused, NotFound, AddsAt, Puts, HeldIn, Zeroes, Packs, AskedAsBefore, FoundAsBefore, AskedAs, AskedInVain}
 use Rattle.weekend.specs.Calls.{Call, lastAdded, bytesAdded, bytesRemoved, Empty, Reached}
 use Rattle.weekend.proofs.Books as books
 use Rattle.weekend.proofs.Promised as promised
+use Rattle.weekend.proofs.Unread as unread
 use Rattle.weekend.proofs.Words as words
 use Rattle.weekend.proofs.Worked as worked
 
@@ -166,6 +167,21 @@ module _ (calls : List Call) (b : List ℕ) (k : Reached calls b) where
   pub body-is-readable : (number n : ℕ) (h : HeldIn b number n) (body : List ℕ) (g : BodyGiven b number body) (table : List ℕ)
       → length (linesIn (body-is-file number n h body g .1 .parts)) ≤ length table → Readable seal.Usual body table (flightOf (body-is-file number n h body g .1))
   body-is-readable number n h body g table = books.readable-with body table (body-is-file number n h body g .1)
+
+-- ---- "what a body says isn't looked at again": two buffers of one length with one table of contents get the same answers, whatever their bodies are
+
+module _ (b c : List ℕ) (s : SameTable b c) where
+  pub add-unread : (number : ℕ) (file : List ℕ) (r r′ : Added) (after after′ : List ℕ) → FlightAdded b number file r after → FlightAdded c number file r′ after′ → addedTold r ≡ addedTold r′
+  add-unread = unread.add-unread b c s
+
+  pub ask-unread : (number : ℕ) (r r′ : Asked) → FlightAsked b number r → FlightAsked c number r′ → askedTold r ≡ askedTold r′
+  ask-unread = unread.ask-unread b c s
+
+  pub remove-unread : (number : ℕ) (r r′ : Outcome) (after after′ : List ℕ) → FlightRemoved b number r after → FlightRemoved c number r′ after′ → outcomeTold r ≡ outcomeTold r′
+  remove-unread = unread.remove-unread b c s
+
+  pub pack-unread : (r r′ : Outcome) (after after′ : List ℕ) → ShelfPacked b r after → ShelfPacked c r′ after′ → outcomeTold r ≡ outcomeTold r′
+  pack-unread = unread.pack-unread b c s
 
 -- ---- a weekend worked out
 

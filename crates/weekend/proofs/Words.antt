@@ -9,11 +9,11 @@ use native.Mathlib.Omega.{arith}
 use borrow.Author.Tests.{eqb-true, eqb-false, eq-eqb, ne-eqb, le-leb}
 use lib.Dec.{eqb, leb}
 use lib.ListN.{length, getD}
-use Rattle.rules.proofs.Inverse.{false-true}
+use Rattle.rules.proofs.Inverse.{false-true, by-bool}
 use Rattle.shelved.specs.Ranges.{least, every}
 use Rattle.shelved.specs.Contents.{word, numberOf, startOf, sizeOf, endOf, sound, Sound}
 use Rattle.shelved.specs.Shelf.{entryOf, clearOf, fits, placeFor}
-use Rattle.shelved.proofs.Tests.{by-bool, by-eq, by-le, both}
+use Rattle.shelved.proofs.Tests.{by-eq, by-le, both}
 use Rattle.shelved.proofs.Ranges.{Least, least-skip, least-hit, least-some, least-none, least-over, every-of}
 use Rattle.shelved.proofs.Sounds.{sound-read, sound-told, apart-clear, apart-any, once-any}
 use Rattle.shelved.proofs.Places.{fits-read}

@@ -20,8 +20,8 @@ use Rattle.shelved.specs.Shelf.{addSaid, afterAdd, heldAt, afterRemove}
 use Rattle.shelved.specs.declared.Slot.{Slot}
 use Rattle.shelved.proofs.Tests.{by-eq, by-le}
 use Rattle.shelved.proofs.Accepts.{adds as accepted, holds}
-use Rattle.shelf.specs.Calls.{addedTold}
-use Rattle.shelf.specs.declared.Added.the-variants as added
+use Rattle.shelved.specs.Calls.{addedTold}
+use Rattle.shelved.specs.declared.Added.the-variants as added
 use Rattle.weekend.specs.Calls.{Call, adds, removes, Empty, Reached, empty, added-one, removed-one}
 use Rattle.weekend.specs.Weekend.{Among, InBody, IsShelf, InUse}
 use Rattle.weekend.proofs.Answers.{by-sum, met, add-refuses, add-said, held-says}

@@ -11,10 +11,10 @@ use Rattle.rules.specs.declared.Outcome.{Outcome}
 use Rattle.rules.specs.declared.Outcome.the-variants as outcome
 use Rattle.shelved.specs.Contents.{numberOf}
 use Rattle.pack.specs.Pack.{ShelfPacked}
-use Rattle.shelf.specs.Calls.{FlightAdded, FlightAsked, FlightRemoved}
-use Rattle.shelf.specs.declared.Added.{Added}
-use Rattle.shelf.specs.declared.Added.the-variants as added
-use Rattle.shelf.specs.declared.Asked.{Asked}
+use Rattle.shelved.specs.Calls.{FlightAdded, FlightAsked, FlightRemoved}
+use Rattle.shelved.specs.declared.Added.{Added}
+use Rattle.shelved.specs.declared.Added.the-variants as added
+use Rattle.shelved.specs.declared.Asked.{Asked}
 use Rattle.weekend.specs.Weekend.{IsShelf}
 
 -- a call: the number and the file that it was given, and its answer

@@ -10,8 +10,8 @@ use Rattle.rules.specs.declared.Seal.the-variants as seal
 use Rattle.demands.specs.Faults.{Refused}
 use Rattle.demands.specs.Grammar.{Meets}
 use Rattle.shelved.specs.Contents.{wordBytes, numberOf, startOf, sizeOf, slotOf, bodyOf, held}
-use Rattle.shelf.specs.Calls.{askedTold, FlightAsked, BodyGiven}
-use Rattle.shelf.specs.declared.Asked.{Asked}
+use Rattle.shelved.specs.Calls.{askedTold, FlightAsked, BodyGiven}
+use Rattle.shelved.specs.declared.Asked.{Asked}
 
 -- ---- "27 SHELF if the buffer breaks these rules"
 
@@ -40,6 +40,11 @@ pub record IsShelf (b : List ℕ) : Type 0 where
   pub apart : (n m i : ℕ) → InBody b n i → InBody b m i → n ≡ m
   -- "no flight number is used twice"
   pub once : (n m : ℕ) → n < 64 → m < 64 → (numberOf b n ≡ 0 → ⊥) → numberOf b n ≡ numberOf b m → n ≡ m
+
+-- two buffers of one length with one table of contents, whatever their bodies are
+pub record SameTable (b c : List ℕ) : Type 0 where
+  pub same-length : length b ≡ length c
+  pub same-bytes : (i : ℕ) → i < 768 → getD b i 0 ≡ getD c i 0
 
 -- ---- finding
 

@@ -1,14 +1,13 @@
 -- One line of a file against those before it, and the same place in a file with added columns: it passes there too, and leaves the states alike. Assumes nothing.
-use Prim.Native.Nat.{ℕ, _+_, _-_, _≤_}
+use Prim.Native.Nat.{ℕ, _+_}
 use mathlib.Core.Bool.{true, false, cond}
 use mathlib.Core.List.{List, [], _∷_}
 use mathlib.Core.Option.{none, some}
 use mathlib.Core.Path.{_≡_, refl, ap, _∙_}
-use native.Mathlib.Omega.{arith}
-use lib.ListN.{length, getD}
+use lib.ListN.{getD}
 use Rattle.rules.specs.Families.{firstStart, lineLetter, layoutOf}
 use Rattle.rules.specs.Refusals.{says}
-use Rattle.rules.specs.Lines.{kindOf, columnedLine}
+use Rattle.rules.specs.Lines.{columnedLine}
 use Rattle.rules.specs.Roles.{isRole, isBare, isDeclaring, sameFamily, isOf, stageAfter}
 use Rattle.rules.specs.Order.{fitsDeclaration, orderOf, moved, judge}
 use Rattle.rules.specs.declared.Layouts.{Layouts}
@@ -18,7 +17,7 @@ use Rattle.rules.specs.declared.Role.the-variants as role
 use Rattle.rules.specs.declared.Flight.{Flight}
 use Rattle.rules.specs.declared.State.{State}
 use Rattle.rules.proofs.Inverse.{none-some, false-true, need-inv}
-use Rattle.laws.proofs.Passing.{roleIn, Leaves, opens, date, header, layout, columned, head, point, event, satellites, differential, seals, remark, other, judged, judged-so}
+use Rattle.laws.proofs.Passing.{roleIn, Leaves, opens, date, header, layout, columned, head, point, event, satellites, differential, seals, remark, other, judged, judged-so, not-empty}
 use Rattle.trips.proofs.Columned.{line-timed, timed-line, said-by, by-said}
 use Rattle.sound.proofs.Families.{line-role, Beside, one, apart, beside}
 use Rattle.sound.proofs.Placed.{Sound}
@@ -38,11 +37,6 @@ wide new n st = record { stage = st .stage; declared = st .declared; points = st
 
 -- ---- a line by its role
 
-known-long : (l : List ℕ) → isRole (roleIn l) ≡ true → 1 ≤ length l
-unfolding kindOf
-known-long [] h = absurd (false-true h)
-known-long (b ∷ l) h = omega arith
-
 -- the line l of the role r passes from st to after, in the part `stage`
 pub record Comes (r : Role) (l : List ℕ) (st after : State) : Type 0 where
   pub stage : ℕ
@@ -54,7 +48,7 @@ came r l st after q h = let j = judged l st after h in rw (← q) record { stage
 
 pub comes : (r : Role) (l : List ℕ) (st after : State) → roleIn l ≡ r → isRole r ≡ true → Comes r l st after → judge l st ≡ says after
 comes r l st after q k c =
-    judged-so l st after (record { long = known-long l (ap isRole q ∙ k); known = ap isRole q ∙ k; stage = c .stage; order = rw q (c .order); left = rw q (c .left) })
+    judged-so l st after (record { long = not-empty l (ap isRole q ∙ k); known = ap isRole q ∙ k; stage = c .stage; order = rw q (c .order); left = rw q (c .left) })
 
 -- where it came, it could
 pub order-stage : (r : Role) (st : State) (stage : ℕ) → orderOf r st ≡ some stage → stageAfter r (st .stage) ≡ some stage

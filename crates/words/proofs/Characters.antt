@@ -5,13 +5,13 @@ use mathlib.Core.List.{List, [], _∷_, _++_}
 use mathlib.Core.Logic.{_↔_, inl, inr}
 use mathlib.Core.Path.{_≡_, refl, ap, _∙_}
 use native.Mathlib.Omega.{arith}
-use borrow.Author.Tests.{le-leb, leb-true, eqb-false, ne-eqb}
+use borrow.Author.Tests.{le-leb, leb-true, eqb-false, ne-eqb, not-true}
 use lib.Dec.{eqb, leb}
 use lib.ListN.{length, drop}
 use Rattle.rules.specs.Choice.{leads, Each}
 use Rattle.rules.specs.Chars.{isValid, isDigit, isCode, codesAt}
 use Rattle.rules.specs.Listed.{codeText, isCodeWord}
-use Rattle.rules.proofs.Inverse.{false-true, and-inv, not-inv}
+use Rattle.rules.proofs.Inverse.{false-true, and-inv}
 use Rattle.trips.proofs.Texts.{digit-range}
 use Rattle.words.specs.Characters.{IsValid, IsDigit, IsCode, CodesAt}
 
@@ -19,7 +19,7 @@ use Rattle.words.specs.Characters.{IsValid, IsDigit, IsCode, CodesAt}
 
 -- not a character of the list
 other : (b x : ℕ) → not (eqb b x) ≡ true → b ≡ x → ⊥
-other b x e = eqb-false b x (not-inv (eqb b x) e)
+other b x e = eqb-false b x (not-true (eqb b x) e)
 
 comma-there : (inH : Bool) (b : ℕ) → (inH || not (eqb b 0x2C)) ≡ true → b ≡ 0x2C → inH ≡ true
 comma-there true b e i = refl

@@ -9,9 +9,9 @@ use Rattle.rules.specs.declared.Extra.{Extra}
 use Rattle.rules.specs.declared.Fix.{Fix}
 use Rattle.rules.specs.declared.Head.{Head}
 use Rattle.rules.specs.declared.Planned.{Planned}
-use Rattle.trips.proofs.Plans.{planned-trip}
+use Rattle.rules.proofs.Texts.{digits-length, planned-length}
 use Rattle.put.specs.Puts.{Fills}
-use Rattle.put.proofs.Laws.{put-then, byte-then, digits-length}
+use Rattle.put.proofs.Laws.{put-then, byte-then}
 use Rattle.height.proofs.Laws.{altitude-length}
 use Rattle.spell.proofs.Laws.{date-length, time-length, position-length}
 
@@ -24,9 +24,6 @@ extra-length e t tail = simp (length-append, time-length) (omega arith)
 pub fix-length : (f : Fix) (tail : List ℕ) → length (fixText f tail) + 2 ≡ 37 + length tail
 unfolding fieldsText fixText
 fix-length f tail = simp (length-append, time-length, position-length, altitude-length) (omega arith)
-
-planned-length : (f : Planned) → length (plannedText f) ≡ 6
-planned-length f = planned-trip .long f
 
 pub head-length : (h : Head) (rest : List ℕ) → length (headText h rest) + 2 ≡ 27 + length rest
 unfolding headText

@@ -1,7 +1,7 @@
 -- `ahead::gauge_of` meets its contract. Assumes nothing.
 use native.Mathlib.Omega.{arith}
 use borrow.Author.Needs.{needs}
-use Rattle.entry.proofs.Turns.{unmapped}
+use Rattle.coded.proofs.Turns.{unmapped}
 use Rattle.ahead.proofs.Runs.{count-most, pattern-put, pattern-fits}
 use Rattle.ahead.proofs.gauge_of.Statement.{statement}
 use Rattle.ahead.proofs.gauge_of.Tie as tie

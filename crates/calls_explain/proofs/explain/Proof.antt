@@ -1,6 +1,7 @@
 -- `calls_explain::explain` meets its contract. Assumes nothing.
 use borrow.Author.Needs.{needs}
-use Rattle.calls_explain.proofs.Laws.{text-no-room, text-room}
+use Rattle.answers.proofs.Laws.{beside-no-room}
+use Rattle.calls_explain.proofs.Laws.{text-room}
 use Rattle.calls_explain.proofs.explain.Statement.{statement}
 use Rattle.calls_explain.proofs.explain.Tie as tie
 
@@ -8,7 +9,7 @@ pub explain-spec : {M : Type 1} → statement M
 explain-spec =
     tie.close
     (tie.spec
-    (λ c. text-no-room _ _ _ (c .if1 .taken))
+    (λ c. beside-no-room _ _ _ _ (c .if1 .taken))
     (λ c κs. search needs)
     (λ c κs. search needs)
     (λ c κs. search needs)

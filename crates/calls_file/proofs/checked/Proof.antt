@@ -1,6 +1,7 @@
 -- `checked` meets its contract: what the check says, in numbers. Assumes nothing.
 use borrow.Author.Needs.{needs}
-use Rattle.calls_file.proofs.Laws.{check-no-room, check-room}
+use Rattle.answers.proofs.Laws.{beside-no-room}
+use Rattle.calls_file.proofs.Laws.{check-room}
 use Rattle.calls_file.proofs.checked.Statement.{statement}
 use Rattle.calls_file.proofs.checked.Tie as tie
 
@@ -8,7 +9,7 @@ pub checked-spec : {M : Type 1} → statement M
 checked-spec =
     tie.close
     (tie.spec
-    (λ c. check-no-room _ _ _ _ (c .if1 .taken))
+    (λ c. beside-no-room _ _ _ _ (c .if1 .taken))
     (λ c κs. search needs)
     (λ c κs. search needs)
     (λ c κs. search needs)

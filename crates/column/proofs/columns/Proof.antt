@@ -11,7 +11,7 @@ use Rattle.rules.specs.Refusals.{outcomeTold}
 use Rattle.rules.specs.declared.AtLimit.{AtLimit}
 use Rattle.rules.specs.declared.Entry.{Entry}
 use Rattle.column.proofs.Laws.{columns-clear, columns-bad}
-use Rattle.entry.proofs.Turns.{unmapped, entry-hit, entry-miss, entry-past, entry-end}
+use Rattle.coded.proofs.Turns.{unmapped, entry-hit, entry-miss, entry-past, entry-end}
 use borrow.Author.Needs.{needs}
 use Rattle.column.proofs.columns.Statement.{statement}
 use Rattle.column.proofs.columns.Tie as tie

@@ -6,7 +6,7 @@ use borrow.Author.Needs.{needs}
 use lib.ListN.{length}
 use Rattle.rules.specs.Choice.{bytes}
 use Rattle.rules.specs.Fixes.{reachOf, finerOf}
-use Rattle.entry.proofs.Turns.{unmapped}
+use Rattle.coded.proofs.Turns.{unmapped}
 use Rattle.finer.proofs.Laws.{reachFrom, reach-end, reach-first, reach-turn, three}
 use Rattle.finer.proofs.finer_of.Statement.{statement}
 use Rattle.finer.proofs.finer_of.Tie as tie

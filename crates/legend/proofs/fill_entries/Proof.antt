@@ -7,7 +7,7 @@ use lib.ListN.{length, take}
 use Rattle.rules.specs.Layouts.{entriesOf}
 use Rattle.rules.specs.Writes.{entryTexts}
 use Rattle.put.specs.Puts.{Fills}
-use Rattle.entry.proofs.Turns.{unmapped}
+use Rattle.coded.proofs.Turns.{unmapped}
 use Rattle.legend.proofs.Entries.{entry-more, entries-none, entries-all}
 use Rattle.legend.proofs.fill_entries.Statement.{statement}
 use Rattle.legend.proofs.fill_entries.Tie as tie

@@ -3,7 +3,7 @@ use mathlib.Core.Path.{_≡_}
 use native.Mathlib.Omega.{arith}
 use borrow.Author.Needs.{needs}
 use lib.ListN.{length}
-use Rattle.entry.proofs.Turns.{unmapped}
+use Rattle.coded.proofs.Turns.{unmapped}
 use Rattle.legend.proofs.Entries.{layout-filled}
 use Rattle.legend.proofs.fill_layout.Statement.{statement}
 use Rattle.legend.proofs.fill_layout.Tie as tie

@@ -6,7 +6,7 @@ use native.Mathlib.Omega.{arith}
 use borrow.Author.Needs.{needs}
 use borrow.Author.Tests.{ltb-true, ltb-false, not-false}
 use lib.ListN.{length}
-use Rattle.entry.proofs.Turns.{unmapped}
+use Rattle.coded.proofs.Turns.{unmapped}
 use Rattle.legend.specs.Spelling.{Spellable}
 use Rattle.ending.proofs.Laws.{bad, short, done}
 use Rattle.legend.proofs.Entries.{spells, layout-length}

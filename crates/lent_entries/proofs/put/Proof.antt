@@ -1,9 +1,6 @@
 -- `put` meets its contract. Assumes nothing.
-use mathlib.Core.Path.{_≡_}
 use borrow.Author.Needs.{needs}
 use borrow.Author.Tests.{eq-eqb, ne-eqb}
-use lib.ListN.{length}
-use Rattle.lent_entries.specs.Lent.{entriesSize}
 use Rattle.lent_entries.proofs.put.Statement.{statement}
 use Rattle.lent_entries.proofs.put.Tie as tie
 

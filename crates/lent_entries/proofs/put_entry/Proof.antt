@@ -1,5 +1,4 @@
 -- `put_entry` meets its contract. Assumes nothing.
-use mathlib.Core.Path.{refl}
 use borrow.Author.Needs.{needs}
 use Rattle.lent_entries.proofs.put_entry.Statement.{statement}
 use Rattle.lent_entries.proofs.put_entry.Tie as tie

@@ -4,7 +4,7 @@ use mathlib.Core.Path.{refl, sym, _∙_}
 use native.Mathlib.Omega.{arith}
 use lib.ListN.{length, length-replicate}
 use Rattle.runs.specs.Runs.{coming}
-use Rattle.loom.proofs.Turns.{Going, going-first, going-small, going-less, going-next, going-end}
+use Rattle.loom.proofs.Turns.{Going, going-first, going-small, going-less, going-next, going-end, over-of}
 use borrow.Author.Needs.{needs}
 use Rattle.loom.proofs.walk.Statement.{statement}
 use Rattle.loom.proofs.walk.Tie as tie
@@ -37,7 +37,7 @@ same-length : tie.Need-same-length Inv-loop μ-loop
 same-length c = c .before .before .before .before .before .before .before .before .loop .inv .fills .size
 
 returns : tie.Need-returns Inv-loop μ-loop
-returns c = going-end _ _ _ _ _ _ _ _ _ _ (c .before .before .before .before .before .before .before .before .loop .inv) _ _ _ _ (c .before .before .before .before .before .before .ready .ensures) (c .before .before .before .ready2 .ensures) _ (c .before .is-over .ensures) (c .if1 .taken)
+returns c = going-end _ _ _ _ _ _ _ _ _ _ (c .before .before .before .before .before .before .before .before .loop .inv) _ _ _ _ (c .before .before .before .before .before .before .ready .ensures) (c .before .before .before .ready2 .ensures) _ (over-of _ _ _ (c .before .is-over .ensures)) (c .if1 .taken)
 
 slice-aggregate-take-turn : tie.Need-slice-aggregate-take-turn Inv-loop μ-loop
 slice-aggregate-take-turn c = sym (c .before .before .before .before .before .before .before .ready .ensures .size ∙ c .before .before .before .before .before .before .before .before .before .loop .inv .room-first)
@@ -46,7 +46,7 @@ slice-aggregate-take-turn-2 : tie.Need-slice-aggregate-take-turn-2 Inv-loop μ-l
 slice-aggregate-take-turn-2 c = sym (c .before .before .before .before .before .ready2 .ensures .size ∙ c .before .before .before .before .before .before .before .before .before .before .loop .inv .room-second)
 
 take-turn-requires : tie.Need-take-turn-requires Inv-loop μ-loop
-take-turn-requires c κs = (c .before .before .before .before .before .before .before .before .before .ready .ensures .fine, c .before .before .before .before .before .before .ready2 .ensures .fine, c .before .before .before .before .is-over .ensures .not-yet (c .before .before .before .if1 .left), c .before .before .before .before .before .before .before .before .before .before .before .before .before .before .before .pre .0, c .before .before .before .before .before .before .before .before .before .before .before .before .before .before .before .pre .1, going-small _ _ _ _ _ _ _ _ _ _ (c .before .before .before .before .before .before .before .before .before .before .before .loop .inv))
+take-turn-requires c κs = (c .before .before .before .before .before .before .before .before .before .ready .ensures .fine, c .before .before .before .before .before .before .ready2 .ensures .fine, over-of (c .before .before .before .before .before .before .before .before .before .ready .result) (c .before .before .before .before .before .before .ready2 .result) _ (c .before .before .before .before .is-over .ensures) .not-yet (c .before .before .before .if1 .left), c .before .before .before .before .before .before .before .before .before .before .before .before .before .before .before .pre .0, c .before .before .before .before .before .before .before .before .before .before .before .before .before .before .before .pre .1, going-small _ _ _ _ _ _ _ _ _ _ (c .before .before .before .before .before .before .before .before .before .before .before .loop .inv))
 
 loop-less : tie.Need-loop-less Inv-loop μ-loop
 loop-less c = going-less _ _ _ _ _ _ _ _ _ _ (c .before .before .before .before .before .before .before .before .before .before .before .before .before .before .before .before .loop .inv) _ _ _ _ (c .before .before .before .before .before .before .before .before .before .before .before .before .before .before .ready .ensures) (c .before .before .before .before .before .before .before .before .before .before .before .ready2 .ensures) _ _ _ _ (c .before .before .before .before .take-turn .ensures)

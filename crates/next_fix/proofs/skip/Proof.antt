@@ -6,7 +6,7 @@ use native.Mathlib.Omega.{arith}
 use borrow.Author.Needs.{needs}
 use lib.ListN.{length}
 use Rattle.next_fix.specs.Steps.{behind}
-use Rattle.next_fix.specs.declared.Progress.{Progress}
+use Rattle.records.specs.declared.Progress.{Progress}
 use Rattle.next_fix.proofs.Going.{Going, going-first, going-spare, going-fix, going-end, going-torn, going-next, line-fits}
 use Rattle.next_fix.proofs.skip.Statement.{statement}
 use Rattle.next_fix.proofs.skip.Tie as tie

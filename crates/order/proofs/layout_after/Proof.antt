@@ -1,6 +1,5 @@
 -- `order::layout_after` meets its contract: no layout line leads to the start. Assumes nothing.
 use Prim.Native.Nat.{_<_}
-use mathlib.Core.Path.{sym}
 use native.Mathlib.Omega.{arith}
 use borrow.Author.Needs.{needs}
 use Rattle.rules.specs.Roles.{afterLayout, stageAfter}

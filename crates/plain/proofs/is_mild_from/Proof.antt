@@ -4,7 +4,6 @@ use mathlib.Core.Bool.{_&&_}
 use mathlib.Core.Path.{_≡_}
 use borrow.Author.Needs.{needs}
 use lib.ListN.{length, drop}
-use Rattle.rules.specs.Choice.{leads}
 use Rattle.plain.specs.Plain.{isMild, every, everyFrom}
 use Rattle.plain.proofs.Laws.{from-first, all-step, all-end}
 use Rattle.plain.proofs.is_mild_from.Statement.{statement}

@@ -4,7 +4,6 @@ use mathlib.Core.Bool.{_&&_}
 use mathlib.Core.Path.{_≡_}
 use borrow.Author.Needs.{needs}
 use lib.ListN.{length}
-use Rattle.rules.specs.Choice.{leads}
 use Rattle.plain.specs.Plain.{isPlain, every, everyFrom}
 use Rattle.plain.proofs.Laws.{all-first, all-step, all-end}
 use Rattle.plain.proofs.is_plain.Statement.{statement}

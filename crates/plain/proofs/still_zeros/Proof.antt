@@ -1,5 +1,4 @@
 -- `plain::still_zeros` meets its contract. Assumes nothing.
-use borrow.Author.Needs.{needs}
 use Rattle.chars.proofs.Laws.{joined}
 use Rattle.plain.proofs.still_zeros.Statement.{statement}
 use Rattle.plain.proofs.still_zeros.Tie as tie

@@ -8,7 +8,8 @@ use native.Mathlib.Omega.{arith}
 use lib.ListN.{length, length-set}
 use lib.Seq.{sets}
 use Rattle.rules.specs.Numbers.{digitsOf}
-use Rattle.put.proofs.Laws.{sets-none, sets-step, digits-length, put-there, put-past}
+use Rattle.rules.proofs.Texts.{digits-length}
+use Rattle.put.proofs.Laws.{sets-none, sets-step, put-there, put-past}
 use Rattle.put.proofs.digits.Statement.{statement}
 use Rattle.put.proofs.digits.Tie as tie
 

@@ -1,5 +1,4 @@
 -- `shape::is_sized` meets its contract. Assumes nothing.
-use borrow.Author.Needs.{needs}
 use borrow.Author.Tests.{le-leb, lt-leb}
 use Rattle.rules.specs.Lines.{isSized}
 use Rattle.shape.proofs.is_sized.Statement.{statement}

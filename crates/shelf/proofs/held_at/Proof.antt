@@ -2,8 +2,8 @@
 use Rattle.rules.proofs.Links.{fields}
 use Rattle.cut.proofs.Places.{refuses-unplaced}
 use Rattle.shelved.specs.Shelf.{heldAt}
-use Rattle.shelf.specs.Calls.{heldTold}
-use Rattle.shelf.proofs.Ends.{links}
+use Rattle.shelf.specs.Holding.{heldTold}
+use Rattle.allot.proofs.Links.{links}
 use borrow.Author.Needs.{needs}
 use Rattle.shelf.proofs.held_at.Statement.{statement}
 use Rattle.shelf.proofs.held_at.Tie as tie

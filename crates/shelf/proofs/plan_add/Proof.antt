@@ -2,8 +2,9 @@
 use mathlib.Core.Path.{refl}
 use Rattle.cut.proofs.Places.{refuses-unplaced}
 use Rattle.shelved.specs.Shelf.{addSaid}
-use Rattle.shelf.specs.Calls.{planTold}
-use Rattle.shelf.proofs.Ends.{links, check-passed, check-refused}
+use Rattle.allot.specs.Plans.{planTold}
+use Rattle.allot.proofs.Links.{links}
+use Rattle.shelf.proofs.Ends.{check-passed, check-refused}
 use borrow.Author.Needs.{needs}
 use Rattle.shelf.proofs.plan_add.Statement.{statement}
 use Rattle.shelf.proofs.plan_add.Tie as tie

@@ -1,6 +1,5 @@
 -- `slots::flag` meets its contract. Assumes nothing.
 use Rattle.slots.specs.Slots.{flagOf}
-use borrow.Author.Needs.{needs}
 use Rattle.slots.proofs.flag.Statement.{statement}
 use Rattle.slots.proofs.flag.Tie as tie
 

@@ -4,8 +4,8 @@ use mathlib.Core.Path.{refl}
 use native.Mathlib.Omega.{arith}
 use borrow.Author.Needs.{needs}
 use borrow.Author.Tests.{ltb-true, ltb-false}
+use Rattle.rules.proofs.Texts.{pairs-length}
 use Rattle.put.proofs.Laws.{puts, put-past, put-there}
-use Rattle.spell.proofs.Laws.{pairs-length}
 use Rattle.spell.proofs.pairs.Statement.{statement}
 use Rattle.spell.proofs.pairs.Tie as tie
 

@@ -1,5 +1,4 @@
 -- `spots::span_if` meets its contract. Assumes nothing.
-use borrow.Author.Needs.{needs}
 use Rattle.spots.specs.Spots.{spanIf}
 use Rattle.spots.proofs.span_if.Statement.{statement}
 use Rattle.spots.proofs.span_if.Tie as tie

@@ -1,5 +1,4 @@
 -- `state::has_few` meets its contract. Assumes nothing.
-use mathlib.Core.Path.{sym}
 use borrow.Author.Needs.{needs}
 use borrow.Author.Tests.{le-leb, lt-leb}
 use Rattle.state.specs.States.{hasFew}

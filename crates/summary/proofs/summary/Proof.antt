@@ -1,13 +1,8 @@
 -- `summary::summary` meets its contract. Assumes nothing.
 use borrow.Author.Needs.{needs}
-use Rattle.summary.proofs.Summing.{file-refused, count-small, file-summed}
+use Rattle.summary.proofs.Summing.{file-refused, file-summed}
 use Rattle.summary.proofs.summary.Statement.{statement}
 use Rattle.summary.proofs.summary.Tie as tie
-
-of-fixes-requires : tie.Need-of-fixes-requires
-of-fixes-requires c κs =
-    let a = c .before .before .before .before .before .before .before .args in
-    count-small (a .file .now) (c .before .before .before .before .before .plan .result) (c .before .before .before .before .before .plan .ensures) (a .old) (a .list .now) _ (c .before .before .answer2 .given .1)
 
 returns : tie.Need-returns
 returns c =
@@ -26,7 +21,7 @@ summary-spec =
     (λ c κs. search needs)
     (λ c. search needs)
     (λ c. search needs)
-    of-fixes-requires
+    (λ c κs. search needs)
     returns
     (λ c. search needs)
     returns-2)

@@ -1,7 +1,6 @@
 -- `sure::keeps_pattern` meets its contract: the columns from the one in turn on decide as all do. Assumes nothing.
-use Prim.Native.Nat.{_*_, _-_, _/_, _≤_}
+use Prim.Native.Nat.{_*_, _-_, _/_}
 use mathlib.Core.Path.{_≡_, refl, sym, _∙_}
-use native.Mathlib.Omega.{arith}
 use borrow.Author.Tests.{not-true, not-false}
 use lib.ListN.{length, drop}
 use Rattle.sure.specs.Sure.{keepsPattern}

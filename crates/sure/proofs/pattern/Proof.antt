@@ -1,11 +1,10 @@
 -- `sure::pattern` meets its contract: what is left to put behind the entries so far gives the whole pattern. Assumes nothing.
 use Prim.Native.Nat.{_*_, _-_, _≤_}
 use mathlib.Core.Path.{_≡_, refl, sym, _∙_}
-use native.Mathlib.Omega.{arith}
 use lib.ListN.{length, drop, replicate}
 use lib.Seq.{sets}
 use Rattle.rules.specs.Layouts.{entriesOf}
-use Rattle.entry.proofs.Turns.{unmapped}
+use Rattle.coded.proofs.Turns.{unmapped}
 use Rattle.sure.specs.Sure.{patternOf}
 use Rattle.sure.proofs.Laws.{pattern-turn, pattern-past, pattern-end}
 use borrow.Author.Needs.{needs}

@@ -2,7 +2,7 @@
 use mathlib.Core.Path.{_≡_}
 use borrow.Author.Needs.{needs}
 use lib.ListN.{length}
-use Rattle.entry.proofs.Turns.{unmapped}
+use Rattle.coded.proofs.Turns.{unmapped}
 use Rattle.block.proofs.Laws.{all-slots, some-slots}
 use Rattle.block.proofs.lines.entries_in.Statement.{statement}
 use Rattle.block.proofs.lines.entries_in.Tie as tie

@@ -1,5 +1,4 @@
 -- `calls_explain::reasons::reason_of` meets its contract. Assumes nothing.
-use borrow.Author.Needs.{needs}
 use borrow.Author.Tests.{ne-eqb}
 use Rattle.calls_explain.specs.Reasons.{reasonNumbered, numberedTold}
 use Rattle.calls_explain.proofs.reasons.reason_of.Statement.{statement}

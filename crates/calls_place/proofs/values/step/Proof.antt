@@ -1,6 +1,6 @@
 -- `values::step` meets its contract. Assumes nothing.
 use borrow.Author.Needs.{needs}
-use Rattle.cut.specs.Steps.{stepTold}
+use Rattle.cursor.specs.Steps.{stepTold}
 use Rattle.calls_place.proofs.values.step.Statement.{statement}
 use Rattle.calls_place.proofs.values.step.Tie as tie
 

@@ -4,7 +4,7 @@ use mathlib.Core.Path.{_≡_, sym, _∙_}
 use borrow.Author.Needs.{needs}
 use lib.ListN.{length, drop}
 use Rattle.rules.specs.Split.{linesOf}
-use Rattle.cut.specs.Steps.{endedAt}
+use Rattle.cut.specs.Ends.{endedAt}
 use Rattle.cut.proofs.Places.{past-end, at-text, at-lf, at-crlf, at-cr-other}
 use Rattle.cut.proofs.scan.line_end.Statement.{statement}
 use Rattle.cut.proofs.scan.line_end.Tie as tie

@@ -1,7 +1,7 @@
 -- `hive_track` meets its contract: a walk of its MIR, by hand, since no function that is lent a list of records is covered. The length of the answer is compared; then the list is
--- handed on to `track::track`, and the answer with what was told to `calls_track::tell`, each for good and at its own lifetime. Of both the proof knows only that they meet their
+-- handed on to `track::track`, and the answer with what was told to `calls_flight::tell`, each for good and at its own lifetime. Of both the proof knows only that they meet their
 -- contracts. Assumes nothing.
-use mathlib.Core.Path.{_≡_, refl, sym, _∙_, ap, subst}
+use mathlib.Core.Path.{_≡_, refl, ap, subst}
 use mathlib.Core.Bool.{Bool, true, false, not}
 use Prim.Native.Nat.{ℕ, _<_, _^_}
 use mathlib.Core.List.{[], _∷_, List}
@@ -20,7 +20,7 @@ use prog.Wp.{Heap, Env, Calls, Loops, WpFn, Tables}
 use ghost.Atoms.{Atoms, sem}
 use contract.Monad.{Fun, fact}
 use contract.Running.{givenOf, tables, tablesOf}
-use types.Kit.{Given, Item, ‵, raw, _⊛_, ⋆, some, later, runs, frees, prop, atRet, Sq, _$_, _∵_, !, qed, by, move, keep, drop, split, join, pick, use1, use2, use3, rewrite, fsplit, fjoin, feqL, suffices, frame, await, done}
+use types.Kit.{Given, Item, ‵, raw, _⊛_, ⋆, some, later, runs, atRet, Sq, _$_, _∵_, !, qed, by, move, keep, drop, split, join, pick, use1, use2, use3, rewrite, fsplit, fjoin, feqL, suffices, frame, await, done}
 use types.Run.{look, init, forget, stop, hop, fld, from, load, lit, of-opd, addr, bin, and-then, no-more, assigns, first, skips, branches, returns-within, land, returns, enter, alloc1, alloc0, params1, pass1, pass0, free1, free0, exec}
 use types.Part.{whole, sub, look-in, agg}
 use sound.WpLaws.{FmC, fmOf, WpFn-mono}
@@ -33,7 +33,6 @@ use denote.Ref.{RefT}
 use denote.Slice.{sliceTy, sliceVal, MutSlice, ShrSlice, heres, Room, finally, slice-vals, mut-slice-tells, shr-slice-tells, shr-slice-copy, codedHoleys, res-finally}
 use denote.Signature.{plain}
 use denote.Steps.{only, owned, peeks, heard, nothing}
-use denote.Struct.Laws as LL
 use denote.Enum.Laws as EL
 use denote.Triple.Statement.{Contract, Triple}
 use denote.Triple.Call.{calls-at}
@@ -43,23 +42,22 @@ use denote.Triple.Spec.{Meets, tripleOf}
 use denote.Triple.Table.{entered, cited}
 use denote.Triple.Walked.{says, Stays, gave-slice, stay-none-slice, walkOf, AllGo, goes-gave-slice, goes-none-slice, Walks, ends-at, walked, walk-meets}
 use denote.Exit.{yes}
-use Rattle.next_fix.specs.declared.Record.{Record}
-use Rattle.next_fix.proofs.Record as R
-use Rattle.next_fix.proofs.Record.Laws as R′
+use Rattle.records.specs.declared.Record.{Record}
+use Rattle.records.proofs.Record as R
 use Rattle.track.specs.Tracks.{FileTracked}
-use Rattle.track.specs.declared.Tracked.{Tracked}
-use Rattle.track.proofs.Tracked as An
-use Rattle.track.proofs.Tracked.Laws as An′
+use Rattle.course.specs.declared.Tracked.{Tracked}
+use Rattle.course.proofs.Tracked as An
+use Rattle.course.proofs.Tracked.Laws as An′
 use Rattle.track.proofs.track as track
 use Rattle.track.proofs.track.Symbol as track-def
 use Rattle.track.proofs.track.Symbol.{name as #track}
 use Rattle.track.proofs.track.Met as track-thm
-use Rattle.calls_track.specs.Calls.{TrackTold, TrackAnswered}
-use Rattle.calls_track.proofs.Laws.{track-no-room, track-room}
-use Rattle.calls_track.proofs.tell as tell
-use Rattle.calls_track.proofs.tell.Symbol as tell-def
-use Rattle.calls_track.proofs.tell.Symbol.{name as #tell}
-use Rattle.calls_track.proofs.tell.Met as tell-thm
+use Rattle.calls_flight.specs.Tracks.{TrackTold, TrackAnswered}
+use Rattle.calls_flight.proofs.Laws.{track-no-room, track-room}
+use Rattle.calls_flight.proofs.tell as tell
+use Rattle.calls_flight.proofs.tell.Symbol as tell-def
+use Rattle.calls_flight.proofs.tell.Symbol.{name as #tell}
+use Rattle.calls_flight.proofs.tell.Met as tell-thm
 use Rattle.hivebasket.proofs.tracks.hive_track.Key.{name as #hive-track}
 use Rattle.hivebasket.proofs.tracks.hive_track as f
 use Rattle.hivebasket.proofs.tracks.hive_track.Statement as stated
@@ -328,4 +326,4 @@ hive-track-spec 𝓤 H 𝓜 𝓖 𝓡 =
     (tables 𝓤 H 𝓜 𝓡 code.env .C) (tables 𝓤 H 𝓜 𝓡 code.env .Λ) #hive-track code.function (code.unfolded 𝓤 H 𝓜 𝓡)
     (hive-meets 𝓤 H (𝓖 .A) (givenOf 𝓤 H 𝓜 𝓖) (𝓜 .mem) (𝓡 .run) (tablesOf 𝓤 H 𝓜 (tables 𝓤 H 𝓜 𝓡 code.env))
     (cited 𝓤 H (TrackC 𝓤 H (𝓖 .A) (𝓜 .mem) (𝓡 .run)) 𝓜 𝓡 code.env #track track-def.routine code.calls-track·track (track-thm.met 𝓤 H 𝓜 𝓖 𝓡))
-    (cited 𝓤 H (TellC 𝓤 H (𝓖 .A) (𝓜 .mem) (𝓡 .run)) 𝓜 𝓡 code.env #tell tell-def.routine code.calls-calls-track·tell (tell-thm.met 𝓤 H 𝓜 𝓖 𝓡)))
+    (cited 𝓤 H (TellC 𝓤 H (𝓖 .A) (𝓜 .mem) (𝓡 .run)) 𝓜 𝓡 code.env #tell tell-def.routine code.calls-calls-flight·tell (tell-thm.met 𝓤 H 𝓜 𝓖 𝓡)))

@@ -1,5 +1,4 @@
 -- `limits::splits::is_fine` meets its contract. Assumes nothing.
-use borrow.Author.Needs.{needs}
 use Rattle.rules.specs.Limits.{isFine}
 use Rattle.chars.proofs.Laws.{joined}
 use Rattle.limits.proofs.splits.is_fine.Statement.{statement}

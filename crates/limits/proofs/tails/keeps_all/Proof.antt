@@ -10,7 +10,7 @@ use Rattle.rules.specs.Listed.{keepsLimit}
 use Rattle.rules.specs.Layouts.{entriesOf}
 use Rattle.rules.specs.declared.AtLimit.{AtLimit}
 use Rattle.rules.specs.declared.Entry.{Entry}
-use Rattle.entry.proofs.Turns.{unmapped, entry-hit, entry-miss, entry-past, entry-end}
+use Rattle.coded.proofs.Turns.{unmapped, entry-hit, entry-miss, entry-past, entry-end}
 use Rattle.rules.specs.Limits.{badTail}
 use Rattle.limits.proofs.Laws.{none-breaks, one-breaks}
 use Rattle.limits.proofs.tails.keeps_all.Statement.{statement}

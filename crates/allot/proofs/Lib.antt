@@ -1,0 +1,3 @@
+-- Links of the tests, and that the promise has one answer.
+pub mod Links
+pub mod Only

@@ -1,0 +1,2 @@
+-- The promise of this crate.
+pub mod Plans

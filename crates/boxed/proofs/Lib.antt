@@ -1,0 +1,3 @@
+-- What the proofs share, and that a box has room.
+mod Laws
+pub mod Room

@@ -1,0 +1,2 @@
+-- The box of a flight, for people.
+pub mod Boxed

@@ -1,2 +1,0 @@
--- What the call that merges two files answers.
-pub mod Calls

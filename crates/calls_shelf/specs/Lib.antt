@@ -1,2 +1,0 @@
--- What the calls on a shelf of flights answer.
-pub mod Calls

@@ -1,2 +1,0 @@
--- What the call that keeps a summary answers.
-pub mod Calls

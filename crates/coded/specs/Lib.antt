@@ -1,0 +1,2 @@
+-- Where a code's column stands.
+pub mod Spots

@@ -1,0 +1,2 @@
+-- A time and a position as text.
+pub mod Decimals

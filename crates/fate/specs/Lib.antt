@@ -1,0 +1,2 @@
+-- The exit status.
+pub mod Status

@@ -1,0 +1,2 @@
+-- Whether entries can be a line's.
+pub mod Fitting

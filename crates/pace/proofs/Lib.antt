@@ -1,2 +1,0 @@
--- What the proofs of a line taken by numbers share.
-pub mod Lines

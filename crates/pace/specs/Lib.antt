@@ -1,2 +1,0 @@
--- What a line taken by numbers says.
-pub mod Paces

@@ -1,0 +1,2 @@
+-- Whether two slices are through.
+pub mod Through

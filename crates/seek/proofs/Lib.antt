@@ -1,0 +1,3 @@
+-- One turn of each loop, and that the promise has one answer.
+mod Turns
+pub mod Only

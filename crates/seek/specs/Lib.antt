@@ -1,0 +1,2 @@
+-- The look number by number, and its promise.
+pub mod Parts

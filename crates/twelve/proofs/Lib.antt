@@ -1,0 +1,3 @@
+-- What the proofs share, and that each promise has one answer.
+mod Laws
+mod Only

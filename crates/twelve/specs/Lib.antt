@@ -1,0 +1,2 @@
+-- The twelve numbers of a summary.
+pub mod Twelve
