@@ -1,5 +1,5 @@
 // The first line of a listing, from the whole check. Behind it come the pages, which `block` puts.
-ghost use Rattle.lister.specs.Pages.{Begins};
+ghost use Rattle.lister.specs.First.{Begins};
 use rules::Layout;
 use rules::Outcome;
 use rules::Reason;
