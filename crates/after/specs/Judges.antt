@@ -1,4 +1,4 @@
--- The state after a line of each kind, beside what is said of the line.
+-- The state after an H line, a line that tells a layout, a C line and a line with columns, beside what is said of the line.
 use Prim.Native.Nat.{ℕ}
 use mathlib.Core.List.{List}
 use Rattle.rules.specs.Families.{firstStart, layoutOf}

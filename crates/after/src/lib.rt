@@ -1,4 +1,4 @@
-// The state after a line of each kind, by the rules of the kind: what its reading says, and the time order.
+// The state after an H line, a line that tells a layout, a C line, and a line with columns.
 ghost use Rattle.rules.specs.Order.{dated, begun, pointed};
 ghost use Rattle.rules.specs.Refusals.{says, andThen};
 ghost use Rattle.rules.specs.Reads.{dateReadTold, headTold, pointTold};

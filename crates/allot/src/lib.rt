@@ -1,4 +1,4 @@
-// The entry and the start that a body gets which is to be added to a sound shelf: the first free entry, and the smallest start where the body fits.
+// The entry and the start of a body that is to be added to a sound shelf: the first free entry, and the smallest start where the body fits.
 ghost use mathlib.Core.Path.{_≡_};
 ghost use Rattle.shelved.specs.Shelf.{usable};
 ghost use Rattle.allot.specs.Plans.{SpotAllotted};
@@ -25,7 +25,8 @@ fn is_usable(shelf: &[u8], number: u32) -> bool
     false
 }
 
-// The entry and the start for a body of `size` bytes. Refused with 28 for number 0 or one in use, then 29 where no entry is free, then 30 where no free run is long enough.
+// The entry and the start for a body of `size` bytes. Refused with 28 for number 0 or one in use, then 29 where no entry is free, then 30 where no free run is long enough. Whether
+// the shelf is sound is not looked at: 27 is the caller's.
 pub fn spot_for(shelf: &[u8], number: u32, size: usize) -> Plan
     ensures { λ r. ⌜ SpotAllotted (now (shelf .entry)) number size r ⌝ }
 {

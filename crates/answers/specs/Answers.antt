@@ -61,7 +61,7 @@ pub record Answered (fits : Bool) (answer : List ℕ) (n : Numbers) (r : ℕ) (a
   pub number : r ≡ cond fits (n .number) 17
   pub numbers : after ≡ cond fits (n .values) answer
 
--- Beside the answer something else is lent for writing, `before`: where all that is lent has its lengths it is then `given`; else it is as it was.
+-- Something else is lent for writing beside the answer. Where all that is lent has its lengths, what was `before` is afterwards `given`; else it is as it was.
 pub record AnsweredBeside {A : Type 0} (fits : Bool) (answer : List ℕ) (n : Numbers) (before given : List A) (r : ℕ) (answerNow : List ℕ) (now : List A) : Type 0 where
   pub told : Answered fits answer n r answerNow
   pub lent : now ≡ cond fits given before

@@ -1,4 +1,4 @@
--- The two ways out of the calls whose promise says more than what is told and what is given: an answer of another length, and what was told. Assumes nothing.
+-- The two ways out of a merge, a track and a packed shelf: an answer of another length, and what was told. Assumes nothing.
 use Prim.Native.Nat.{ℕ}
 use mathlib.Core.Bool.{true, false}
 use mathlib.Core.List.{List}

@@ -5,9 +5,9 @@ mod summaries;
 mod tracks;
 
 pub use merging::merge;
-pub use shelves::add;
-pub use shelves::ask;
-pub use shelves::pack;
-pub use shelves::remove;
+pub use shelves::shelf_add;
+pub use shelves::shelf_ask;
+pub use shelves::shelf_pack;
+pub use shelves::shelf_remove;
 pub use summaries::summary;
-pub use tracks::tell;
+pub use tracks::tell_track;

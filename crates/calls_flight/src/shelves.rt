@@ -42,7 +42,7 @@ fn done(o: Outcome) -> Numbers
 
 // A file put on the shelf under a flight number: the start of its body; or 27 where the buffer is no shelf, the file's own refusal by the usual check, 28, 29 or 30, and then the buffer is
 // not changed. 17 where the answer has another length; then nothing is changed.
-pub fn add(buffer: &mut [u8], number: u32, file: &[u8], answer: &mut [u64]) -> u32
+pub fn shelf_add(buffer: &mut [u8], number: u32, file: &[u8], answer: &mut [u64]) -> u32
     ensures { λ r. ⌜ AddAnswered (now (buffer .entry)) number (now (file .entry)) (now (answer .entry)) r (now (buffer .exit)) (now (answer .exit)) ⌝ }
 {
     if answer.len() != SIZE {
@@ -53,14 +53,14 @@ pub fn add(buffer: &mut [u8], number: u32, file: &[u8], answer: &mut [u64]) -> u
 }
 
 // Where the body of a flight number stands: its start and its length; or 27, then 31. 17 where the answer has another length; then nothing is changed.
-pub fn ask(buffer: &[u8], number: u32, answer: &mut [u64]) -> u32
+pub fn shelf_ask(buffer: &[u8], number: u32, answer: &mut [u64]) -> u32
     ensures { λ r. ⌜ AskAnswered (now (buffer .entry)) number (now (answer .entry)) r (now (answer .exit)) ⌝ }
 {
     answers::give(answer, asked(shelf::ask(buffer, number)))
 }
 
 // The entry of a flight number zeroed; or 27, then 31, and then the buffer is not changed. 17 where the answer has another length; then nothing is changed.
-pub fn remove(buffer: &mut [u8], number: u32, answer: &mut [u64]) -> u32
+pub fn shelf_remove(buffer: &mut [u8], number: u32, answer: &mut [u64]) -> u32
     ensures { λ r. ⌜ RemoveAnswered (now (buffer .entry)) number (now (answer .entry)) r (now (buffer .exit)) (now (answer .exit)) ⌝ }
 {
     if answer.len() != SIZE {
@@ -71,7 +71,7 @@ pub fn remove(buffer: &mut [u8], number: u32, answer: &mut [u64]) -> u32
 }
 
 // The bodies moved to the front in order of start, without gaps; or 27, and then the buffer is not changed. 17 where the answer has another length; then nothing is changed.
-pub fn pack(buffer: &mut [u8], answer: &mut [u64]) -> u32
+pub fn shelf_pack(buffer: &mut [u8], answer: &mut [u64]) -> u32
     ensures { λ r. ⌜ PackAnswered (now (buffer .entry)) (now (answer .entry)) r (now (buffer .exit)) (now (answer .exit)) ⌝ }
 {
     if answer.len() != SIZE {

@@ -17,7 +17,7 @@ fn numbers(tracked: Tracked) -> Numbers
 }
 
 // What was told of a track: the count, or the refusal. 17 where the answer has another length; then it is not changed.
-pub fn tell(answer: &mut [u64], tracked: Tracked) -> u32
+pub fn tell_track(answer: &mut [u64], tracked: Tracked) -> u32
     ensures { λ r. ⌜ TrackTold (now (answer .entry)) tracked r (now (answer .exit)) ⌝ }
 {
     answers::give(answer, numbers(tracked))

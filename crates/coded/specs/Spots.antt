@@ -13,6 +13,7 @@ unfoldable pub spotTold : Spot → Option Span
 spotTold (spot.At a e) = some (record { first = a; last = e })
 spotTold spot.Nowhere = none
 
+-- "A column is read by its code": the first and the last byte of the entry that has it
 abbrev pub SpotFound : Layout → ℕ → Spot → Type 0
 SpotFound l x r = spotTold r ≡ look l x
 

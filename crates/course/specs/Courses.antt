@@ -29,7 +29,7 @@ startBy size layout = record { at = 0; lines = 0; clock = 0; day = 0; size = siz
 abbrev pub StartGiven : ℕ → Layout → Progress → Type 0
 StartGiven size layout r = r ≡ startBy size layout
 
--- how many bytes a B line has by the file's layout
+-- how many bytes a B line has by the file's layout; 0 for a layout that is not allowed, which no file has
 abbrev pub fixSize : Flight → ℕ
 fixSize f = valueOr 0 (lengthSaid family.B (f .layouts .b))
 
@@ -48,8 +48,10 @@ pub record CourseTold (s : Said Flight) (r : Course) : Type 0 where
   pub count : r .count ≡ countIn s
   pub start : r .start ≡ startIn s
 
+-- "Refusals: the file's own", as the check told it
 abbrev pub CourseRefused : Refusal → Course → Type 0
 CourseRefused w r = CourseTold (refusal w) r
 
+-- "then 18 if the list is short", of a file that was accepted
 abbrev pub FlightPlanned : Flight → ℕ → Course → Type 0
 FlightPlanned f room r = CourseTold (need (leb (countOf family.B (f .counts)) room) (no NoRoom 0) λ _. says f) r

@@ -47,7 +47,7 @@ pub fn refused(why: Refusal) -> Course
     }
 }
 
-// How many bytes the B lines of a flight have.
+// How many bytes the B lines of a flight have; 0 for a layout that is not allowed, which no file has.
 fn fix_size(flight: Flight) -> usize
     ensures { λ r. ⌜ r ≡ fixSize flight ⌝ }
 {

@@ -50,7 +50,7 @@ pub fn put_seconds(out: &mut [u8], at: usize, t: u32) -> usize
     put_text(out, at, &text)
 }
 
-// A space and a time as HH:MM:SS, with its extra decimals. The answer is the place behind it; a full buffer takes no more.
+// A space and a time as HH:MM:SS, with its extra decimals, 4 where there are more. The answer is the place behind it; a full buffer takes no more.
 pub fn put_clock(out: &mut [u8], at: usize, t: FineTime) -> usize
     ensures { λ r. ⌜ PiecePut (now (out .entry)) at (shownClock t) r (now (out .exit)) ⌝ }
 {

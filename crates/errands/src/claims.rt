@@ -6,7 +6,7 @@ use fate::Fate;
 use rules::Outcome;
 use rules::Seal;
 
-// `console::fate_by`, said by badge.
+// The fate given, where all was written; else Unwritten, and badge says so on standard error.
 pub fn claim_fate(written: bool, fate: Fate) -> Fate {
     fate_by(b"badge: the output could not be written", written, fate)
 }

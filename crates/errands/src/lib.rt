@@ -48,7 +48,7 @@ fn on_read(errand: Errand, name: &[u8], file: &[u8], table: &mut [u32]) -> Fate 
 }
 
 // An errand on the file of a name: what is wanted of it is written to standard output, or why the file is refused. `input` takes the file, and has one byte more than the most that a file
-// may have; `table` has an entry for each line of a file. The answer tells what became of the file; it is not read whole where it cannot be opened, or is longer.
+// may have; `table` has an entry for each line of a file. The answer tells what became of the file; it is not read whole where it cannot be opened or read to its end, or is longer.
 pub fn on_file(
     errand: Errand,
     name: &[u8],

@@ -36,5 +36,6 @@ pub record MayTake (file : List ℕ) (at : ℕ) (st : State) : Type 0 where
 unfoldable pub turnAt : Option ℕ → List ℕ → ℕ → State → Said Reached
 turnAt room file at st = need (mayTake file at st) (no BadValue 0) λ _. turnIn room at st (linesOf (drop at file))
 
+-- the turn that is said, with the entry of a good line in the table; where refused, place, state and table as they were
 abbrev pub TurnTaken : List ℕ → Bool → List ℕ → ℕ → State → Turn → List ℕ → Type 0
 TurnTaken file lent table at st r after = Turned (turnAt (roomOf lent table) file at st) lent table at st r after

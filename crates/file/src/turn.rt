@@ -49,8 +49,8 @@ fn take_line(file: &[u8], lent: bool, table: &mut [u32], at: usize, st: State) -
     }
 }
 
-// The line at a place of a file found, judged and entered in the table, if one is lent: 3 to 15, or the place behind it and the state there. Refused with 17 where the
-// place is not in the file, the file is too long, or the state's counts are not few. A line that is refused has no entry.
+// The line at a place of a file found, judged and entered in the table, if one is lent: the place behind it and the state there. Refused with 17 where the
+// place is not in the file, the file is too long, or the state's counts are not few; else with 3 to 15 or 22 to 25. Place and state are then as given, and there is no entry.
 pub fn take(file: &[u8], lent: bool, table: &mut [u32], at: usize, st: State) -> Turn
     ensures { λ r. ⌜ TurnTaken (now (file .entry)) lent (now (table .entry)) at st r (now (table .exit)) ⌝ }
 {

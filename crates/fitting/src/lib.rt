@@ -8,7 +8,7 @@ ghost use Rattle.fitting.specs.Fitting.{FitsTest};
 use rules::Entry;
 use rules::Layout;
 
-// Whether an entry behind `i` others and the one after them has the code.
+// Whether an entry behind place i has the code, places counted from 0.
 fn again(es: Layout, i: usize, code: u32) -> bool
     requires { ⌜ i < 13 ⌝ }
     ensures { λ r. ⌜ r ≡ carriedIn (drop (i + 1) (entriesOf es)) code ⌝ }
@@ -79,7 +79,7 @@ fn are_inside(bytes: usize, es: Layout) -> bool
     true
 }
 
-// Whether the entries can be a line's: at most 13, no code twice, each inside the line.
+// Whether the entries can be a line's: at most 13, no code twice, each inside the line with its last byte not before its first.
 pub fn fits(line: &[u8], es: Layout) -> bool
     ensures { λ r. ⌜ FitsTest (now (line .entry)) es r ⌝ }
 {

@@ -12,5 +12,5 @@ pub extern "C" fn hive_track(file: &[u8], list: &mut [Record], answer: &mut [u64
         return 17;
     }
     let tracked = track::track(file, list);
-    calls_flight::tell(answer, tracked)
+    calls_flight::tell_track(answer, tracked)
 }

@@ -12,7 +12,7 @@ use rules::Reason;
 use rules::Role;
 use rules::State;
 
-// A line by its role: 7 to 14. The state counts it already.
+// A line by its role: 7 to 14 or 22 to 25. The state counts it already.
 fn ruled_line(r: Role, line: &[u8], st: State) -> Judged
     requires { ⌜ ((f : Family) → countOf f (st .flight .counts) ≤ 16777216) ⌝ }
     ensures { λ x. ⌜ JudgedTold (ruled r (now (line .entry)) st) x ⌝ }
@@ -33,7 +33,7 @@ fn ruled_line(r: Role, line: &[u8], st: State) -> Judged
     }
 }
 
-// One line after those before it: 4 to 14. Refused with 17 where the state's counts are not few.
+// One line after those before it: 4 to 14 or 22 to 25. Refused with 17 where the state's counts are not few.
 pub fn judge_line(line: &[u8], st: State) -> Judged
     ensures { λ r. ⌜ LineJudged (now (line .entry)) st r ⌝ }
 {

@@ -2,7 +2,7 @@
 ghost use Rattle.rules.specs.Promises.{KindGiven};
 use rules::Kind;
 
-// NoKind for a byte that is not A to Z.
+// The kind of a line that begins with this byte; NoKind where it is not A to Z.
 pub fn kind_of(b: u8) -> Kind
     ensures { λ r. ⌜ KindGiven b r ⌝ }
 {

@@ -19,7 +19,7 @@ use Rattle.rules.specs.declared.Checked.{Checked}
 use Rattle.rules.specs.declared.Outcome.the-variants.{Accepted, Refused}
 use Rattle.rules.specs.declared.Seal.{Seal}
 use Rattle.pieces.specs.Buffer.{Shown}
-use Rattle.lister.specs.Pages.{opened, firstLine, Begins}
+use Rattle.lister.specs.First.{opened, firstLine, Begins}
 
 ok-first : (s : Said Flight) → outcome s ≡ says tt → firstLine s ≡ okText (valueOr noFlight s)
 unfolding firstLine

@@ -3,8 +3,8 @@ use Prim.Native.Nat.{ℕ}
 use mathlib.Core.List.{List}
 use mathlib.Core.Path.{_≡_, sym, _∙_}
 use Rattle.rules.specs.declared.Seal.{Seal}
-use Rattle.lister.specs.Pages.{Begins}
-use Rattle.lister.specs.declared.pages.Begun.{Begun}
+use Rattle.lister.specs.First.{Begins}
+use Rattle.lister.specs.declared.first.Begun.{Begun}
 
 pub only-begins : (seal : Seal) (most : ℕ) (file table out : List ℕ) (r r′ : Begun) (entries entries′ after after′ : List ℕ) → Begins seal most file table out r entries after
     → Begins seal most file table out r′ entries′ after′ → (r ≡ r′) × (entries ≡ entries′) × (after ≡ after′)

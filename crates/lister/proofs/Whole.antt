@@ -37,8 +37,8 @@ use Rattle.demands.specs.Readings.{ReadsFix, ReadsLine}
 use Rattle.demands.proofs.EachLine.{fix-alone}
 use Rattle.demands.proofs.Demands.{readable}
 use Rattle.block.specs.Blocks.{endOf, textAt, printed, Leaf, leaf, before, printedAt, leafFrom, leafAt, joined}
-use Rattle.lister.specs.Pages.{opened, firstLine, Begins}
-use Rattle.lister.specs.declared.pages.Begun.{Begun}
+use Rattle.lister.specs.First.{opened, firstLine, Begins}
+use Rattle.lister.specs.declared.first.Begun.{Begun}
 
 module _ (file table : List ℕ) (lines : ℕ) (layout : Layout) where
   abbrev printedFor : ℕ → List ℕ

@@ -1,2 +1,2 @@
 -- The first line of the listing.
-pub mod Pages
+pub mod First

@@ -1,12 +1,12 @@
 // Lists a file on standard output: its counts, each fix and its columns; or why it is refused. What is printed is made by `begin`, `block` and `show`, and written here.
 // Each function answers whether all that it prints was written, and stops at the first write that fails.
+mod first;
 mod input;
-mod pages;
 
+pub use first::Begun;
+pub use first::begin;
 pub use input::is_at_end;
 use libc::STDOUT_FILENO;
-pub use pages::Begun;
-pub use pages::begin;
 use rules::Entry;
 use rules::FixFields;
 use rules::Flight;
@@ -91,7 +91,7 @@ pub fn print_accepted(file: &[u8], table: &[u32], flight: Flight) -> bool {
 pub fn list(file: &[u8]) -> bool {
     let mut table = [0u32; 16384];
     let mut out = [0u8; 288];
-    let begun = pages::begin(Seal::Usual, 65536, file, &mut table, &mut out);
+    let begun = first::begin(Seal::Usual, 65536, file, &mut table, &mut out);
     let n = begun.count;
     let layout = begun.layout;
     if !io::write_all(STDOUT_FILENO, &out[..n]) {

@@ -4,7 +4,7 @@
 --
 -- What may differ: "Line numbers" (of a track's record, in a listing), "offsets" (a line's bounds, a reading place), "the line count" (`lines` of what the check says), "the table", "lines got by
 -- number or by stepping and the text of the L lines". In a worked pair the table, a line by its number, the line count and the line numbers do (proofs/Worked: `table-differs`, `line-differs`,
--- `listing-differs`, `numbers-differ`). docs/requests/11.md has every public reading of an accepted file in one of the two lists.
+-- `listing-differs`, `numbers-differ`). docs/CONTRACTS.md has every public reading of an accepted file in one of the two lists.
 use Prim.Native.Nat.{ℕ}
 use Prim.Native.Char.{code}
 use mathlib.Core.Bool.{true, false}

@@ -29,6 +29,6 @@ LongitudeTest p r = r ≡ isLongitude p
 abbrev pub AltitudeTest : Height → Bool → Type 0
 AltitudeTest h r = r ≡ isAltitude h
 
--- of a turn point, with the text behind it
+-- of a C point, with the text behind it
 abbrev pub PointTest : Point → List ℕ → Bool → Type 0
 PointTest p rest r = r ≡ goodPoint p rest

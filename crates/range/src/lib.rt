@@ -1,4 +1,4 @@
-// Whether one field's value, a turn point, or the text of a line, keeps to its limits.
+// Whether one field's value, a C point with its text, or the text of a line keeps to its limits.
 ghost use mathlib.Core.Path.{_≡_};
 ghost use Rattle.rules.specs.Degrees.{isPosition};
 ghost use Rattle.range.specs.Tests.{CleanTest, DateTest, PlannedTest, LatitudeTest, LongitudeTest, AltitudeTest, PointTest};

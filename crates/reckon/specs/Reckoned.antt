@@ -40,6 +40,7 @@ fewSaid count old room = need (leb count 16777216) (no BadValue 0) λ _. countSa
 unfoldable pub fewAfter : (Progress → FixStep) → Progress → ℕ → ℕ → List ℤ → List ℤ
 fewAfter step start count old list = need (leb count 16777216) list λ _. countAfter step start count old list
 
+-- the answer by the number of fixes, and the list afterwards: run by run, as the code makes it. Where every fix fits, as those of a file do, that is the rule's list, Summary.updated (summary: filled-is)
 pub record FixesSummed (step : Progress → FixStep) (start : Progress) (count old : ℕ) (list : List ℤ) (r : Summed) (after : List ℤ) : Type 0 where
   pub told : summedTold r ≡ fewSaid count old (length list)
   pub numbers : after ≡ fewAfter step start count old list

@@ -1,4 +1,4 @@
--- What a look into entries goes through that are lent as numbers, in the order of the code; and its promise.
+-- The look for a packed code into entries that are lent as numbers, number by number; and its promise.
 use Prim.Native.Nat.{ℕ, zero, suc, _+_}
 use mathlib.Core.Bool.{Bool, true, false, not, cond}
 use mathlib.Core.List.{List}
@@ -57,5 +57,6 @@ columnIn bytes ns x =
     given (placeIn (getD ns 0 0) ns 1 x) (no Absent 0) λ p.
     says (spanIn ns p)
 
+-- that this is the look of document 02 into the entries that the numbers tell is shown in lent_look
 abbrev pub ColumnSought : ℕ → List ℕ → ℕ → ColumnRead → Type 0
 ColumnSought bytes ns x r = columnTold r ≡ columnIn bytes ns x

@@ -109,8 +109,8 @@ fn refuse(reason: Reason) -> ColumnRead
     })
 }
 
-// Where the entry of a code stands that is packed in one number, in a line of so many bytes: its first and last byte, counted from 1. BAD_VALUE for numbers that are not 40, for over 13
-// entries, a number past what an entry holds, a code twice, or an entry that is not inside the line or ends before it starts; then ABSENT.
+// Where the column of a packed code stands in a line of `bytes` bytes: the first and the last byte of its entry, counted from 1. 17 where the list has not 40 numbers, for over 13
+// entries, a number past what an entry holds, a code twice, or an entry that is not inside the line or ends before it starts; then 19 where no entry has the code.
 pub fn column(bytes: usize, list: &[u64], code: u64) -> ColumnRead
     ensures { λ r. ⌜ ColumnSought bytes (now (list .entry)) code r ⌝ }
 {

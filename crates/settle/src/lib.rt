@@ -1,4 +1,4 @@
-// What a line leaves, by what its reading says alone: the state after it where it is accepted, and the state at the start beside its refusal.
+// What a line leaves, by what its reading says and by the time order: the state after it where it is accepted, and the state at the start beside its refusal.
 ghost use Rattle.rules.specs.Order.{timed};
 ghost use Rattle.settle.specs.Settled.{JudgedTold, LinePassed, LineRefused, RefusedAt, OutcomeJudged, TimeJudged};
 use rules::Judged;
@@ -18,7 +18,7 @@ pub fn passed(st: State) -> Judged
     }
 }
 
-// A line that is refused.
+// A line that is refused, with the state at the start beside the refusal.
 pub fn refused(why: Refusal) -> Judged
     ensures { λ r. ⌜ LineRefused why r ⌝ }
 {
@@ -28,7 +28,7 @@ pub fn refused(why: Refusal) -> Judged
     }
 }
 
-// A refusal of the line in hand.
+// A line that is refused for a reason, at one of its bytes, with the state at the start beside the refusal.
 pub fn refused_at(reason: Reason, byte: u32) -> Judged
     ensures { λ r. ⌜ RefusedAt reason byte r ⌝ }
 {
@@ -59,7 +59,7 @@ pub fn after_outcome(outcome: Outcome, st: State) -> Judged
     }
 }
 
-// After a line of this time.
+// After a line whose time reads so: 14 at byte 2 where the time goes back, else the state with the clock at it; or the reading's own refusal.
 pub fn after_time(read: TimeRead, st: State) -> Judged
     ensures { λ r. ⌜ TimeJudged read st r ⌝ }
 {

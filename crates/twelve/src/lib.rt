@@ -12,7 +12,7 @@ pub fn number_at(list: &[i32], i: usize) -> Height
     Height { metres: 0 }
 }
 
-// The number at a place, which is not below zero; 0 for one that is.
+// The number at a place, or 0 where it is below zero.
 pub fn natural_at(list: &[i32], i: usize) -> u32
     ensures { λ r. ⌜ NaturalAt (now (list .entry)) i r ⌝ }
 {

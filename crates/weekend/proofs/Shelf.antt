@@ -21,7 +21,7 @@ use Rattle.pack.specs.Pack.{ShelfPacked}
 use Rattle.shelved.specs.Calls.{addedTold, askedTold, FlightAdded, FlightAsked, BodyGiven, FlightRemoved}
 use Rattle.shelved.specs.declared.Added.{Added}
 use Rattle.shelved.specs.declared.Asked.{Asked}
-use Rattle.weekend.specs.Weekend.{IsShelf, SameTable, FreeRun, Broken, AddRefused, NotFound, AddsAt, Puts, HeldIn, Zeroes, Packs, AskedAsBefore, FoundAsBefore, AskedAs, AskedInVain}
+use Rattle.weekend.specs.Weekend.{IsShelf, SameContents, FreeRun, Broken, AddRefused, NotFound, AddsAt, Puts, HeldIn, Zeroes, Packs, AskedAsBefore, FoundAsBefore, AskedAs, AskedInVain}
 use Rattle.weekend.specs.Calls.{Call, lastAdded, bytesAdded, bytesRemoved, Empty, Reached}
 use Rattle.weekend.proofs.Books as books
 use Rattle.weekend.proofs.Promised as promised
@@ -168,9 +168,9 @@ module _ (calls : List Call) (b : List ℕ) (k : Reached calls b) where
       → length (linesIn (body-is-file number n h body g .1 .parts)) ≤ length table → Readable seal.Usual body table (flightOf (body-is-file number n h body g .1))
   body-is-readable number n h body g table = books.readable-with body table (body-is-file number n h body g .1)
 
--- ---- "what a body says isn't looked at again": two buffers of one length with one table of contents get the same answers, whatever their bodies are
+-- ---- "what a body says isn't looked at again": two buffers of one length with one table of contents get the same answers, and have one table of contents afterwards, whatever their bodies are
 
-module _ (b c : List ℕ) (s : SameTable b c) where
+module _ (b c : List ℕ) (s : SameContents b c) where
   pub add-unread : (number : ℕ) (file : List ℕ) (r r′ : Added) (after after′ : List ℕ) → FlightAdded b number file r after → FlightAdded c number file r′ after′ → addedTold r ≡ addedTold r′
   add-unread = unread.add-unread b c s
 
@@ -182,6 +182,20 @@ module _ (b c : List ℕ) (s : SameTable b c) where
 
   pub pack-unread : (r r′ : Outcome) (after after′ : List ℕ) → ShelfPacked b r after → ShelfPacked c r′ after′ → outcomeTold r ≡ outcomeTold r′
   pack-unread = unread.pack-unread b c s
+
+  -- and the table of contents afterwards is one again, so that the same holds of each later call
+  pub add-unread-after : (number : ℕ) (file : List ℕ) (r r′ : Added) (after after′ : List ℕ) → FlightAdded b number file r after → FlightAdded c number file r′ after′ → SameContents after after′
+  add-unread-after = unread.add-unread-after b c s
+
+  pub remove-unread-after : (number : ℕ) (r r′ : Outcome) (after after′ : List ℕ) → FlightRemoved b number r after → FlightRemoved c number r′ after′ → SameContents after after′
+  remove-unread-after = unread.remove-unread-after b c s
+
+  pub pack-unread-after : (r r′ : Outcome) (after after′ : List ℕ) → ShelfPacked b r after → ShelfPacked c r′ after′ → SameContents after after′
+  pack-unread-after = unread.pack-unread-after b c s
+
+  -- the body that is handed out stands at one place in both (`ask-unread`, `body-is-part`), and has as many bytes
+  pub body-unread : (number : ℕ) (body body′ : List ℕ) → BodyGiven b number body → BodyGiven c number body′ → length body ≡ length body′
+  body-unread = unread.body-unread b c s
 
 -- ---- a weekend worked out
 

@@ -41,8 +41,8 @@ pub record IsShelf (b : List ℕ) : Type 0 where
   -- "no flight number is used twice"
   pub once : (n m : ℕ) → n < 64 → m < 64 → (numberOf b n ≡ 0 → ⊥) → numberOf b n ≡ numberOf b m → n ≡ m
 
--- two buffers of one length with one table of contents, whatever their bodies are
-pub record SameTable (b c : List ℕ) : Type 0 where
+-- "what a body says isn't looked at again": two buffers of one length with one table of contents, whatever their bodies are
+pub record SameContents (b c : List ℕ) : Type 0 where
   pub same-length : length b ≡ length c
   pub same-bytes : (i : ℕ) → i < 768 → getD b i 0 ≡ getD c i 0
 

@@ -1,11 +1,11 @@
--- `calls_flight::shelves::pack` meets its contract. Assumes nothing.
+-- `calls_flight::shelves::shelf_pack` meets its contract. Assumes nothing.
 use borrow.Author.Needs.{needs}
 use Rattle.calls_flight.proofs.Laws.{pack-no-room, pack-room}
-use Rattle.calls_flight.proofs.shelves.pack.Statement.{statement}
-use Rattle.calls_flight.proofs.shelves.pack.Tie as tie
+use Rattle.calls_flight.proofs.shelves.shelf_pack.Statement.{statement}
+use Rattle.calls_flight.proofs.shelves.shelf_pack.Tie as tie
 
-pub pack-spec : {M : Type 1} → statement M
-pack-spec =
+pub shelf-pack-spec : {M : Type 1} → statement M
+shelf-pack-spec =
     tie.close
     (tie.spec
     (λ c. pack-no-room _ _ (c .if1 .taken))

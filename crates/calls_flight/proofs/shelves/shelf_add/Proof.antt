@@ -1,14 +1,14 @@
--- `calls_flight::shelves::add` meets its contract. Assumes nothing.
+-- `calls_flight::shelves::shelf_add` meets its contract. Assumes nothing.
 use mathlib.Core.Path.{_∙_, ap}
 use borrow.Author.Needs.{needs}
 use Rattle.answers.specs.Answers.{inNumbers}
 use Rattle.answers.proofs.Laws.{beside-no-room, beside-room}
 use Rattle.calls_flight.specs.Shelves.{startNumbers}
-use Rattle.calls_flight.proofs.shelves.add.Statement.{statement}
-use Rattle.calls_flight.proofs.shelves.add.Tie as tie
+use Rattle.calls_flight.proofs.shelves.shelf_add.Statement.{statement}
+use Rattle.calls_flight.proofs.shelves.shelf_add.Tie as tie
 
-pub add-spec : {M : Type 1} → statement M
-add-spec =
+pub shelf-add-spec : {M : Type 1} → statement M
+shelf-add-spec =
     tie.close
     (tie.spec
     (λ c. beside-no-room _ _ _ _ (c .if1 .taken))

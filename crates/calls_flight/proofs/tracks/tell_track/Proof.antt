@@ -1,11 +1,11 @@
--- `calls_flight::tracks::tell` meets its contract. Assumes nothing.
+-- `calls_flight::tracks::tell_track` meets its contract. Assumes nothing.
 use borrow.Author.Needs.{needs}
 use Rattle.answers.proofs.Laws.{same-numbers}
-use Rattle.calls_flight.proofs.tracks.tell.Statement.{statement}
-use Rattle.calls_flight.proofs.tracks.tell.Tie as tie
+use Rattle.calls_flight.proofs.tracks.tell_track.Statement.{statement}
+use Rattle.calls_flight.proofs.tracks.tell_track.Tie as tie
 
-pub tell-spec : {M : Type 1} → statement M
-tell-spec =
+pub tell-track-spec : {M : Type 1} → statement M
+tell-track-spec =
     tie.close
     (tie.spec
     (λ c κs. search needs)

@@ -1,5 +1,5 @@
 // The first line of a listing, from the whole check. Behind it come the pages, which `block` puts.
-ghost use Rattle.lister.specs.Pages.{Begins};
+ghost use Rattle.lister.specs.First.{Begins};
 use rules::Layout;
 use rules::Outcome;
 use rules::Reason;
@@ -13,7 +13,8 @@ pub struct Begun {
     pub layout: Layout,
 }
 
-// Checks a file of at most `most` bytes and puts the first line of its listing into the buffer: OK and its counts; or REFUSED and why, INPUT_OVER for a longer file.
+// Checks a file of at most `most` bytes and puts the first line of its listing into the buffer: OK and its counts; or REFUSED and why. 21 for a longer file, and the table is then
+// unchanged; else the table is as `file::check` leaves it.
 pub fn begin(seal: Seal, most: usize, file: &[u8], table: &mut [u32], out: &mut [u8; 288]) -> Begun
     ensures { λ r. ⌜ Begins seal most (now (file .entry)) (now (table .entry)) (now (out .entry)) r (now (table .exit)) (now (out .exit)) ⌝ }
 {

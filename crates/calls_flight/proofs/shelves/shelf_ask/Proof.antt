@@ -1,11 +1,11 @@
--- `calls_flight::shelves::ask` meets its contract. Assumes nothing.
+-- `calls_flight::shelves::shelf_ask` meets its contract. Assumes nothing.
 use borrow.Author.Needs.{needs}
 use Rattle.answers.proofs.Laws.{given-said}
-use Rattle.calls_flight.proofs.shelves.ask.Statement.{statement}
-use Rattle.calls_flight.proofs.shelves.ask.Tie as tie
+use Rattle.calls_flight.proofs.shelves.shelf_ask.Statement.{statement}
+use Rattle.calls_flight.proofs.shelves.shelf_ask.Tie as tie
 
-pub ask-spec : {M : Type 1} → statement M
-ask-spec =
+pub shelf-ask-spec : {M : Type 1} → statement M
+shelf-ask-spec =
     tie.close
     (tie.spec
     (λ c κs. search needs)

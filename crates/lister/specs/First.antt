@@ -15,7 +15,7 @@ use Rattle.rules.specs.declared.Reason.the-variants.{InputOver}
 use Rattle.rules.specs.declared.Flight.{Flight}
 use Rattle.rules.specs.declared.Seal.{Seal}
 use Rattle.pieces.specs.Buffer.{Shown}
-use Rattle.lister.specs.declared.pages.Begun.{Begun}
+use Rattle.lister.specs.declared.first.Begun.{Begun}
 
 -- ---- the first line
 

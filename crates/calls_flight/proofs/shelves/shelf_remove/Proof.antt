@@ -1,14 +1,14 @@
--- `calls_flight::shelves::remove` meets its contract. Assumes nothing.
+-- `calls_flight::shelves::shelf_remove` meets its contract. Assumes nothing.
 use mathlib.Core.Path.{_∙_, ap}
 use borrow.Author.Needs.{needs}
 use Rattle.answers.specs.Answers.{inNumbers}
 use Rattle.answers.proofs.Laws.{beside-no-room, beside-room}
 use Rattle.calls_flight.specs.Shelves.{noNumbers}
-use Rattle.calls_flight.proofs.shelves.remove.Statement.{statement}
-use Rattle.calls_flight.proofs.shelves.remove.Tie as tie
+use Rattle.calls_flight.proofs.shelves.shelf_remove.Statement.{statement}
+use Rattle.calls_flight.proofs.shelves.shelf_remove.Tie as tie
 
-pub remove-spec : {M : Type 1} → statement M
-remove-spec =
+pub shelf-remove-spec : {M : Type 1} → statement M
+shelf-remove-spec =
     tie.close
     (tie.spec
     (λ c. beside-no-room _ _ _ _ (c .if1 .taken))
