@@ -1,4 +1,5 @@
 // The lent answer of a call from C: its numbers, of which the first two tell a refusal's line and byte and the others the values.
+#![tactic(auto)]
 ghost use Rattle.std.specs.Prelude.{◌≡◌, length};
 ghost use Rattle.c_answers.specs.Answers.{size, RefusalNumber, RefusalNumbers, ValueNumbers, TimeNumbers, PresenceNumbers, AnswerGiven, BytesBetween};
 
@@ -11,7 +12,7 @@ pub const SIZE: usize = 16;
 const VALUES: usize = 14;
 
 // The number that a call returns, and the numbers of its answer.
-#[derive(Drop)]
+#[derive(Clone, Copy)]
 pub struct Numbers {
     pub number: u32,
     pub values: [u64; SIZE],

@@ -1,4 +1,5 @@
 // The calls from C that tell a refusal in words: its name, and its explanation with the line's text and the caret. Each is put at the start of a lent text.
+#![tactic(auto)]
 mod reasons;
 
 ghost use Rattle.c_refusals.specs.Calls.{name_of, explained_of, WordsPut, NameAnswered, ExplainAnswered};
@@ -13,7 +14,7 @@ use reasons::reason_of;
 use rules::{Reason, Refusal, Wrote};
 
 // The reason that a number has, where a refusal has it.
-#[derive(Drop)]
+#[derive(Clone, Copy)]
 pub enum Numbered {
     Is(Reason),
     NoReason,

@@ -1,4 +1,5 @@
 // A run of body lines that are surely good, taken by numbers alone: the state with its layouts stays where it is until the run ends.
+#![tactic(auto)]
 mod pace;
 mod placed;
 
@@ -17,7 +18,7 @@ use check_clock::{Pace, Taken};
 use rules::{Extra, Family, Layout, State};
 
 // The place after a run, and the state there.
-#[derive(Drop)]
+#[derive(Clone, Copy)]
 pub struct Ahead {
     pub at: usize,
     pub state: State,
@@ -138,7 +139,7 @@ fn are_allowed(st: State) -> bool
 }
 
 // What a run knows of the lines of a family: their length, and the pattern of their columns, in the first `end` bytes.
-#[derive(Drop)]
+#[derive(Clone, Copy)]
 pub struct Gauge {
     pub size: usize,
     pub end: usize,

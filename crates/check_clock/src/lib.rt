@@ -1,4 +1,5 @@
 // The time order, and the numbers that a body line moves: the clock, the place, and the counts.
+#![tactic(auto)]
 ghost use Rattle.std.specs.Prelude.{◌≡◌};
 ghost use Rattle.check_clock.specs.Times.{BackTest, has_room, AfterTime};
 
@@ -18,7 +19,7 @@ pub fn is_back(before: u32, now: u32) -> bool
 }
 
 // The numbers that a body line moves: the place of the next line, the part of the file, the last time, and the counts of lines and of each family's.
-#[derive(Drop)]
+#[derive(Clone, Copy)]
 pub struct Pace {
     pub at: usize,
     pub stage: u8,
@@ -28,7 +29,7 @@ pub struct Pace {
 }
 
 // The numbers after a line; or that it is not sure to be good.
-#[derive(Drop)]
+#[derive(Clone, Copy)]
 pub enum Taken {
     Next(Pace),
     Unsure,

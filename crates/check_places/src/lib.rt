@@ -1,10 +1,11 @@
 // What each place of a line with columns may hold, put down once for many lines; and a line held against it, many bytes at a time.
+#![tactic(auto)]
 ghost use Rattle.std.specs.Prelude.{◌≡◌, ◌+◌, ◌-◌, ◌*◌, ◌<◌, ◌≤◌, ◌&&◌, List, [], length, replicate, slice_set};
 ghost use Rattle.std.proofs.lemmas.List.Edits.{sets};
 ghost use Rattle.check_places.specs.Places.{may_stand, first_mark, next_mark, column_marks, end_marks, columns_marks, low_marks, span_marks, other_marks, laid, PlacedTest, SecondsGiven, FixPlaces, ExtraPlaces};
 
 // Three lists: from `low` on so many bytes as `span` says may stand at a place, and the one of `other`. Behind the line any byte may.
-#[derive(Drop)]
+#[derive(Clone, Copy)]
 pub struct Places {
     pub low: [u8; 112],
     pub span: [u8; 112],
@@ -12,7 +13,7 @@ pub struct Places {
 }
 
 // What one of the lists has for a digit, for the first byte of a column that may be a minus, for a text's byte, for CR and LF, and behind the line.
-#[derive(Drop)]
+#[derive(Clone, Copy)]
 pub struct Marks {
     pub digit: u8,
     pub minus: u8,

@@ -1,4 +1,5 @@
 // A line that was judged: entered in the table of the lines' offsets, or the check stops there.
+#![tactic(auto)]
 ghost use Rattle.std.specs.Prelude.{◌≤◌, ◌≡◌};
 ghost use Rattle.check_state.specs.States.{in_next};
 ghost use Rattle.check_table.specs.Turns.{room_of, EntryPut};
@@ -34,7 +35,7 @@ fn in_next(reason: Reason, byte: u32, st: State) -> Refusal
 }
 
 // What a turn comes to, with the place of the next line and the state there; where the check stops, the place and the state are the old ones.
-#[derive(Drop)]
+#[derive(Clone, Copy)]
 pub struct Turn {
     pub outcome: Outcome,
     pub at: usize,

@@ -1,5 +1,6 @@
 // The numbers of some columns of a whole file in one call, row by row: `columns` checks the file, finds where the columns that are asked for stand, goes over the lines by their known lengths and puts
 // the numbers of each line of the family into a lent list.
+#![tactic(auto)]
 ghost use Rattle.std.specs.Prelude.{◌≤◌, ◌<◌, ◌≡◌, length};
 ghost use Rattle.std.proofs.Math.Option.{none};
 ghost use Rattle.std.proofs.lemmas.List.Edits.{sets};
@@ -15,14 +16,14 @@ use layout_family::FamilyRead;
 use rules::{Counts, Extra, Family, Flight, Layouts, Outcome, Reason, Refusal, Seal};
 
 // How many lines of a family a file has; or the refusal.
-#[derive(Drop)]
+#[derive(Clone, Copy)]
 pub enum Columned {
     Lines(usize),
     Refused(Refusal),
 }
 
 // How many bytes the lines of each family have.
-#[derive(Drop)]
+#[derive(Clone, Copy)]
 pub struct Sizes {
     pub b: usize,
     pub k: usize,

@@ -1,4 +1,5 @@
 // The codes that are asked for, as a lent text of three bytes each: whether they are codes, and where a layout has their columns.
+#![tactic(auto)]
 ghost use Rattle.std.specs.Prelude.{◌-◌, ◌*◌, ◌≤◌, ◌≡◌, drop};
 ghost use Rattle.rules.specs.Listed.{packed_of};
 ghost use Rattle.rules.specs.Refusals.{no};
@@ -8,7 +9,7 @@ use layout_coded::Spot;
 use rules::{Layout, Outcome, Reason, Refusal};
 
 // Where the columns of up to 13 codes stand: of each its first and its last byte, counted from 1, one code behind the other; 0 past the last, and beside a refusal.
-#[derive(Drop)]
+#[derive(Clone, Copy)]
 pub struct Places {
     pub outcome: Outcome,
     pub spots: [u8; 26],

@@ -1,4 +1,5 @@
 // The declaration of a whole file in one call: `declaration` checks the file, finds its head, the first C line, and puts six numbers of each of its points into a lent list.
+#![tactic(auto)]
 ghost use Rattle.std.specs.Prelude.{◌+◌, ◌*◌, ◌-◌, ◌≤◌, ◌<◌, ◌≡◌, length, drop};
 ghost use Rattle.std.proofs.lemmas.List.Edits.{sets};
 ghost use Rattle.rules.specs.Reads.{head_said, point_said};
@@ -14,7 +15,7 @@ use rules::{
 
 // What a declaration says: its head, how many points follow it, the number of the head's line, counted from 1, and the head's text: how many bytes of the file stand before it, and how many it has.
 // All are zero where a file has no declaration.
-#[derive(Drop)]
+#[derive(Clone, Copy)]
 pub struct Declared {
     pub head: Head,
     pub points: usize,
@@ -23,21 +24,21 @@ pub struct Declared {
     pub length: usize,
 }
 
-#[derive(Drop)]
+#[derive(Clone, Copy)]
 pub enum DeclarationRead {
     Is(Declared),
     Refused(Refusal),
 }
 
 // Where a line stands: how many lines and how many bytes stand before it, and how many bytes stand before its CR LF.
-#[derive(Drop)]
+#[derive(Clone, Copy)]
 pub struct Start {
     pub lines: usize,
     pub at: usize,
     pub end: usize,
 }
 
-#[derive(Drop)]
+#[derive(Clone, Copy)]
 pub enum StartRead {
     At(Start),
     Nowhere,

@@ -1,17 +1,18 @@
 // A reading place that steps over the lines of a file.
+#![tactic(auto)]
 ghost use Rattle.file_cursor.specs.Steps.{LineStepped, AtFirst};
 
 use file_lines::{crlf_from, unplaced};
 use rules::{Found, Reason, Refusal};
 
 // A reading place over the lines of a file: how many bytes stand before it.
-#[derive(Drop)]
+#[derive(Clone, Copy)]
 pub struct Cursor {
     pub at: usize,
 }
 
 // What a step finds: a line, by how many bytes stand before it and before its CR LF, with the place after it; or that none is left, with the place as it was.
-#[derive(Drop)]
+#[derive(Clone, Copy)]
 pub enum Step {
     Line {
         start: usize,

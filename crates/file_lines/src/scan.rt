@@ -44,7 +44,7 @@ pub(crate) fn is_start(file: &[u8], o: usize) -> bool
 }
 
 // How a line ends: by CR LF, or by a CR or LF that is not CR LF or the end of the file; how many bytes stand before that.
-#[derive(Drop)]
+#[derive(Clone, Copy)]
 pub enum Ended {
     At(usize),
     Broken(usize),

@@ -1,4 +1,5 @@
 // What igc and badge write, their answers on standard output and what is no answer on standard error; the words that they were started with, and a new file made.
+#![tactic(auto)]
 mod making;
 mod words;
 

@@ -36,7 +36,7 @@ fn first_option(from: usize, n: usize) -> usize {
 }
 
 // The names of files among the words from a place on: how many they are, and where `--` stands, behind which every word is one. None where a word before it begins with a dash.
-#[derive(Drop)]
+#[derive(Clone, Copy)]
 pub struct Names {
     pub dashes: usize,
     pub count: usize,

@@ -1,4 +1,5 @@
 // What the programs igc and badge do with files that are named: each errand goes from a file's name to its fate.
+#![tactic(auto)]
 mod claims;
 mod files;
 mod merging;
@@ -16,7 +17,7 @@ use summaries::print_summary;
 use tracks::{Kind, print_track};
 
 // What is wanted of a file: its listing, a line that says whether it is accepted, its track for people or for other programs, its summary; or whether it is fit for a claim, which the badge list asks.
-#[derive(Drop)]
+#[derive(Clone, Copy)]
 pub enum Errand {
     List,
     Check,

@@ -6,7 +6,7 @@ use text_forms::Form;
 use track_rules::Progress;
 
 // What a track is printed as: lines for people, comma-separated values, GPX.
-#[derive(Drop)]
+#[derive(Clone, Copy)]
 pub(crate) enum Kind {
     Track,
     Csv,

@@ -1,8 +1,9 @@
 // What became of a file, and with which status the programs igc and badge end.
+#![tactic(auto)]
 ghost use Rattle.igc_fate.specs.Status.{StatusGiven, WorseGiven};
 
 // What became of a file.
-#[derive(Drop)]
+#[derive(Clone, Copy)]
 pub enum Fate {
     Accepted,
     Refused,

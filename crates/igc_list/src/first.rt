@@ -4,7 +4,7 @@ ghost use Rattle.igc_list.specs.First.{Begins};
 use rules::{Layout, Outcome, Reason, Refusal, Seal};
 
 // The first line of a listing: how many bytes were put; and the file's lines and I layout, none where it is refused.
-#[derive(Drop)]
+#[derive(Clone, Copy)]
 pub struct Begun {
     pub count: usize,
     pub lines: u32,

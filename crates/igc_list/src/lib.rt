@@ -1,5 +1,6 @@
 // Lists a file on standard output: its counts, each fix and its columns; or why it is refused. What is printed is made by `begin`, `text_block` and `text_listing`, and written here.
 // Each function answers whether all that it prints was written, and stops at the first write that fails.
+#![tactic(auto)]
 mod first;
 mod input;
 

@@ -1,10 +1,11 @@
 // A file by its name, read whole.
+#![tactic(auto)]
 ghost use Rattle.io.specs.Counts.{IsPrefixLen};
 
 use igc_console::{say_unopened, say_unread};
 
 // How many bytes of the input are the file's, and whether they are all that it has.
-#[derive(Drop)]
+#[derive(Clone, Copy)]
 pub struct Got {
     pub count: usize,
     pub whole: bool,

@@ -1,4 +1,5 @@
 // The programs igc and badge, one exported function each, which a `main` in C calls (c/igc.c, c/badge.c). Here is what both do: an errand on each file that is named.
+#![tactic(auto)]
 mod badge;
 mod igc;
 

@@ -1,5 +1,6 @@
 // A shelf of flights in a file on disk, for igc: a flight added, handed out or removed, its flights told, its bodies packed. A changed shelf is written beside the old one, and takes its name
 // when it is whole.
+#![tactic(auto)]
 use igc_console::{fate_of, print_refused};
 use igc_fate::Fate;
 use igc_named::read_named;

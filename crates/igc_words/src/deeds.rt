@@ -5,7 +5,7 @@ use crate::is_same;
 use rules::Number;
 
 // What is asked of a shelf; `NoDeed` where the word is none.
-#[derive(Drop)]
+#[derive(Clone, Copy)]
 pub enum Deed {
     Add,
     List,
@@ -16,7 +16,7 @@ pub enum Deed {
 }
 
 // A flight number; `NoFlight` where a word is none.
-#[derive(Drop)]
+#[derive(Clone, Copy)]
 pub enum Flight {
     Is(u32),
     NoFlight,

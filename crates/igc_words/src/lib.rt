@@ -1,4 +1,5 @@
 // What the words of the program igc mean.
+#![tactic(auto)]
 mod deeds;
 
 ghost use Rattle.std.specs.Prelude.{◌≡◌};
@@ -7,7 +8,7 @@ ghost use Rattle.igc_words.specs.Words.{same, about_of, VerbGiven, OptionTest, N
 pub use deeds::{Deed, Flight, deed_of, flight_of};
 
 // What is asked of the program; `NoVerb` where the word is none.
-#[derive(Drop)]
+#[derive(Clone, Copy)]
 pub enum Verb {
     List,
     Check,

@@ -1,10 +1,11 @@
 // Where the column of a code stands, by the entries of a layout.
+#![tactic(auto)]
 ghost use Rattle.layout_coded.specs.Spots.{SpotFound, CarriesTest};
 
 use rules::Layout;
 
 // Where the column of a code stands: its first and its last byte, counted from 1.
-#[derive(Drop)]
+#[derive(Clone, Copy)]
 pub enum Spot {
     At(u8, u8),
     Nowhere,

@@ -1,4 +1,5 @@
 // The listed codes: their table, and what it says of a column's width and text.
+#![tactic(auto)]
 ghost use Rattle.std.specs.Prelude.{◌&&◌, ◌≡◌, eqb};
 ghost use Rattle.rules.specs.Listed.{is_past};
 ghost use Rattle.rules.specs.Promises.{ListedAt, ColumnTest};
@@ -7,7 +8,7 @@ ghost use Rattle.layout_codes.specs.Parts.{in_row, is_topped, CodePacked, Listed
 use rules::{AtLimit, Found, Listed};
 
 // A row of the table: code, least width, most width, and whether a minus may come first.
-#[derive(Drop)]
+#[derive(Clone, Copy)]
 pub struct Row(pub [u8; 3], pub u8, pub u8, pub bool);
 
 const TABLE: [Row; 15] = [

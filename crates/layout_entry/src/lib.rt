@@ -1,4 +1,5 @@
 // The entries of a layout: one held against those before it, and one read at its place of an I, a J or an M line.
+#![tactic(auto)]
 ghost use Rattle.std.specs.Prelude.{◌≤◌, ◌≡◌};
 ghost use Rattle.rules.specs.Refusals.{no};
 ghost use Rattle.layout_entry.specs.Parts.{is_among, coded_by, EntryPlaced, PlacedBehind, CodeGiven, EntryGiven, entry_told};
@@ -7,7 +8,7 @@ use rules::{Entry, Layout, Number, Reason, Refusal};
 pub use rules_values::empty_layout;
 
 // An entry that keeps the rules.
-#[derive(Drop)]
+#[derive(Clone, Copy)]
 pub enum EntryRead {
     Is(Entry),
     Refused(Refusal),
@@ -69,7 +70,7 @@ fn is_among(codes: &[u32], n: usize, code: u32) -> bool
 }
 
 // A code's three characters as one number.
-#[derive(Drop)]
+#[derive(Clone, Copy)]
 pub enum Letters {
     Code(u32),
     NoCode,

@@ -1,4 +1,5 @@
 // The families of lines with columns: where their columns start, their letters, and which family a line is of.
+#![tactic(auto)]
 ghost use Rattle.layout_family.specs.Letters.{StartGiven, LineLetterGiven, LayoutLetterGiven, FamilyGiven, LayoutFamilyGiven};
 
 use rules::{Extra, Family};
@@ -40,7 +41,7 @@ pub fn layout_letter(family: Family) -> u8
 }
 
 // The family of a line, where it is of one.
-#[derive(Drop)]
+#[derive(Clone, Copy)]
 pub enum FamilyRead {
     Of(Family),
     NoFamily,

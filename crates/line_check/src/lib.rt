@@ -1,4 +1,5 @@
 // Each kind of line, without its CR LF, by the checks 7 to 13 in their order: what the line says, or the first refusal, with 0 for the line number.
+#![tactic(auto)]
 ghost use Rattle.std.specs.Prelude.{◌≡◌, ◌-◌, ◌%◌, eqb, length, drop};
 ghost use Rattle.rules.specs.Families.{first_start};
 ghost use Rattle.rules.specs.Lines.{at_limit, is_date_mark, planned_at, head_fields, bad_pair, shaped_by};
@@ -112,7 +113,7 @@ pub fn date_line(line: &[u8]) -> DateRead
 }
 
 // A flight date, which may not be given.
-#[derive(Drop)]
+#[derive(Clone, Copy)]
 pub enum PlannedRead {
     Is(Planned),
     NoPlan,

@@ -1,4 +1,5 @@
 // Which kind of line may follow which.
+#![tactic(auto)]
 ghost use Rattle.std.specs.Prelude.{◌≡◌};
 ghost use Rattle.rules.specs.Order.{fits_declaration};
 ghost use Rattle.rules.specs.Roles.{is_declaring, after_layout, leading, stage_after};
@@ -68,7 +69,7 @@ pub fn role_of(k: Kind) -> Role
 }
 
 // The part of a file that a line leads to, or that it may not come there.
-#[derive(Drop)]
+#[derive(Clone, Copy)]
 pub enum Leading {
     To(u8),
     Nowhere,

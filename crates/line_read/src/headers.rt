@@ -5,7 +5,7 @@ ghost use Rattle.line_read.specs.Headers.{header_in, HeaderGiven};
 use rules::{Outcome, Reason, Refusal};
 
 // What an H line says: its source, F or O, the three characters of its code, and its text: how many bytes stand before it, and how many it has.
-#[derive(Drop)]
+#[derive(Clone, Copy)]
 pub struct HeaderLine {
     pub source: u8,
     pub first: u8,
@@ -15,7 +15,7 @@ pub struct HeaderLine {
     pub length: usize,
 }
 
-#[derive(Drop)]
+#[derive(Clone, Copy)]
 pub enum HeaderRead {
     Is(HeaderLine),
     Refused(Refusal),

@@ -1,4 +1,5 @@
 // Lists the IGC file on standard input: OK and its counts, FIX for each fix, COL for each of its columns; or REFUSED with number, line and byte.
+#![tactic(auto)]
 use libc::{STDERR_FILENO, STDIN_FILENO};
 
 // An input that was read short of the limit has to be at its end. The program has no exit status, so what fails is said on standard error.

@@ -1,4 +1,5 @@
 // The notes of two slices woven into one and put into an output, where they have room there.
+#![tactic(auto)]
 ghost use Rattle.std.specs.Prelude.{◌&&◌, ◌≡◌, leb};
 ghost use Rattle.notes_fit.specs.Weave.{NotesWoven};
 
@@ -12,7 +13,7 @@ fn has_room(most: usize, room: usize) -> bool
 }
 
 // What became of the notes: they were put, and so many bytes the whole has; or it is over 16,777,216 bytes; or the output has no room.
-#[derive(Drop)]
+#[derive(Clone, Copy)]
 pub enum Woven {
     Put(usize),
     TooLong,

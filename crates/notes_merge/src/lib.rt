@@ -1,4 +1,5 @@
 // Two copies of a file with evening notes brought together: the part that they have in common, then the notes of both.
+#![tactic(auto)]
 ghost use Rattle.std.specs.Prelude.{◌≡◌, ◌≤◌, length, take, drop};
 ghost use Rattle.std.proofs.lemmas.List.Edits.{sets};
 ghost use Rattle.notes_merge.specs.Merge.{StrictlyAccepted, FilesMerged};
@@ -7,7 +8,7 @@ use notes_fit::Woven;
 use rules::{Found, Outcome, Reason, Refusal, Seal};
 
 // How many bytes the merged file has; or a refusal: of the first file, of the second, or of neither (26, 2 or 18, with line 0 and byte 0).
-#[derive(Drop)]
+#[derive(Clone, Copy)]
 pub enum Brought {
     Whole(usize),
     First(Refusal),

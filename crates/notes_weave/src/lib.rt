@@ -1,5 +1,6 @@
 // The notes of two slices put one after the other: each slice is read in runs of up to 4,096 notes in order, and of the two that come next the one that comes first is put
 // into the output, once where both have it.
+#![tactic(auto)]
 ghost use Rattle.std.specs.Prelude.{◌∷◌, [], ◌≤◌, ◌<◌, length};
 ghost use Rattle.notes_weave.specs.Loom.{Ready, Fine, Fresh, Taken, Fills, Emitted, Chosen, Turned, Walked, NotesPut};
 
@@ -75,7 +76,7 @@ fn which(a: &[u8], b: &[u8], ha: &[usize], hb: &[usize], x: Place, y: Place) -> 
 }
 
 // Where both slices are read on, and where the output is written on.
-#[derive(Drop)]
+#[derive(Clone, Copy)]
 pub struct Turn {
     pub x: Place,
     pub y: Place,

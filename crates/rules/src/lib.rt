@@ -1,7 +1,8 @@
 // What every crate shares: the values read from an IGC file, and the answers given. No function stands here; specs/ says what is right.
+#![tactic(auto)]
 
 // Why something is refused, by the names of document 01's table of refusal numbers and of document 02's requests.
-#[derive(Drop)]
+#[derive(Clone, Copy)]
 pub enum Reason {
     Empty,
     TooLong,
@@ -37,7 +38,7 @@ pub enum Reason {
 }
 
 // The classes of fields, by which a field that breaks its rule is refused.
-#[derive(Drop)]
+#[derive(Clone, Copy)]
 pub enum Class {
     Time,
     Position,
@@ -47,7 +48,7 @@ pub enum Class {
 }
 
 // A refusal: why, in which line, at which byte of it. Lines and bytes count from 1; 0 stands for none.
-#[derive(Drop)]
+#[derive(Clone, Copy)]
 pub struct Refusal {
     pub reason: Reason,
     pub line: u32,
@@ -55,53 +56,53 @@ pub struct Refusal {
 }
 
 // What is said of something whose value, where it is accepted, stands beside this answer.
-#[derive(Drop)]
+#[derive(Clone, Copy)]
 pub enum Outcome {
     Accepted,
     Refused(Refusal),
 }
 
 // Where something was found: how many bytes stand before it.
-#[derive(Drop)]
+#[derive(Clone, Copy)]
 pub enum Found {
     At(usize),
     Nothing,
 }
 
 // What digits spell.
-#[derive(Drop)]
+#[derive(Clone, Copy)]
 pub enum Number {
     Value(u64),
     NoNumber,
 }
 
 // A whole number with its sign.
-#[derive(Drop)]
+#[derive(Clone, Copy)]
 pub struct Signed {
     pub value: i64,
 }
 
-#[derive(Drop)]
+#[derive(Clone, Copy)]
 pub enum Whole {
     Of(Signed),
     NoWhole,
 }
 
 // Seconds of the day.
-#[derive(Drop)]
+#[derive(Clone, Copy)]
 pub enum Time {
     Secs(u32),
     NoTime,
 }
 
-#[derive(Drop)]
+#[derive(Clone, Copy)]
 pub struct Date {
     pub day: u8,
     pub month: u8,
     pub year: u16,
 }
 
-#[derive(Drop)]
+#[derive(Clone, Copy)]
 pub enum Day {
     On(Date),
     NoDay,
@@ -109,13 +110,13 @@ pub enum Day {
 
 // A latitude or a longitude: a count of thousandths of a minute, with its letter beside it.
 #[repr(C)]
-#[derive(Drop)]
+#[derive(Clone, Copy)]
 pub struct Position {
     pub count: u64,
     pub letter: u8,
 }
 
-#[derive(Drop)]
+#[derive(Clone, Copy)]
 pub enum PositionField {
     Is(Position),
     NoPosition,
@@ -123,32 +124,32 @@ pub enum PositionField {
 
 // An altitude.
 #[repr(C)]
-#[derive(Drop)]
+#[derive(Clone, Copy)]
 pub struct Height {
     pub metres: i32,
 }
 
-#[derive(Drop)]
+#[derive(Clone, Copy)]
 pub enum Altitude {
     Metres(Height),
     NoAltitude,
 }
 
 // A position for the map.
-#[derive(Drop)]
+#[derive(Clone, Copy)]
 pub struct Degrees {
     pub lat: f64,
     pub lon: f64,
 }
 
-#[derive(Drop)]
+#[derive(Clone, Copy)]
 pub enum DegreesRead {
     Both(Degrees),
     Refused(Refusal),
 }
 
 // A listed code: its three characters as one number, the least and the most width of its column, and whether the column may begin with a minus.
-#[derive(Drop)]
+#[derive(Clone, Copy)]
 pub struct Listed {
     pub code: u32,
     pub least: usize,
@@ -157,7 +158,7 @@ pub struct Listed {
 }
 
 // A column: the places of its first and last byte in the line, counted from 1, and its code's three characters as one number.
-#[derive(Drop)]
+#[derive(Clone, Copy)]
 pub struct Entry {
     pub first: u8,
     pub last: u8,
@@ -165,69 +166,69 @@ pub struct Entry {
 }
 
 // The columns that an I, a J or an M line tells: the first `count` entries; the others are all zero.
-#[derive(Drop)]
+#[derive(Clone, Copy)]
 pub struct Layout {
     pub count: usize,
     pub entries: [Entry; 13],
 }
 
 // The lines whose fields before the columns are a time alone: K lines, and N lines, which are built as they are.
-#[derive(Drop)]
+#[derive(Clone, Copy)]
 pub enum Extra {
     K,
     N,
 }
 
 // The lines that a layout is for: B lines with their I line's, K lines with their J line's, N lines with their M line's.
-#[derive(Drop)]
+#[derive(Clone, Copy)]
 pub enum Family {
     B,
     Extra(Extra),
 }
 
 // A layout that was read; the empty one beside a refusal.
-#[derive(Drop)]
+#[derive(Clone, Copy)]
 pub struct LayoutRead {
     pub outcome: Outcome,
     pub layout: Layout,
 }
 
 // How many bytes a line has.
-#[derive(Drop)]
+#[derive(Clone, Copy)]
 pub enum LengthRead {
     Bytes(usize),
     Refused(Refusal),
 }
 
 // Which listed codes a layout carries: bit n of the word for the number n, and how many there are.
-#[derive(Drop)]
+#[derive(Clone, Copy)]
 pub struct Presence {
     pub word: u32,
     pub count: u32,
 }
 
-#[derive(Drop)]
+#[derive(Clone, Copy)]
 pub enum PresenceRead {
     Carries(Presence),
     Refused(Refusal),
 }
 
 // Where a column stands: the places of its first and last byte, counted from 1.
-#[derive(Drop)]
+#[derive(Clone, Copy)]
 pub enum ColumnRead {
     Between(u8, u8),
     Refused(Refusal),
 }
 
 // A column as a whole number.
-#[derive(Drop)]
+#[derive(Clone, Copy)]
 pub enum NumberRead {
     Is(Signed),
     Refused(Refusal),
 }
 
 // What the bytes of a B line before its columns spell, position and time as plain counts.
-#[derive(Drop)]
+#[derive(Clone, Copy)]
 pub struct FixFields {
     pub time: u32,
     pub lat: Position,
@@ -237,28 +238,28 @@ pub struct FixFields {
     pub gnss: Height,
 }
 
-#[derive(Drop)]
+#[derive(Clone, Copy)]
 pub enum FixFieldsRead {
     Is(FixFields),
     Refused(Refusal),
 }
 
 // Which coordinates of a B line stand at their limit, 90 or 180 degrees: there finer digits can only be zeros.
-#[derive(Drop)]
+#[derive(Clone, Copy)]
 pub struct AtLimit {
     pub lat: bool,
     pub lon: bool,
 }
 
 // Where a column of finer digits stands: the places of its first and last byte, counted from 1; 0 and 0 where there is no such column.
-#[derive(Drop)]
+#[derive(Clone, Copy)]
 pub struct Reach {
     pub first: u8,
     pub last: u8,
 }
 
 // The columns of finer digits of a B line: TDS for its time, LAD for its latitude, LOD for its longitude.
-#[derive(Drop)]
+#[derive(Clone, Copy)]
 pub struct Finer {
     pub time: Reach,
     pub lat: Reach,
@@ -267,7 +268,7 @@ pub struct Finer {
 
 // The time of a fix: a count of seconds of the day, taken ten times for each of its extra decimals.
 #[repr(C)]
-#[derive(Drop)]
+#[derive(Clone, Copy)]
 pub struct FineTime {
     pub count: u32,
     pub decimals: u8,
@@ -275,7 +276,7 @@ pub struct FineTime {
 
 // The latitude or the longitude of a fix: a count of thousandths of a minute, taken ten times for each of its extra decimals, with its letter beside it.
 #[repr(C)]
-#[derive(Drop)]
+#[derive(Clone, Copy)]
 pub struct FinePosition {
     pub count: u64,
     pub letter: u8,
@@ -284,7 +285,7 @@ pub struct FinePosition {
 
 // What the reading of a B line gives before its columns.
 #[repr(C)]
-#[derive(Drop)]
+#[derive(Clone, Copy)]
 pub struct Fix {
     pub time: FineTime,
     pub lat: FinePosition,
@@ -294,48 +295,48 @@ pub struct Fix {
     pub gnss: Height,
 }
 
-#[derive(Drop)]
+#[derive(Clone, Copy)]
 pub enum FixRead {
     Is(Fix),
     Refused(Refusal),
 }
 
 // The time of a K, an N, an E or an F line.
-#[derive(Drop)]
+#[derive(Clone, Copy)]
 pub enum TimeRead {
     Secs(u32),
     Refused(Refusal),
 }
 
 // A B line read: its fix, and the entries of its columns in layout order; no entries beside a refusal.
-#[derive(Drop)]
+#[derive(Clone, Copy)]
 pub struct FixReading {
     pub fix: FixRead,
     pub entries: Layout,
 }
 
 // A K or an N line read: its time, and the entries of its columns in layout order; no entries beside a refusal.
-#[derive(Drop)]
+#[derive(Clone, Copy)]
 pub struct ExtraReading {
     pub time: TimeRead,
     pub entries: Layout,
 }
 
-#[derive(Drop)]
+#[derive(Clone, Copy)]
 pub enum DateRead {
     On(Date),
     Refused(Refusal),
 }
 
 // The flight date of a declaration.
-#[derive(Drop)]
+#[derive(Clone, Copy)]
 pub enum Planned {
     On(Date),
     NotGiven,
 }
 
 // What the first line of a declaration says before its text.
-#[derive(Drop)]
+#[derive(Clone, Copy)]
 pub struct Head {
     pub declared: Date,
     pub time: u32,
@@ -344,27 +345,27 @@ pub struct Head {
     pub turns: u8,
 }
 
-#[derive(Drop)]
+#[derive(Clone, Copy)]
 pub enum HeadRead {
     Is(Head),
     Refused(Refusal),
 }
 
 // What a point line of a declaration says before its text.
-#[derive(Drop)]
+#[derive(Clone, Copy)]
 pub struct Point {
     pub lat: Position,
     pub lon: Position,
 }
 
-#[derive(Drop)]
+#[derive(Clone, Copy)]
 pub enum PointRead {
     Is(Point),
     Refused(Refusal),
 }
 
 // A line's kind, told by its first byte. Other: O to Z. NoKind: no byte from A to Z.
-#[derive(Drop)]
+#[derive(Clone, Copy)]
 pub enum Kind {
     A,
     B,
@@ -386,7 +387,7 @@ pub enum Kind {
 
 // What a kind of line does in a file: the A line opens it, H lines head it, I, J and M lines tell a layout, B, K and N lines have columns, C lines
 // declare a task. No role: no byte from A to Z.
-#[derive(Drop)]
+#[derive(Clone, Copy)]
 pub enum Role {
     Opens,
     Heads,
@@ -403,14 +404,14 @@ pub enum Role {
 }
 
 // What a file must have at its end, by the check that it is put through. Usual: its first two lines, with a G line or without one. Strict: a G line.
-#[derive(Drop)]
+#[derive(Clone, Copy)]
 pub enum Seal {
     Usual,
     Strict,
 }
 
 // A layout for the lines of each family.
-#[derive(Drop)]
+#[derive(Clone, Copy)]
 pub struct Layouts {
     pub b: Layout,
     pub k: Layout,
@@ -418,7 +419,7 @@ pub struct Layouts {
 }
 
 // How many lines of each family there are.
-#[derive(Drop)]
+#[derive(Clone, Copy)]
 pub struct Counts {
     pub b: u32,
     pub k: u32,
@@ -426,7 +427,7 @@ pub struct Counts {
 }
 
 // What an accepted file says: its date, the layouts of its families, how many lines it has, how many of each family, and whether it is signed: it has a G line.
-#[derive(Drop)]
+#[derive(Clone, Copy)]
 pub struct Flight {
     pub date: Date,
     pub layouts: Layouts,
@@ -437,7 +438,7 @@ pub struct Flight {
 
 // What the lines so far have left: the part of the file that they reached, whether a declaration was begun, how many of its points are
 // still to come, the last time, and what the file says so far.
-#[derive(Drop)]
+#[derive(Clone, Copy)]
 pub struct State {
     pub stage: u8,
     pub declared: bool,
@@ -447,28 +448,28 @@ pub struct State {
 }
 
 // One line judged: the state after it, or the state at the start beside a refusal.
-#[derive(Drop)]
+#[derive(Clone, Copy)]
 pub struct Judged {
     pub outcome: Outcome,
     pub state: State,
 }
 
 // A whole file checked: what it says, or all zero and not signed beside a refusal.
-#[derive(Drop)]
+#[derive(Clone, Copy)]
 pub struct Checked {
     pub outcome: Outcome,
     pub flight: Flight,
 }
 
 // A line of the file: how many bytes stand before it and before its CR LF.
-#[derive(Drop)]
+#[derive(Clone, Copy)]
 pub enum LineRead {
     Part(usize, usize),
     Refused(Refusal),
 }
 
 // A line written: the place after its CR LF.
-#[derive(Drop)]
+#[derive(Clone, Copy)]
 pub enum Wrote {
     Next(usize),
     Refused(Refusal),

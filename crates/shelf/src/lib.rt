@@ -1,4 +1,5 @@
 // A shelf of flights in one lent buffer: a flight added, asked for, removed; the shelf packed.
+#![tactic(auto)]
 ghost use Rattle.std.specs.Prelude.{◌≡◌};
 ghost use Rattle.shelf_rules.specs.Shelf.{held_at, add_said};
 ghost use Rattle.shelf_place.specs.Plans.{plan_told};
@@ -11,7 +12,7 @@ use shelf_place::Plan;
 use shelf_rules::{Added, Asked, Slot};
 
 // The entry of a flight that is held; or the refusal.
-#[derive(Drop)]
+#[derive(Clone, Copy)]
 enum Held {
     At(usize),
     Refused(Refusal),

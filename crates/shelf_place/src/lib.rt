@@ -1,4 +1,5 @@
 // The entry and the start of a body that is to be added to a sound shelf: the first free entry, and the smallest start where the body fits.
+#![tactic(auto)]
 ghost use Rattle.std.specs.Prelude.{◌≡◌};
 ghost use Rattle.shelf_rules.specs.Shelf.{usable};
 ghost use Rattle.shelf_place.specs.Plans.{SpotAllotted};
@@ -6,7 +7,7 @@ ghost use Rattle.shelf_place.specs.Plans.{SpotAllotted};
 use rules::{Found, Reason, Refusal};
 
 // The entry and the start for a body that is to be added; or the refusal.
-#[derive(Drop)]
+#[derive(Clone, Copy)]
 pub enum Plan {
     Spot(usize, usize),
     Refused(Refusal),

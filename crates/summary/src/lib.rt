@@ -1,5 +1,6 @@
 // A summary beside a flight, made or brought up to date in a lent list of numbers: twelve for the whole flight, then twelve for each run of 256 fixes. The file is checked
 // once; `track_course::for_flight` says where its fixes are read from, and `summary_reckon::of_fixes` reads them.
+#![tactic(auto)]
 ghost use Rattle.summary.specs.Summaries.{FileSummed, FileDated};
 
 use rules::{Date, Outcome, Seal};
@@ -7,7 +8,7 @@ use summary_reckon::Summed;
 use track_course::Tracked;
 
 // The answer of a summary, and the file's date: day, month and year 0 where the check refuses the file.
-#[derive(Drop)]
+#[derive(Clone, Copy)]
 pub struct Dated {
     pub answer: Summed,
     pub date: Date,

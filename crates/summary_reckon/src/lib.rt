@@ -1,4 +1,5 @@
 // The summary of so many fixes of a file, reckoned in one pass, run by run: `fill` puts the numbers of each run and of the whole, and `of_fixes` says what is refused.
+#![tactic(auto)]
 ghost use Rattle.std.specs.Prelude.{◌*◌, ◌+◌, ◌≤◌, ◌≡◌};
 ghost use Rattle.track_step.specs.Steps.{step_of};
 ghost use Rattle.summary_reckon.specs.Filled.{leg_of, next_run, put_from, turned_leg, turned_list, filled};
@@ -9,14 +10,14 @@ use summary_span::Sum;
 use track_rules::Progress;
 
 // How many runs a file's summary has; or the refusal.
-#[derive(Drop)]
+#[derive(Clone, Copy)]
 pub enum Summed {
     Runs(usize),
     Refused(Refusal),
 }
 
 // What is told of some fixes, and where the reading of the next ones starts.
-#[derive(Drop)]
+#[derive(Clone, Copy)]
 pub struct Leg {
     pub sum: Sum,
     pub next: Progress,

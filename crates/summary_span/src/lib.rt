@@ -1,15 +1,16 @@
 // What is told of some fixes: their first and their last moment, and the least and the greatest of their heights and positions. What is told of two parts of a flight is joined.
+#![tactic(auto)]
 ghost use Rattle.std.specs.Prelude.{◌≡◌};
 ghost use Rattle.summary_span.specs.Sums.{higher_of, lower_of, joined_span, merged, FigureGiven, NothingTold, SumsJoined};
 
 // A number of a summary.
-#[derive(Drop)]
+#[derive(Clone, Copy)]
 pub struct Figure {
     pub value: i32,
 }
 
 // The least and the greatest of some numbers; both 0 where there is none.
-#[derive(Drop)]
+#[derive(Clone, Copy)]
 pub struct Span {
     pub any: bool,
     pub least: Figure,
@@ -17,14 +18,14 @@ pub struct Span {
 }
 
 // A day, counted from 0, and its seconds.
-#[derive(Drop)]
+#[derive(Clone, Copy)]
 pub struct Moment {
     pub day: Figure,
     pub seconds: Figure,
 }
 
 // What is told of some fixes. Heights are of all of them, latitudes and longitudes of those that are marked A; where no height is told, there is no fix, and all is 0.
-#[derive(Drop)]
+#[derive(Clone, Copy)]
 pub struct Sum {
     pub first: Moment,
     pub last: Moment,

@@ -1,4 +1,5 @@
 // The listing behind its first line, block by block: each fix of the file and its columns, in their order.
+#![tactic(auto)]
 ghost use Rattle.std.specs.Prelude.{◌+◌, true, ◌≡◌, ltb};
 ghost use Rattle.rules.specs.Layouts.{allowed};
 ghost use Rattle.text_block.specs.Blocks.{LinesFilled, Filled};
@@ -9,7 +10,7 @@ use rules::{Family, Layout};
 mod lines;
 
 // A page of the listing in a lent block: how many bytes of it are used, and how many lines of the file are passed with it.
-#[derive(Drop)]
+#[derive(Clone, Copy)]
 pub struct Page {
     pub used: usize,
     pub passed: u32,

@@ -1,4 +1,5 @@
 // The date that is so many days after a date, by the calendar.
+#![tactic(auto)]
 ghost use Rattle.std.specs.Prelude.{◌≤◌, ◌≡◌};
 ghost use Rattle.rules.specs.Fields.{days_of};
 ghost use Rattle.text_calendar.specs.Calendar.{opening, year_behind, month_behind, next_day, days_after, civil_told, DateAfter};
@@ -7,7 +8,7 @@ ghost use Rattle.text_calendar.specs.Steps.{year_from, Walks};
 use rules::Date;
 
 // A date whose year has room for all that days lead to.
-#[derive(Drop)]
+#[derive(Clone, Copy)]
 pub struct Civil {
     pub year: u32,
     pub month: u8,
@@ -15,7 +16,7 @@ pub struct Civil {
 }
 
 // A month of a year.
-#[derive(Drop)]
+#[derive(Clone, Copy)]
 struct Month {
     year: u32,
     month: u8,

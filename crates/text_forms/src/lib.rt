@@ -1,4 +1,5 @@
 // The forms that a track is written in: what stands before the first fix, a fix, and what stands behind the last, each put into a lent buffer.
+#![tactic(auto)]
 ghost use Rattle.text_pieces.specs.Buffer.{PiecePut};
 ghost use Rattle.text_forms.specs.Forms.{front_of, line_as, back_of};
 
@@ -6,7 +7,7 @@ use rules::Date;
 use track_rules::Record;
 
 // Lines for people; comma-separated values and GPX, which have a date in each line, counted from the file's.
-#[derive(Drop)]
+#[derive(Clone, Copy)]
 pub enum Form {
     Track,
     Csv(Date),

@@ -1,4 +1,5 @@
 // A track in a form, sheet by sheet: the next fixes of a file in a lent block, and where the next sheet goes on.
+#![tactic(auto)]
 ghost use Rattle.std.specs.Prelude.{◌≡◌};
 ghost use Rattle.text_sheet.specs.Sheets.{sheet_of, StretchPut, SheetFilled};
 
@@ -6,7 +7,7 @@ use text_forms::{Form, put_line};
 use track_rules::Progress;
 
 // A sheet in a lent block: how many bytes of it are used, how many fixes are still left, and how far the reading of the file has come.
-#[derive(Drop)]
+#[derive(Clone, Copy)]
 pub struct Sheet {
     pub used: usize,
     pub left: usize,
@@ -14,7 +15,7 @@ pub struct Sheet {
 }
 
 // The place behind the fixes that were put, and how far the reading of the file has come.
-#[derive(Drop)]
+#[derive(Clone, Copy)]
 pub struct Stretch {
     pub used: usize,
     pub next: Progress,

@@ -1,10 +1,11 @@
 // A text that is put whole or not at all.
+#![tactic(auto)]
 ghost use Rattle.text_whole.specs.Whole.{Delivered};
 
 use text_pieces::put_text;
 
 // How many bytes were put; or that there was no room, and nothing was.
-#[derive(Drop)]
+#[derive(Clone, Copy)]
 pub enum Placed {
     Bytes(usize),
     NoRoom,

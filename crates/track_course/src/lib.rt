@@ -1,4 +1,5 @@
 // The course of a track, by what the check says of a file: how many fixes are to be stored, and where their reading starts.
+#![tactic(auto)]
 ghost use Rattle.track_course.specs.Courses.{StartGiven, CourseRefused, fix_size, FlightPlanned};
 ghost use Rattle.std.specs.Prelude.{◌≡◌};
 
@@ -6,14 +7,14 @@ use rules::{Family, Flight, Layout, LengthRead, Reason, Refusal};
 use track_rules::Progress;
 
 // How many fixes a file has; or its refusal.
-#[derive(Drop)]
+#[derive(Clone, Copy)]
 pub enum Tracked {
     Count(usize),
     Refused(Refusal),
 }
 
 // The answer on a file, how many fixes are to be stored, none where it is refused, and where the reading starts.
-#[derive(Drop)]
+#[derive(Clone, Copy)]
 pub struct Course {
     pub answer: Tracked,
     pub count: usize,

@@ -5,7 +5,7 @@ use rules::{
 };
 
 // The layouts of B, K and N lines that the lines so far have told.
-#[derive(Drop)]
+#[derive(Clone, Copy)]
 pub struct Told {
     pub fixes: Layout,
     pub extras: Layout,

@@ -1,4 +1,5 @@
 // Lists each argument that names a file, and reads each other one as a line; then checks files at the size limit, and writes by layouts that no line tells.
+#![tactic(auto)]
 mod files;
 mod large;
 mod layouts;
