@@ -35,14 +35,17 @@ digit_high b e = leb-true b 57 (and_inv (leb 48 b) (leb b 57) e).1
 pub spell_more : (n v : ℕ) (s : List ℕ) (i : ℕ) → 0 < n → i < length s → is_digit (get_or s i 0) ≡ true
     → spell n v (drop i s) ≡ spell (n - 1) (v * 10 + (get_or s i 0 - 48)) (drop (i + 1) s)
 unfolding spell
+spell_more zero v s i p h d = elim p [ ]
 spell_more (suc n) v s i p h d = rw (sub-one, add-one, drop-cons s i 0 h) (simp d)
 
 pub spell_short : (n v : ℕ) (s : List ℕ) (i : ℕ) → 0 < n → length s ≤ i → spell n v (drop i s) ≡ none
 unfolding spell
+spell_short zero v s i p h = elim p [ ]
 spell_short (suc n) v s i p h = rw drop_of_length-le
 
 pub spell_other : (n v : ℕ) (s : List ℕ) (i : ℕ) → 0 < n → i < length s → is_digit (get_or s i 0) ≡ false → spell n v (drop i s) ≡ none
 unfolding spell
+spell_other zero v s i p h d = elim p [ ]
 spell_other (suc n) v s i p h d = rw (drop-cons s i 0 h) (simp d)
 
 -- what k digits make, with one digit more, is below the next power

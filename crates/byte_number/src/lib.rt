@@ -1,5 +1,6 @@
 // Digits as a number, and a text as a whole number with its sign.
 #![tactic(auto)]
+
 ghost use Rattle.std.specs.Prelude.{◌<◌, ◌^◌, ◌≡◌, pos, neg_ℤ};
 ghost use Rattle.rules.specs.Promises.{DigitTest, DigitsGiven, WholeGiven};
 

@@ -1,5 +1,6 @@
 // Ten to the power of a number of extra decimals, which counts of finer positions and times are taken by.
 #![tactic(auto)]
+
 ghost use Rattle.byte_tens.specs.Tens.{FewGiven, PowerGiven};
 
 // So many decimals, and 4 for more: no column of finer digits has more than that.

@@ -1,5 +1,6 @@
 // The counts of each family's lines: whether they are few, and one line more.
 #![tactic(auto)]
+
 ghost use Rattle.check_counts.specs.Counting.{FewCounts, OneCounted};
 
 use rules::{Counts, Extra, Family};

@@ -1,5 +1,6 @@
 // Which kind of line may follow which.
 #![tactic(auto)]
+
 ghost use Rattle.std.specs.Prelude.{◌≡◌};
 ghost use Rattle.rules.specs.Order.{fits_declaration};
 ghost use Rattle.rules.specs.Roles.{is_declaring, after_layout, leading, stage_after};

@@ -1,5 +1,6 @@
 // Values of the shared types that several crates need: the empty layout, and the sign and the size of an altitude.
 #![tactic(auto)]
+
 ghost use Rattle.rules_values.specs.Basics.{NoColumns, NoMinus, MagnitudeGiven};
 
 use rules::{Entry, Height, Layout};
