@@ -101,12 +101,15 @@ module _ {A B : Type 0} (test : A → Bool) (found : ℕ → A → B) (xs : List
 module _ {A : Type 0} (test : A → Bool) (xs : List A) (d : A) (i : ℕ) where
   pub leads_more : (n : ℕ) → 0 < n → i < length xs → test (get_or xs i d) ≡ true → leads test n (drop i xs) ≡ leads test (n - 1) (drop (i + 1) xs)
   unfolding leads
+  leads_more Prim.Native.Nat.zero p h e = elim p [ ]
   leads_more (suc n) p h e = rw (sub-one, add-one, drop-cons xs i d h, e)
 
   pub leads_other : (n : ℕ) → 0 < n → i < length xs → test (get_or xs i d) ≡ false → leads test n (drop i xs) ≡ false
   unfolding leads
+  leads_other Prim.Native.Nat.zero p h e = elim p [ ]
   leads_other (suc n) p h e = rw (drop-cons xs i d h, e)
 
   pub leads_short : (n : ℕ) → 0 < n → length xs ≤ i → leads test n (drop i xs) ≡ false
   unfolding leads
+  leads_short Prim.Native.Nat.zero p h = elim p [ ]
   leads_short (suc n) p h = rw (drop_of_length-le xs h)

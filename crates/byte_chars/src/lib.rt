@@ -1,5 +1,6 @@
 // The characters of a line: a byte at a place, and what a byte may be.
 #![tactic(auto)]
+
 ghost use Rattle.std.specs.Prelude.{false, ◌&&◌, ◌≡◌};
 ghost use Rattle.rules.specs.Chars.{is_valid};
 ghost use Rattle.byte_chars.specs.Characters.{Agrees, TextTold};

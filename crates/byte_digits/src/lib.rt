@@ -1,5 +1,6 @@
 // Two to five digits at a place, read in a straight line: one test of the length, then the digits one after the other.
 #![tactic(auto)]
+
 ghost use Rattle.std.specs.Prelude.{◌+◌, ◌≤◌, ◌≡◌, leb, length};
 ghost use Rattle.rules.specs.Promises.{DigitsGiven};
 

@@ -1,5 +1,6 @@
 // Tests of every byte of a text. None has a way out before the text's end, so that the compiler takes many bytes at a time.
 #![tactic(auto)]
+
 ghost use Rattle.std.specs.Prelude.{◌&&◌, ◌≡◌};
 ghost use Rattle.rules.specs.Chars.{is_digit};
 ghost use Rattle.byte_sweep.specs.Plain.{is_plain, is_mild, is_zero, PlainTest, MildTest, DigitsTest, SignTest, ZerosTest};

@@ -1,5 +1,6 @@
 // The time order, and the numbers that a body line moves: the clock, the place, and the counts.
 #![tactic(auto)]
+
 ghost use Rattle.std.specs.Prelude.{◌≡◌};
 ghost use Rattle.check_clock.specs.Times.{BackTest, has_room, AfterTime};
 

@@ -1,5 +1,6 @@
 // An altitude read at a place of a line.
 #![tactic(auto)]
+
 ghost use Rattle.std.specs.Prelude.{◌≤◌, ◌≡◌, pos, neg_ℤ};
 ghost use Rattle.rules.specs.Promises.{AltitudeAt};
 

@@ -1,0 +1,17 @@
+-- `byte_sweep::is_digits_from` meets its contract: what was found so far and what is left decide as the whole does. Assumes nothing.
+use Prim.Native.Nat.{◌-◌}
+use mathlib.Core.Bool.{◌&&◌}
+use mathlib.Core.Path.{◌≡◌}
+use borrow.Author.Rules.{rules}
+use lib.ListN.{length, drop}
+use Rattle.rules.specs.Chars.{is_digit}
+use Rattle.rules.specs.Listed.{is_digits}
+use Rattle.byte_sweep.specs.Plain.{every_from}
+use Rattle.byte_sweep.proofs.Laws.{digits_first, all_step, all_end}
+use Rattle.byte_sweep.proofs.is_digits_from.Given as goal
+
+abbrev pub invariant-loop-i : goal.invariant-loop-i
+invariant-loop-i l = (l.ok && every_from is_digit l.i l.text) ≡ is_digits (drop l.from l.text)
+
+abbrev pub decreases-loop-i : goal.decreases-loop-i
+decreases-loop-i l = length l.text - l.i
