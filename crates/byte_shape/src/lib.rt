@@ -1,5 +1,6 @@
 // What every kind of line is checked for first: its length, then its characters.
 #![tactic(auto)]
+
 ghost use Rattle.rules.specs.Promises.{ShapeChecked};
 ghost use Rattle.rules.specs.Lines.{is_sized};
 ghost use Rattle.rules.specs.Chars.{characters};

@@ -1,5 +1,6 @@
 // A quick test of the fields of a B line before its columns, by bounds for each byte: a line that passes it has its position, its validity and both its altitudes.
 #![tactic(auto)]
+
 ghost use Rattle.std.specs.Prelude.{◌≡◌, ◌&&◌, length, drop};
 ghost use Rattle.check_front.specs.Front.{is_within, between, is_bounded, BelowTest, FrontTest};
 

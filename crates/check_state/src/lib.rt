@@ -1,5 +1,6 @@
 // The state that the lines so far have left: at the start, and what a line changes in it.
 #![tactic(auto)]
+
 ghost use Rattle.std.specs.Prelude.{◌≡◌};
 ghost use Rattle.rules.specs.Families.{with_layout};
 ghost use Rattle.check_state.specs.States.{FewTest, NoFlight, BeforeAll, Moved, Dated, LayoutKept, LaidOut, CountedIn, SignedOff, Begun, Pointed, Clocked};

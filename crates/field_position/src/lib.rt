@@ -1,5 +1,6 @@
 // A latitude or a longitude read at a place of a line.
 #![tactic(auto)]
+
 ghost use Rattle.std.specs.Prelude.{◌≤◌, ◌≡◌};
 ghost use Rattle.rules.specs.Fields.{position_at, position_told};
 ghost use Rattle.rules.specs.Promises.{DigitsGiven, LatitudeAt, LongitudeAt};

@@ -1,5 +1,6 @@
 // The fields of a line: read at a place of it.
 #![tactic(auto)]
+
 ghost use Rattle.std.specs.Prelude.{◌≤◌, ◌≡◌};
 ghost use Rattle.rules.specs.Fields.{is_second, is_leap, year_of};
 ghost use Rattle.field_time.specs.Days.{DaysGiven};

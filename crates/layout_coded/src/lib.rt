@@ -1,5 +1,6 @@
 // Where the column of a code stands, by the entries of a layout.
 #![tactic(auto)]
+
 ghost use Rattle.layout_coded.specs.Spots.{SpotFound, CarriesTest};
 
 use rules::Layout;

@@ -1,5 +1,6 @@
 // The listed codes: their table, and what it says of a column's width and text.
 #![tactic(auto)]
+
 ghost use Rattle.std.specs.Prelude.{◌&&◌, ◌≡◌, eqb};
 ghost use Rattle.rules.specs.Listed.{is_past};
 ghost use Rattle.rules.specs.Promises.{ListedAt, ColumnTest};

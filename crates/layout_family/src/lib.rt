@@ -1,5 +1,6 @@
 // The families of lines with columns: where their columns start, their letters, and which family a line is of.
 #![tactic(auto)]
+
 ghost use Rattle.layout_family.specs.Letters.{StartGiven, LineLetterGiven, LayoutLetterGiven, FamilyGiven, LayoutFamilyGiven};
 
 use rules::{Extra, Family};
