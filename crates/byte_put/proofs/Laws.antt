@@ -24,6 +24,7 @@ sets_set l at (b ∷ a) i x h =
 -- one digit less to put, with the last of them stored
 pub sets_step : (l : List ℕ) (at n v : ℕ) → 0 < n → sets l at (digits_of n v) ≡ sets (set l (at + (n - 1)) (48 + v % 10)) at (digits_of (n - 1) (v / 10))
 unfolding digits_of
+sets_step l at Prim.Native.Nat.zero v p = elim p [ ]
 sets_step l at (suc k) v p =
     rw (sub-one, sets_append l at (digits_of k (v / 10)) ((48 + v % 10) ∷ []), digits_length k (v / 10))
     (sym (sets_set l at (digits_of k (v / 10)) (at + k) (48 + v % 10) (omega (arith, digits_length k (v / 10)))))

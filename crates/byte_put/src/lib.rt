@@ -1,5 +1,6 @@
 // Bytes, texts and digits put into a lent output at a place of it. Each has room there as a whole, or nothing changes.
 #![tactic(auto)]
+
 ghost use Rattle.rules.specs.Promises.{DigitsPut};
 ghost use Rattle.byte_put.specs.Puts.{BytePut, TextPut};
 

@@ -1,5 +1,6 @@
 // Lines that are carried and not read: G lines, L lines, and lines of a letter that has no rules of its own. Only their length and characters are looked at.
 #![tactic(auto)]
+
 ghost use Rattle.check_carried.specs.Carried.{SealJudged, RemarkJudged, OtherJudged};
 
 use rules::{Judged, State};

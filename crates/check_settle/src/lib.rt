@@ -1,5 +1,6 @@
 // What a line leaves, by what its reading says and by the time order: the state after it where it is accepted, and the state at the start beside its refusal.
 #![tactic(auto)]
+
 ghost use Rattle.rules.specs.Order.{timed};
 ghost use Rattle.check_settle.specs.Settled.{JudgedTold, LinePassed, LineRefused, RefusedAt, OutcomeJudged, TimeJudged};
 

@@ -1,5 +1,6 @@
 // A line that was judged: entered in the table of the lines' offsets, or the check stops there.
 #![tactic(auto)]
+
 ghost use Rattle.std.specs.Prelude.{◌≤◌, ◌≡◌};
 ghost use Rattle.check_state.specs.States.{in_next};
 ghost use Rattle.check_table.specs.Turns.{room_of, EntryPut};

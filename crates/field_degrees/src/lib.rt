@@ -1,5 +1,6 @@
 // A position for the map: its latitude and its longitude in degrees.
 #![tactic(auto)]
+
 ghost use Rattle.std.specs.Prelude.{◌≤◌, ◌≡◌};
 ghost use Rattle.rules.specs.Degrees.{quotient, angle as angle_of, is_fine_position, degrees_told};
 ghost use Rattle.rules.specs.Refusals.{no};

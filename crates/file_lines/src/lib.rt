@@ -1,5 +1,6 @@
 // A file cut into its lines: where a line ends, and a line by its number.
 #![tactic(auto)]
+
 ghost use Rattle.rules.specs.Promises.{LineGiven, LineTextGiven};
 ghost use Rattle.file_lines.specs.Ends.{UnplacedGiven};
 

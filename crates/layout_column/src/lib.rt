@@ -1,5 +1,6 @@
 // The columns of a B, a K or an N line: the text of a column, and each listed column by its rule. Every layout value has an answer.
 #![tactic(auto)]
+
 ghost use Rattle.std.specs.Prelude.{◌≡◌};
 ghost use Rattle.rules.specs.Choice.{byte};
 ghost use Rattle.rules.specs.Layouts.{span_of, column_text};

@@ -1,5 +1,6 @@
 // The entries of a layout: one held against those before it, and one read at its place of an I, a J or an M line.
 #![tactic(auto)]
+
 ghost use Rattle.std.specs.Prelude.{◌≤◌, ◌≡◌};
 ghost use Rattle.rules.specs.Refusals.{no};
 ghost use Rattle.layout_entry.specs.Parts.{is_among, coded_by, EntryPlaced, PlacedBehind, CodeGiven, EntryGiven, entry_told};

@@ -1,5 +1,6 @@
 // The fields of a B line before its columns, and how a field that breaks its rule is refused.
 #![tactic(auto)]
+
 ghost use Rattle.std.specs.Prelude.{◌≡◌};
 ghost use Rattle.rules.specs.Refusals.{reason_of};
 ghost use Rattle.line_fix.specs.Parts.{FormGiven, FieldsGiven, LimitsGiven};

@@ -1,5 +1,6 @@
 // The kind of a line, told by its first byte.
 #![tactic(auto)]
+
 ghost use Rattle.rules.specs.Promises.{KindGiven};
 
 use rules::Kind;

@@ -1,5 +1,6 @@
 // Texts compared where they stand: a text starts at a place of the bytes and goes up to the first CR.
 #![tactic(auto)]
+
 ghost use Rattle.std.specs.Prelude.{◌≡◌};
 ghost use Rattle.notes_rules.specs.Places.{text_at};
 ghost use Rattle.notes_compare.specs.Letters.{letter, TextsCompared, WhoseGiven, PlacesCompared, TextGoesOn};

@@ -1,6 +1,7 @@
 // A run of notes: the places of the first notes that come after one, in order, found by one look at each note. A note starts at a place of the bytes and
 // goes up to the first CR; the next one starts two bytes behind that.
 #![tactic(auto)]
+
 ghost use Rattle.std.specs.Prelude.{◌≡◌, true, ◌≤◌, ◌<◌, length, take};
 ghost use Rattle.notes_sorted.specs.Sorted.{Sorted};
 ghost use Rattle.notes_rules.specs.Places.{earlier};

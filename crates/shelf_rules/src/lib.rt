@@ -1,5 +1,6 @@
 // The shelf of flights: its entries, and the answers of its calls, as values. What a shelf is, and what each call says, is told in specs/; what holds of that, in proofs/.
 #![tactic(auto)]
+
 use rules::Refusal;
 
 // An entry of the table of contents; flight number 0 is a free entry.

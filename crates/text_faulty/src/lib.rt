@@ -1,5 +1,6 @@
 // The text of any line of a file, also of one that is refused: the lines need not end with CR LF.
 #![tactic(auto)]
+
 ghost use Rattle.std.specs.Prelude.{◌≤◌, length};
 ghost use Rattle.text_faulty.specs.Faulty.{FaultyTextGiven, LineStartGiven, TextEndGiven};
 

@@ -1,6 +1,7 @@
 // The fields of a line put into a lent output at a place of it: time, date, latitude, longitude and altitude. Each has room there as a whole, or nothing
 // changes.
 #![tactic(auto)]
+
 ghost use Rattle.std.specs.Prelude.{◌≤◌};
 ghost use Rattle.rules.specs.Promises.{TimePut, DatePut, LatitudePut, LongitudePut};
 ghost use Rattle.write_fields.specs.Parts.{PairsPut, PositionPut};

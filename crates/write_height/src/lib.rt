@@ -1,5 +1,6 @@
 // An altitude put into a lent output at a place of it. It has room there as a whole, or nothing changes.
 #![tactic(auto)]
+
 ghost use Rattle.rules.specs.Promises.{AltitudePut};
 
 use rules::Height;

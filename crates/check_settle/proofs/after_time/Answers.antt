@@ -1,0 +1,12 @@
+-- `check_settle::after_time` meets its contract. Assumes nothing.
+use borrow.Author.Rules.{rules}
+use Rattle.rules.specs.Reads.{time_read_told}
+use Rattle.check_settle.proofs.after_time.Goals as goal
+
+pub returns-in-Secs : goal.returns-in-Secs
+unfolding time_read_told
+returns-in-Secs c = rw c.in-Secs.is c.timed_at.ensures
+
+pub returns-in-Refused : goal.returns-in-Refused
+unfolding time_read_told
+returns-in-Refused c = rw c.in-Refused.is c.refused.ensures
