@@ -1,5 +1,6 @@
 // The answer on a file: refused, or what its lines have left at its end.
 #![tactic(auto)]
+
 ghost use Rattle.std.specs.Prelude.{◌≤◌, ◌≡◌};
 ghost use Rattle.rules.specs.declared.Reason.TheVariants.{EndsEarly};
 ghost use Rattle.check_state.specs.States.{in_next};

@@ -1,5 +1,6 @@
 // Layouts: the columns that an I, a J or an M line tells. A layout read from its line, and what a layout says as a value.
 #![tactic(auto)]
+
 mod reading;
 mod values;
 

@@ -1,5 +1,6 @@
 // The finer digits of a B line: where a layout has the columns TDS, LAD and LOD, and the fix that their digits make of the fields before the columns.
 #![tactic(auto)]
+
 ghost use Rattle.std.specs.Prelude.{◌≤◌, ◌≡◌};
 ghost use Rattle.rules.specs.Fixes.{decimals_of, digits_at, refined};
 ghost use Rattle.line_finer.specs.Within.{reached_by, within, time_within, position_within, FinerGiven, DecimalsGiven, FixMade};

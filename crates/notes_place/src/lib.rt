@@ -1,5 +1,6 @@
 // Where a slice of notes is read on, run by run; and whether the runs of two slices are through.
 #![tactic(auto)]
+
 ghost use Rattle.notes_place.specs.Through.{BothThrough};
 
 // Where a slice is read on: how many notes its run has, how many of them are taken, and where the last one taken stands.

@@ -1,5 +1,6 @@
 // The pieces of a text put together in a lent buffer, each at a place of it and answering the place behind it. A full buffer takes no more.
 #![tactic(auto)]
+
 ghost use Rattle.std.specs.Prelude.{[], ◌∷◌};
 ghost use Rattle.rules.specs.Listing.{decimal, shown};
 ghost use Rattle.text_pieces.specs.Buffer.{PiecePut};
