@@ -24,8 +24,8 @@ use Rattle.rules.specs.declared.Seal.TheVariants as seal
 use Rattle.rules.proofs.Computed.{everything, file_of}
 use Rattle.rules.proofs.Damaged.{five_lines, five_layout, verdict_of_five}
 use Rattle.grammar_wider.specs.Wider.{WiderFile}
-use Rattle.grammar_wider.specs.Before.{put_in, ReadsAsBefore}
-use Rattle.grammar_wider.proofs.Demand.{widened}
+use Rattle.grammar_wider.specs.Before.{put_in, LayoutsAsBefore}
+use Rattle.grammar_wider.proofs.Demand.{widened_layouts}
 use Rattle.grammar_wider.proofs.Instances.{enl_between, between, every_kind, all_widened}
 use Rattle.grammar_wider.proofs.NotWider.{five, text_changed, text_changed_lem}
 use Rattle.claims_notes.specs.Notes.{ButForNotes}
@@ -71,8 +71,8 @@ module _ (needs : Seal) (file file' : List ℕ) (room : Option ℕ) (f : Flight)
   usual = usually_accepted needs file room f accepted
 
   -- no table is lent, so the old file and the limit are all that is asked for
-  wide : (f' : Flight) × (verdict columns_seal file' none ≡ says f') × ReadsAsBefore file file' f f' (put_in wider)
-  wide = widened columns_seal file file' none none f usual wider limit refl
+  wide : (f' : Flight) × (verdict columns_seal file' none ≡ says f') × LayoutsAsBefore file file' f f' (put_in wider)
+  wide = widened_layouts columns_seal file file' none none f usual wider limit refl
 
   -- the new file is accepted, and each row of old codes, of B, K and N lines, is as it was: as many rows, number for number and mark for mark
   pub widened_rows : (f' : Flight) × (verdict columns_seal file' none ≡ says f')

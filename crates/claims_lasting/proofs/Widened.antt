@@ -20,7 +20,7 @@ use Rattle.rules.specs.declared.Layout.{Layout}
 use Rattle.rules.specs.declared.Reason.TheVariants.{BadValue, NoRoom}
 use Rattle.rules.proofs.Inverse.{and_inv}
 use Rattle.rules_laws.proofs.Counted.{family_counted}
-use Rattle.grammar_wider.specs.Before.{lines_of_family, line_of, AsBefore, ReadsAsBefore}
+use Rattle.grammar_wider.specs.Before.{lines_of_family, line_of, AsBefore, LayoutsAsBefore}
 use Rattle.grammar_wider.specs.Wider.{Extends}
 use Rattle.grammar_wider.proofs.Kept.{family_tallied, carried}
 use Rattle.columns_asked.specs.Asks.{names_of, are_codes, are_carried, places_of, places_said, asked_said}
@@ -72,7 +72,7 @@ by_alike file other codes false room a b e r = (refl, refl)
 
 -- ---- two files
 
-module _ (file file' : List ℕ) (f f' : Flight) (p : verdict columns_seal file none ≡ says f) (q : verdict columns_seal file' none ≡ says f') (more : ℕ) (w : ReadsAsBefore file file' f f' more) where
+module _ (file file' : List ℕ) (f f' : Flight) (p : verdict columns_seal file none ≡ says f) (q : verdict columns_seal file' none ≡ says f') (more : ℕ) (w : LayoutsAsBefore file file' f f' more) where
   many : (g : Family) → length (lines_of_family g (lines_of file)) ≡ count_of g f.counts
   many g = family_tallied g (lines_of file) ∙ sym (family_counted columns_seal file none f p g)
 
@@ -86,14 +86,14 @@ module _ (file file' : List ℕ) (f f' : Flight) (p : verdict columns_seal file 
       let new = layout_of g f'.layouts in
       rows_those g new names (lines_of file')
       ∙ ap (joined (row_in g new names)) (family_those g (lines_of file'))
-      ∙ joined_same (row_in g old names) (row_in g new names) (lines_of_family g (lines_of file)) (lines_of_family g (lines_of file')) (many' g ∙ w.counts g ∙ sym (many g))
-      (λ n h. row_before g old new (line_of g file n) (line_of g file' n) (w.columned g n (omega (arith, many g, h))) names c)
+      ∙ joined_same (row_in g old names) (row_in g new names) (lines_of_family g (lines_of file)) (lines_of_family g (lines_of file')) (many' g ∙ w.reads.counts g ∙ sym (many g))
+      (λ n h. row_before g old new (line_of g file n) (line_of g file' n) (w.reads.columned g n (omega (arith, many g, h))) names c)
       ∙ sym (ap (joined (row_in g old names)) (family_those g (lines_of file)))
       ∙ sym (rows_those g old names (lines_of file))
 
   family_alike : (g : Family) (codes : List ℕ) (room : ℕ) → are_carried (layout_of g f.layouts) (names_of codes) ≡ true → Alike file file' codes (grid_in f g codes room) (grid_in f' g codes room)
   family_alike g codes room c =
-      rw (grid_by_lem f g codes room c, grid_by_lem f' g codes room (carried_on (layout_of g f.layouts) (layout_of g f'.layouts) (w.layouts g) (names_of codes) c), w.counts g)
+      rw (grid_by_lem f g codes room c, grid_by_lem f' g codes room (carried_on (layout_of g f.layouts) (layout_of g f'.layouts) (w.layouts g) (names_of codes) c), w.reads.counts g)
       (by_alike file file' codes (are_codes codes) (leb (count_of g f.counts * (length codes / 3)) room) (grid_for f g) (record { family = g; layout = layout_of g f'.layouts; lines = count_of g f.counts }) refl
       (rows_before g (names_of codes) c))
 

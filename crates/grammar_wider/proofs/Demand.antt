@@ -19,8 +19,8 @@ use Rattle.rules.proofs.Computed.{everything, file_of}
 use Rattle.rules.proofs.Damaged.{five_lines, five_layout, verdict_of_five}
 use Rattle.rules.proofs.SignedFiles.{four_lines, two_lines, verdict_of_two}
 use Rattle.grammar_wider.specs.Wider.{WiderFile}
-use Rattle.grammar_wider.specs.Before.{line_of, put_in, ReadsAsBefore}
-use Rattle.grammar_wider.proofs.WholeFile.{reads_as_before}
+use Rattle.grammar_wider.specs.Before.{line_of, put_in, ReadsAsBefore, LayoutsAsBefore}
+use Rattle.grammar_wider.proofs.WholeFile.{reads_as_before, layouts_as_before}
 use Rattle.grammar_wider.proofs.Instances.{told, enl_between, between, enl_between_four, between_four, two_and_i, put_i_last, others_moved, before_and_moved, no_columns, with_i, put_i, with_j, put_j, with_m, put_m, with_j_and_m, put_m_behind, with_all, put_all, every_kind, all_widened, all_widened_lem, some_widened, some_widened_lem, put_in_lem}
 use Rattle.grammar_wider.proofs.FinerInstances.{fix_at, finer_added, finer_added_lem, added_counts, with_lad, lad_kept, lad_kept_lem, kept_counts, at_pole, zeros_added, zeros_added_lem, past_pole, past_pole_lem}
 use Rattle.grammar_wider.proofs.NotWider.{five, two, text_changed, text_changed_lem, value_changed, value_changed_lem, left_out, left_out_lem, used_twice, used_twice_lem, rule_broken, rule_broken_lem, character_invalid, character_invalid_lem, wrong_place, wrong_place_lem, too_early, too_early_lem}
@@ -39,6 +39,10 @@ module _ (seal : Seal) (file file' : List ℕ) (room room' : Option ℕ) (f : Fl
   -- and its N lines; where LAD, LOD or TDS is among the added columns, the count that it makes finer is as before without the extra digits
   pub widened : (f' : Flight) × (verdict seal file' room' ≡ says f') × ReadsAsBefore file file' f f' (put_in wider)
   widened = reads_as_before seal file file' room room' f accepted wider limit fits
+
+  -- and in each layout every old column is as wide as it was
+  pub widened_layouts : (f' : Flight) × (verdict seal file' room' ≡ says f') × LayoutsAsBefore file file' f f' (put_in wider)
+  widened_layouts = layouts_as_before seal file file' room room' f accepted wider limit fits
 
 -- ---- there are such files, and not every file is one
 

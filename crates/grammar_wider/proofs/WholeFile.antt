@@ -14,13 +14,14 @@ use Rattle.rules.specs.Roles.{role_of, is_declaring, is_event, after_h}
 use Rattle.rules.specs.Split.{end, lines_of}
 use Rattle.rules.specs.Order.{start}
 use Rattle.rules.specs.Files.{has_room, run, verdict, good_lines}
+use Rattle.rules.specs.declared.Family.{Family}
 use Rattle.rules.specs.declared.Family.TheVariants as family
 use Rattle.rules.specs.declared.Flight.{Flight}
 use Rattle.rules.specs.declared.Seal.{Seal}
 use Rattle.rules.proofs.Inverse.{refuses_says, need_inv}
 use Rattle.rules_laws.proofs.Counted.{lines_counted, family_counted, tabled, table_adds}
 use Rattle.grammar_wider.specs.Wider.{Extends, WiderFile}
-use Rattle.grammar_wider.specs.Before.{lines_of_family, line_of, AsBefore, MoreBits, put_in, ReadsAsBefore}
+use Rattle.grammar_wider.specs.Before.{lines_of_family, line_of, AsBefore, MoreBits, put_in, ReadsAsBefore, LayoutsAsBefore}
 use Rattle.grammar_wider.proofs.Lists.{pair_at}
 use Rattle.grammar_wider.proofs.Judged.{wide_flight}
 use Rattle.grammar_wider.proofs.Simulated.{front_behind, Went, lines_went}
@@ -74,7 +75,6 @@ module _ (seal : Seal) (file file' : List ℕ) (room room' : Option ℕ) (f : Fl
     date = refl;
     lines = more_lines;
     counts = λ g. refl;
-    layouts = λ g. subst (λ old. Extends (layout_of g old) (layout_of g went.new)) (sym went.passed.told) (went.fine g).2;
     signed = refl;
     declaration = others_same (λ k. is_declaring (role_of k)) (λ k g e. ap is_declaring e) (λ k g e. ap is_declaring e) w;
     events = others_same (λ k. is_event (role_of k)) (λ k g e. ap is_event e) (λ k g e. ap is_event e) w;
@@ -87,5 +87,12 @@ module _ (seal : Seal) (file file' : List ℕ) (room room' : Option ℕ) (f : Fl
         (let x = went.fine family.B in presence_more (layout_of family.B went.old) (layout_of family.B went.new) x.2 x.0 x.1);
   }
 
+  layouts_before : (g : Family) → Extends (layout_of g f.layouts) (layout_of g said.layouts)
+  unfolding said
+  layouts_before g = subst (λ old. Extends (layout_of g old) (layout_of g went.new)) (sym went.passed.told) (went.fine g).2
+
   pub reads_as_before : (f' : Flight) × (verdict seal file' room' ≡ says f') × ReadsAsBefore file file' f f' (put_in w)
   reads_as_before = (said, with_table seal file' room' said (rw more_lines fits) tableless, as_before)
+
+  pub layouts_as_before : (f' : Flight) × (verdict seal file' room' ≡ says f') × LayoutsAsBefore file file' f f' (put_in w)
+  layouts_as_before = (said, with_table seal file' room' said (rw more_lines fits) tableless, record { reads = as_before; layouts = layouts_before })

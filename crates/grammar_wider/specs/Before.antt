@@ -115,13 +115,12 @@ put_in (front x w) = put_in w
 put_in (from r) = put_into r
 
 -- What file', of which f' is said, has in common with file, of which f is said, where so many layout lines were put in: the date; the count of B lines, of K lines and of
--- N lines; every old column, as wide as it was, in each layout; whether it is signed; the declaration, the events and all other lines of kinds that neither tell a layout nor have columns; the first fix, the second and so on, and so the K lines and
+-- N lines; whether it is signed; the declaration, the events and all other lines of kinds that neither tell a layout nor have columns; the first fix, the second and so on, and so the K lines and
 -- the N lines, in every old value and every old column.
 pub record ReadsAsBefore (file file' : List ℕ) (f f' : Flight) (more : ℕ) : Type 0 where
   pub date : f'.date ≡ f.date
   pub lines : f'.lines ≡ f.lines + more
   pub counts : (g : Family) → count_of g f'.counts ≡ count_of g f.counts
-  pub layouts : (g : Family) → Extends (layout_of g f.layouts) (layout_of g f'.layouts)
   pub signed : f'.signed ≡ f.signed
   pub declaration : lines_with (λ k. is_declaring (role_of k)) (lines_of file') ≡ lines_with (λ k. is_declaring (role_of k)) (lines_of file)
   pub events : lines_with (λ k. is_event (role_of k)) (lines_of file') ≡ lines_with (λ k. is_event (role_of k)) (lines_of file)
@@ -130,3 +129,8 @@ pub record ReadsAsBefore (file file' : List ℕ) (f f' : Flight) (more : ℕ) : 
   pub columned : (g : Family) (n : ℕ) → n < count_of g f.counts
       → AsBefore g (layout_of g f.layouts) (layout_of g f'.layouts) (line_of g file n) (line_of g file' n)
   pub presence : MoreBits f.layouts.b f'.layouts.b
+
+-- The same; and in each layout every old column is as wide as it was.
+pub record LayoutsAsBefore (file file' : List ℕ) (f f' : Flight) (more : ℕ) : Type 0 where
+  pub reads : ReadsAsBefore file file' f f' more
+  pub layouts : (g : Family) → Extends (layout_of g f.layouts) (layout_of g f'.layouts)

@@ -27,7 +27,7 @@ fn print_sheets(file: &[u8], form: Form, start: Progress, count: usize) -> bool 
     let mut from = start;
     let mut left = count;
     while 0 < left {
-        let sheet = text_sheet::fill(file, form, from, left, &mut block);
+        let sheet = text_stretch::fill(file, form, from, left, &mut block);
         let n = sheet.used;
         if !igc_console::write(&block[..n]) {
             return false;

@@ -14,11 +14,11 @@ use Rattle.text_box.specs.Boxed.{point_of, point_shown, latitudes_shown, longitu
 module _ (l : List ℤ) where
   latitudes_room : length (latitudes_shown l) ≤ 66
   unfolding latitudes_shown point_shown
-  latitudes_room = simp length-append (omega (arith, degrees_room 32 (point_of (least_latitude l)), degrees_room 32 (point_of (greatest_latitude l))))
+  latitudes_room = simp length-append (omega (arith, degrees_room (point_of (least_latitude l)), degrees_room (point_of (greatest_latitude l))))
 
   longitudes_room : length (longitudes_shown l) ≤ 66
   unfolding longitudes_shown point_shown
-  longitudes_room = simp length-append (omega (arith, degrees_room 32 (point_of (least_longitude l)), degrees_room 32 (point_of (greatest_longitude l))))
+  longitudes_room = simp length-append (omega (arith, degrees_room (point_of (least_longitude l)), degrees_room (point_of (greatest_longitude l))))
 
   pub box_room : length (box_shown l) ≤ 132
   unfolding box_shown bytes

@@ -17,7 +17,7 @@ use Rattle.rules.proofs.Texts.{digits_length}
 use Rattle.text_pieces.proofs.Laws.{number_room}
 use Rattle.byte_tens.specs.Tens.{few_of}
 use Rattle.byte_tens.proofs.Laws.{few_most}
-use Rattle.text_decimals.specs.Decimals.{colons, behind_dot, extra_shown, seconds_behind, clock_behind, units_of, with_decimals, degrees_behind}
+use Rattle.text_decimals.specs.Decimals.{colons, behind_dot, extra_shown, shown_seconds, shown_clock, seconds_behind, clock_behind, units_of, with_decimals, shown_degrees, degrees_behind}
 
 pub clock_length : (t : ℕ) → length (colons (time_text t)) ≡ 8
 unfolding colons digits_of
@@ -35,15 +35,30 @@ sign_room : (t : Bool) → length {A = ℕ} (cond t (45 ∷ []) []) ≤ 1
 sign_room true = omega arith
 sign_room false = omega arith
 
-pub clock_room : (mark : ℕ) (t : FineTime) → length (clock_behind mark t) ≤ 14
+pub clock_behind_room : (mark : ℕ) (t : FineTime) → length (clock_behind mark t) ≤ 14
 unfolding clock_behind seconds_behind
-clock_room mark t =
+clock_behind_room mark t =
     let n = few_of t.decimals in
     simp length-append (omega (arith, clock_length (plain t.count n), extra_room n t.count, few_most t.decimals))
 
-pub degrees_room : (mark : ℕ) (p : FinePosition) → length (degrees_behind mark p) ≤ 33
+pub degrees_behind_room : (mark : ℕ) (p : FinePosition) → length (degrees_behind mark p) ≤ 33
 unfolding degrees_behind with_decimals behind_dot
-degrees_room mark p =
+degrees_behind_room mark p =
+    let n = 6 + few_of p.decimals in
+    let v = units_of p.count in
+    simp length-append (omega (arith, sign_room (is_negated p), number_room (v / 10 ^ n), digits_length n v, few_most p.decimals))
+
+-- ---- behind a space, as on a line for people
+
+pub clock_room : (t : FineTime) → length (shown_clock t) ≤ 14
+unfolding shown_clock shown_seconds
+clock_room t =
+    let n = few_of t.decimals in
+    simp length-append (omega (arith, clock_length (plain t.count n), extra_room n t.count, few_most t.decimals))
+
+pub degrees_room : (p : FinePosition) → length (shown_degrees p) ≤ 33
+unfolding shown_degrees with_decimals behind_dot
+degrees_room p =
     let n = 6 + few_of p.decimals in
     let v = units_of p.count in
     simp length-append (omega (arith, sign_room (is_negated p), number_room (v / 10 ^ n), digits_length n v, few_most p.decimals))

@@ -25,20 +25,20 @@ behind_dot n v = code "." ∷ digits_of n v
 unfoldable pub extra_shown : ℕ → ℕ → List ℕ
 extra_shown n v = cond (eqb n 0) [] (behind_dot n v)
 
--- behind a mark, a time as its field has it, HH:MM:SS; 86,400 is 23:59:60. Of a time past that, which no line has, the last two digits of its hours
+-- a time as its field has it, HH:MM:SS; 86,400 is 23:59:60. Of a time past that, which no line has, the last two digits of its hours
+unfoldable pub shown_seconds : ℕ → List ℕ
+shown_seconds t = code " " ∷ colons (time_text t)
+
+-- and its extra decimals; of more than 4, which no line has, 4 are taken
+unfoldable pub shown_clock : FineTime → List ℕ
+shown_clock t = shown_seconds (plain t.count (few_of t.decimals)) ++ extra_shown (few_of t.decimals) t.count
+
+-- the same behind any mark
 unfoldable pub seconds_behind : ℕ → ℕ → List ℕ
 seconds_behind mark t = mark ∷ colons (time_text t)
 
--- and its extra decimals; of more than 4, which no line has, 4 are taken
 unfoldable pub clock_behind : ℕ → FineTime → List ℕ
 clock_behind mark t = seconds_behind mark (plain t.count (few_of t.decimals)) ++ extra_shown (few_of t.decimals) t.count
-
--- on a line for people the mark is a space
-abbrev pub shown_seconds : ℕ → List ℕ
-shown_seconds t = seconds_behind (code " ") t
-
-abbrev pub shown_clock : FineTime → List ℕ
-shown_clock t = clock_behind (code " ") t
 
 -- ---- degrees
 
@@ -51,9 +51,10 @@ units_of count = (count * 50 + 1) / 3
 unfoldable pub with_decimals : ℕ → ℕ → List ℕ
 with_decimals n v = decimal (v / 10 ^ n) ++ behind_dot n v
 
--- behind a mark, a position in degrees: south and west with a minus, and a count of 0 without one under either letter; six decimals and its extra ones, of which 4 at most are taken
+-- a position in degrees: south and west with a minus, and a count of 0 without one under either letter; six decimals and its extra ones, of which 4 at most are taken
+unfoldable pub shown_degrees : FinePosition → List ℕ
+shown_degrees p = code " " ∷ (cond (is_negated p) (code "-" ∷ []) [] ++ with_decimals (6 + few_of p.decimals) (units_of p.count))
+
+-- the same behind any mark
 unfoldable pub degrees_behind : ℕ → FinePosition → List ℕ
 degrees_behind mark p = mark ∷ (cond (is_negated p) (code "-" ∷ []) [] ++ with_decimals (6 + few_of p.decimals) (units_of p.count))
-
-abbrev pub shown_degrees : FinePosition → List ℕ
-shown_degrees p = degrees_behind (code " ") p

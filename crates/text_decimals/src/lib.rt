@@ -42,6 +42,7 @@ pub fn put_seconds_behind(out: &mut [u8], at: usize, mark: u8, t: u32) -> usize
 }
 
 // The same behind a space.
+#[tactic(auto, unfolding(crate::specs::Decimals::shown_seconds, crate::specs::Decimals::seconds_behind))]
 pub fn put_seconds(out: &mut [u8], at: usize, t: u32) -> usize
     ensures { PiecePut out.old at (shown_seconds t) result out.new }
 {
@@ -59,6 +60,7 @@ pub fn put_clock_behind(out: &mut [u8], at: usize, mark: u8, t: FineTime) -> usi
 }
 
 // The same behind a space.
+#[tactic(auto, unfolding(crate::specs::Decimals::shown_clock, crate::specs::Decimals::clock_behind, crate::specs::Decimals::shown_seconds, crate::specs::Decimals::seconds_behind))]
 pub fn put_clock(out: &mut [u8], at: usize, t: FineTime) -> usize
     ensures { PiecePut out.old at (shown_clock t) result out.new }
 {
@@ -89,6 +91,7 @@ pub fn put_degrees_behind(out: &mut [u8], at: usize, mark: u8, p: FinePosition) 
 }
 
 // The same behind a space.
+#[tactic(auto, unfolding(crate::specs::Decimals::shown_degrees, crate::specs::Decimals::degrees_behind))]
 pub fn put_degrees(out: &mut [u8], at: usize, p: FinePosition) -> usize
     ensures { PiecePut out.old at (shown_degrees p) result out.new }
 {

@@ -11,14 +11,14 @@ use Rattle.rules.specs.Listing.{decimal, decimal_in}
 use Rattle.rules.specs.declared.Date.{Date}
 use Rattle.byte_tens.specs.Tens.{few_of}
 use Rattle.text_dates.specs.Dates.{two_digits, date_shown}
-use Rattle.text_decimals.specs.Decimals.{colons, behind_dot, seconds_behind, units_of, with_decimals, degrees_behind}
+use Rattle.text_decimals.specs.Decimals.{colons, behind_dot, shown_seconds, units_of, with_decimals, shown_degrees}
 use Rattle.text_twelve.specs.Twelve.{lasting}
 use Rattle.text_box.specs.Boxed.{point_shown, latitudes_shown, longitudes_shown, box_shown}
 use Rattle.text_summary.specs.Outline.{day_shown, when_shown, lasting_shown, times_shown, heights_shown, flight_shown, outline_shown}
 
 -- to unfold this is to unfold all that is computed here
 unfoldable everything : Unit {0}
-unfolding outline_shown date_shown two_digits flight_shown times_shown when_shown day_shown lasting lasting_shown heights_shown box_shown latitudes_shown longitudes_shown point_shown seconds_behind behind_dot colons time_text digits_of few_of degrees_behind is_negated is_either with_decimals units_of decimal decimal_in bytes
+unfolding outline_shown date_shown two_digits flight_shown times_shown when_shown day_shown lasting lasting_shown heights_shown box_shown latitudes_shown longitudes_shown point_shown shown_seconds behind_dot colons time_text digits_of few_of shown_degrees is_negated is_either with_decimals units_of decimal decimal_in bytes
 everything = tt
 
 abbrev date : ℕ → ℕ → ℕ → Date

@@ -14,7 +14,7 @@ use Rattle.text_dates.specs.Dates.{two_digits, date_shown}
 use Rattle.text_pieces.specs.Buffer.{Shown}
 use Rattle.text_pieces.proofs.Laws.{number_room, whole}
 use Rattle.text_listing.proofs.Laws.{metres_room}
-use Rattle.text_decimals.specs.Decimals.{seconds_behind}
+use Rattle.text_decimals.specs.Decimals.{shown_seconds}
 use Rattle.text_decimals.proofs.Room.{clock_length}
 use Rattle.text_twelve.specs.Twelve.{fixes, first_day, first_seconds, last_day, last_seconds, lasting, highest, lowest}
 use Rattle.text_box.proofs.Room.{box_room}
@@ -33,7 +33,7 @@ day_room day = by (eqb day 0)
     by false = omega (arith, number_room day)
 
 when_room : (day seconds : ℕ) → length (when_shown day seconds) ≤ 30
-unfolding when_shown seconds_behind
+unfolding when_shown shown_seconds
 when_room day seconds = simp length-append (omega (arith, clock_length seconds, day_room day))
 
 lasting_room : (n : ℕ) → length (lasting_shown n) ≤ 27

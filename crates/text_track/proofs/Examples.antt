@@ -15,7 +15,7 @@ use Rattle.rules.specs.declared.FineTime.{FineTime}
 use Rattle.rules.specs.declared.FinePosition.{FinePosition}
 use Rattle.rules.specs.declared.Fix.{Fix}
 use Rattle.byte_tens.specs.Tens.{few_of}
-use Rattle.text_decimals.specs.Decimals.{colons, behind_dot, extra_shown, seconds_behind, clock_behind, units_of, with_decimals, degrees_behind}
+use Rattle.text_decimals.specs.Decimals.{colons, behind_dot, extra_shown, shown_seconds, shown_clock, units_of, with_decimals, shown_degrees}
 use Rattle.text_track.specs.Trail.{moment_shown, heights_shown, record_shown}
 
 abbrev pub clock : ℕ → ℕ → FineTime
@@ -29,7 +29,7 @@ fix t lat lon v p g = record { time = t; lat = lat; lon = lon; validity = v; pre
 
 -- to unfold this is to unfold all that is computed here
 unfoldable everything : Unit {0}
-unfolding record_shown moment_shown clock_behind seconds_behind extra_shown behind_dot colons time_text digits_of plain few_of degrees_behind is_negated is_either with_decimals units_of decimal decimal_in heights_shown bytes
+unfolding record_shown moment_shown shown_clock shown_seconds extra_shown behind_dot colons time_text digits_of plain few_of shown_degrees is_negated is_either with_decimals units_of decimal decimal_in heights_shown bytes
 everything = tt
 
 abbrev pub line : String → List ℕ

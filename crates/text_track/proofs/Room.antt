@@ -11,7 +11,7 @@ use Rattle.text_track.specs.Trail.{moment_shown, heights_shown, record_shown}
 
 moment_room : (line day : ℕ) (t : FineTime) → length (moment_shown line day t) ≤ 55
 unfolding moment_shown
-moment_room line day t = simp length-append (omega (arith, number_room line, number_room day, clock_room 32 t))
+moment_room line day t = simp length-append (omega (arith, number_room line, number_room day, clock_room t))
 
 heights_room : (f : Fix) → length (heights_shown f) ≤ 47
 unfolding heights_shown
@@ -19,4 +19,4 @@ heights_room f = simp length-append (omega (arith, metres_room f.pressure.metres
 
 pub record_room : (line day : ℕ) (f : Fix) → length (record_shown line day f) ≤ 168
 unfolding record_shown
-record_room line day f = simp length-append (omega (arith, moment_room line day f.time, degrees_room 32 f.lat, degrees_room 32 f.lon, heights_room f))
+record_room line day f = simp length-append (omega (arith, moment_room line day f.time, degrees_room f.lat, degrees_room f.lon, heights_room f))

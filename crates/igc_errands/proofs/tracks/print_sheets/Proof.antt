@@ -2,7 +2,7 @@
 use mathlib.Core.Path.{◌≡◌}
 use borrow.Author.Rules.{rules}
 use lib.ListN.{length}
-use Rattle.text_sheet.proofs.Callers.{sheet_fits, sheet_counts, sheet_less}
+use Rattle.text_stretch.proofs.Callers.{sheet_fits, sheet_counts, sheet_less}
 use Rattle.igc_errands.proofs.tracks.print_sheets.Statement.{statement}
 use Rattle.igc_errands.proofs.tracks.print_sheets.Tie as tie
 

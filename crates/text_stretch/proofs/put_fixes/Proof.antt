@@ -1,9 +1,9 @@
--- `text_sheet::put_fixes` meets its contract: at each turn the lines of the fixes so far stand in the buffer, and the reading has come so far. Assumes nothing.
+-- `text_stretch::put_fixes` meets its contract: at each turn the lines of the fixes so far stand in the buffer, and the reading has come so far. Assumes nothing.
 use Prim.Native.Nat.{◌-◌, ◌≤◌}
 use borrow.Author.Rules.{rules}
-use Rattle.text_sheet.proofs.Laws.{Reached, reached_first, reached_next, stretch_full}
-use Rattle.text_sheet.proofs.put_fixes.Statement.{statement}
-use Rattle.text_sheet.proofs.put_fixes.Tie as tie
+use Rattle.text_stretch.proofs.Laws.{Reached, reached_first, reached_next, stretch_full}
+use Rattle.text_stretch.proofs.put_fixes.Statement.{statement}
+use Rattle.text_stretch.proofs.put_fixes.Tie as tie
 
 abbrev invariant-loop : tie.invariant-loop
 invariant-loop file form n out₀ at used₀ next₀ i₀ out used next i = (i ≤ n) × Reached form file next₀ out₀ at i used next out

@@ -1,0 +1,2 @@
+-- The lines of a track, sheet by sheet.
+pub mod Sheets
