@@ -6,6 +6,7 @@ use mathlib.Core.Path.{◌≡◌, refl, sym, ap, ◌∙◌}
 use native.Mathlib.Omega.{arith}
 use lib.Dec.{leb}
 use lib.ListN.{length, take, drop, length-take}
+use Rattle.rules.specs.Families.{first_start, layout_of}
 use Rattle.rules.specs.Layouts.{allowed, all_placed, entries_of, empty_layout}
 use Rattle.rules.specs.Order.{passing, is_back}
 use Rattle.rules.specs.Roles.{in_body}
@@ -23,11 +24,11 @@ use Rattle.check_sure.specs.Sure.{pattern_of}
 use Rattle.check_state.specs.States.{Few}
 use Rattle.check_places.specs.Places.{low_marks, span_marks, other_marks, fix_lows, fix_spans, fix_others, extra_lows, extra_spans, end_of, FixPlaces, ExtraPlaces}
 use Rattle.check_places.specs.declared.Places.{Places}
-use Rattle.check_places.proofs.Good.{Good, laid_long, good_fix_lem, good_extra_lem}
+use Rattle.check_places.proofs.Good.{Good, laid_long, good_fix_lem, good_extra_lem, line_ends}
 use Rattle.check_clock.specs.declared.Pace.{Pace}
 use Rattle.check_ahead.specs.Paces.{paced, Going, Known}
 use Rattle.check_ahead.specs.Runs.{Running}
-use Rattle.check_ahead.specs.Strides.{FixLaid, ExtraLaid, Long, FixKept, ExtraKept, LineTimed, Ready, Strode}
+use Rattle.check_ahead.specs.Strides.{Reaches, FixLaid, ExtraLaid, Long, FixKept, ExtraKept, LineTimed, Ready, Strode}
 use Rattle.check_ahead.proofs.Lines.{good_taken}
 use Rattle.check_ahead.proofs.Runs.{count_most, pattern_long, running_first, running_next, running_on}
 
@@ -44,20 +45,20 @@ few start l a =
     omega (arith, pattern_long (entries_of l))
 
 module _ (st : State) (size : ℕ) (pattern low span other l : List ℕ) (t : ℕ) (day : t ≤ 86399) where
-  fix_good : Known family.B st size pattern → FixLaid pattern low span other → FixKept size low span other l t → Good family.B l size pattern t
-  fix_good k q d =
+  fix_good : Known family.B st size pattern → Reaches family.B st size → FixLaid pattern low span other → FixKept size low span other l t → Good family.B l size pattern t
+  fix_good k e q d =
       let layout = st.flight.layouts.b in
       let s = d.stand in
-      let enough : end_of (entries_of layout) 35 + 2 ≤ s.n = rw k.reached at s.enough in
-      rw (k.reached, k.columned)
+      let enough : end_of (entries_of layout) 35 + 2 ≤ s.n = rw e at s.enough in
+      rw (e, k.columned)
       (good_fix_lem l (entries_of layout) empty_layout s.n t (few 36 layout k.told) s.most d.secs day (all_placed_lem 36 layout k.told) enough (rw (q.low, q.span, q.other, k.columned) at s.stand) d.below)
 
-  extra_good : Known (family.Extra extra.K) st size pattern → ExtraLaid pattern low span other → ExtraKept size low span other l t → Good (family.Extra extra.K) l size pattern t
-  extra_good k q d =
+  extra_good : Known (family.Extra extra.K) st size pattern → Reaches (family.Extra extra.K) st size → ExtraLaid pattern low span other → ExtraKept size low span other l t → Good (family.Extra extra.K) l size pattern t
+  extra_good k e q d =
       let layout = st.flight.layouts.k in
       let s = d.stand in
-      let enough : end_of (entries_of layout) 7 + 2 ≤ s.n = rw k.reached at s.enough in
-      rw (k.reached, k.columned)
+      let enough : end_of (entries_of layout) 7 + 2 ≤ s.n = rw e at s.enough in
+      rw (e, k.columned)
       (good_extra_lem l (entries_of layout) empty_layout s.n t (few 8 layout k.told) s.most d.secs day (all_placed_lem 8 layout k.told) enough (rw (q.low, q.span, q.other, k.columned) at s.stand))
 
 -- ---- a turn of the run
@@ -78,17 +79,17 @@ width_few true t d h = let s = (d.fix refl h).stand in omega (arith, s.enough, s
 width_few false t d h = let s = (d.extra refl h).stand in omega (arith, s.enough, s.most)
 
 known_on : {f : Family} {st : State} {size : ℕ} {pattern : List ℕ} (p : Pace) → Known f st size pattern → Known f (paced st p) size pattern
-known_on p k = record { told = k.told; sized = k.sized; columned = k.columned; reached = k.reached }
+known_on p k = record { told = k.told; sized = k.sized; columned = k.columned }
 
 module _ {lent : Bool} {file table₀ table : List ℕ} {st : State} {p₀ p : Pace} {low span other low' span' other' : List ℕ} {b k : ℕ} where
   pub stride_next : Ready st p₀ low span other b low' span' other' k → Running lent file table₀ p₀.at (paced st p₀) table p → (fix : Bool) (t : ℕ)
       → LineTimed fix (drop p.at file) low span other b low' span' other' k t → t ≤ 86399 → is_back (passing p.clock t) ≡ false
       → (put : Bool) (after : List ℕ) → EntryPut lent table p.lines p.at put after → put ≡ true → Running lent file table₀ p₀.at (paced st p₀) after (stepped p fix b k t)
   stride_next r g true t d h w put after u e =
-      let good = fix_good st b r.fixes low span other (drop p.at file) t h r.known r.places (d.fix refl h) in
+      let good = fix_good st b r.fixes low span other (drop p.at file) t h r.known r.reached r.places (d.fix refl h) in
       running_next g (good_taken file (paced st p₀) p family.B b r.fixes t g.going (known_on p₀ r.known) good.some good w) put after u e
   stride_next r g false t d h w put after u e =
-      let good = extra_good st k r.extras low' span' other' (drop p.at file) t h r.known' r.places' (d.extra refl h) in
+      let good = extra_good st k r.extras low' span' other' (drop p.at file) t h r.known' r.reached' r.places' (d.extra refl h) in
       running_next g (good_taken file (paced st p₀) p (family.Extra extra.K) k r.extras t g.going (known_on p₀ r.known') good.some good w) put after u e
 
 -- ---- the loop's invariant
@@ -139,6 +140,10 @@ module _ {lent : Bool} {file table₀ low span other : List ℕ} {b : ℕ} {low'
 
 -- ---- a run among others
 
+-- a line of a known length ends where its last column does, the layout being one of 13 entries
+pub reaches : {f : Family} {st : State} {size : ℕ} {pattern : List ℕ} → Known f st size pattern → length (layout_of f st.flight.layouts).entries ≡ 13 → Reaches f st size
+reaches {f = f} {st = st} k n = k.sized ∙ line_ends (first_start f) (layout_of f st.flight.layouts) n (count_most (first_start f) (layout_of f st.flight.layouts) k.told)
+
 pub fixes_laid : (pattern : List ℕ) (r : Places) → FixPlaces pattern r → FixLaid pattern r.low r.span r.other
 fixes_laid pattern r e = record { low = ap (λ (x : Places). x.low) e; span = ap (λ (x : Places). x.span) e; other = ap (λ (x : Places). x.other) e }
 
@@ -155,9 +160,10 @@ extra_long {pattern} q =
 
 module _ {lent : Bool} {file table₀ table : List ℕ} {from : ℕ} {st : State} {p : Pace} (g : Running lent file table₀ from st table p) where
   module _ {fixes extras low span other : List ℕ} {b : ℕ} {low' span' other' : List ℕ} {k : ℕ} (known : Known family.B st b fixes) (known' : Known (family.Extra extra.K) st k extras)
+      (reached : Reaches family.B st b) (reached' : Reaches (family.Extra extra.K) st k)
       (places : FixLaid fixes low span other) (places' : ExtraLaid extras low' span' other') {r : Pace} {table' : List ℕ} (s : Strode lent file table low span other b low' span' other' k p r table') where
     pub strode : Running lent file table p.at (paced st p) table' r
-    strode = s.reach st (record { fixes = fixes; extras = extras; going = g.going; known = known; known' = known'; places = places; places' = places' })
+    strode = s.reach st (record { fixes = fixes; extras = extras; going = g.going; known = known; known' = known'; reached = reached; reached' = reached'; places = places; places' = places' })
 
     pub running_strode : Running lent file table₀ from st table' r
     running_strode = running_on g strode

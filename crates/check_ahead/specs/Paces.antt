@@ -1,5 +1,5 @@
 -- A line taken by the numbers that it moves.
-use Rattle.std.specs.Prelude.{ℕ, ◌-◌, ◌≤◌, true, List, ◌≡◌, length, get_or}
+use Rattle.std.specs.Prelude.{ℕ, ◌≤◌, true, List, ◌≡◌, length, get_or}
 use Rattle.rules.specs.Families.{first_start, line_letter, layout_of}
 use Rattle.rules.specs.Roles.{after_h, in_body}
 use Rattle.rules.specs.Layouts.{allowed, line_length, entries_of}
@@ -12,7 +12,6 @@ use Rattle.rules.specs.declared.State.{State}
 use Rattle.check_table.specs.Turns.{Passed}
 use Rattle.byte_sweep.specs.Plain.{is_mild, every}
 use Rattle.check_sure.specs.Sure.{pattern_of}
-use Rattle.check_places.specs.Places.{end_of}
 use Rattle.check_clock.specs.declared.Pace.{Pace}
 use Rattle.check_clock.specs.declared.Taken.{Taken}
 use Rattle.check_clock.specs.declared.Taken.TheVariants as taken
@@ -40,7 +39,6 @@ pub record Known (f : Family) (st : State) (size : ℕ) (pattern : List ℕ) : T
   pub told : allowed (first_start f) (layout_of f st.flight.layouts) ≡ true
   pub sized : size ≡ line_length (first_start f) (layout_of f st.flight.layouts)
   pub columned : pattern ≡ pattern_of (entries_of (layout_of f st.flight.layouts))
-  pub reached : size ≡ end_of (entries_of (layout_of f st.flight.layouts)) (first_start f - 1)
 
 -- the line is good, and q has the numbers after it
 pub record Judges (l : List ℕ) (st : State) (p : Pace) (next : ℕ) (q : Pace) : Type 0 where

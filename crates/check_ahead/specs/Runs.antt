@@ -1,5 +1,5 @@
 -- What must hold before a run of lines that are surely good, and what holds after it.
-use Rattle.std.specs.Prelude.{ℕ, ◌+◌, ◌-◌, ◌≤◌, Bool, true, List, ◌≡◌, length, take}
+use Rattle.std.specs.Prelude.{ℕ, ◌+◌, ◌≤◌, Bool, true, List, ◌≡◌, length, take}
 use Rattle.rules.specs.Families.{first_start}
 use Rattle.rules.specs.Roles.{after_h, in_body}
 use Rattle.rules.specs.Layouts.{allowed, line_length, entries_of}
@@ -12,7 +12,6 @@ use Rattle.rules.specs.declared.State.{State}
 use Rattle.check_state.specs.States.{Few}
 use Rattle.check_table.specs.Turns.{Here}
 use Rattle.check_sure.specs.Sure.{pattern_of}
-use Rattle.check_places.specs.Places.{end_of}
 use Rattle.check_clock.specs.declared.Pace.{Pace}
 use Rattle.check_ahead.specs.Paces.{paced, Going}
 use Rattle.check_ahead.specs.declared.Ahead.{Ahead}
@@ -38,7 +37,6 @@ pub record Gauged (f : Family) (l : Layout) (r : Gauge) : Type 0 where
   pub sized : r.size ≡ line_length (first_start f) l
   pub ended : r.end ≤ length r.pattern
   pub columned : take r.end r.pattern ≡ pattern_of (entries_of l)
-  pub reached : r.size ≡ end_of (entries_of l) (first_start f - 1)
 
 -- what held before the run holds after it: the lines between are passed, and their entries put
 pub record Ran (lent : Bool) (file table : List ℕ) (from : ℕ) (st : State) (r : Ahead) (table' : List ℕ) : Type 0 where

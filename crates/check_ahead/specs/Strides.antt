@@ -1,13 +1,20 @@
 -- A run of lines that are held against their places, and taken by plain numbers.
-use Rattle.std.specs.Prelude.{ℕ, ◌+◌, ◌≤◌, Bool, true, false, List, ◌≡◌, length, get_or, take}
+use Rattle.std.specs.Prelude.{ℕ, ◌+◌, ◌-◌, ◌≤◌, Bool, true, false, List, ◌≡◌, length, get_or, take}
+use Rattle.rules.specs.Families.{first_start, layout_of}
+use Rattle.rules.specs.Layouts.{entries_of}
 use Rattle.rules.specs.declared.Extra.TheVariants as extra
+use Rattle.rules.specs.declared.Family.{Family}
 use Rattle.rules.specs.declared.Family.TheVariants as family
 use Rattle.rules.specs.declared.State.{State}
 use Rattle.check_front.specs.Front.{is_below}
-use Rattle.check_places.specs.Places.{kept, laid, low_marks, span_marks, other_marks, fix_lows, fix_spans, fix_others, extra_lows, extra_spans, seconds_of}
+use Rattle.check_places.specs.Places.{kept, laid, low_marks, span_marks, other_marks, fix_lows, fix_spans, fix_others, extra_lows, extra_spans, end_of, seconds_of}
 use Rattle.check_clock.specs.declared.Pace.{Pace}
 use Rattle.check_ahead.specs.Paces.{paced, Going, Known}
 use Rattle.check_ahead.specs.Runs.{Running}
+
+-- the lines of a family end where their last column does
+abbrev pub Reaches : Family → State → ℕ → Type 0
+Reaches f st size = size ≡ end_of (entries_of (layout_of f st.flight.layouts)) (first_start f - 1)
 
 -- a pace of plain numbers
 abbrev pub pace_by : ℕ → ℕ → ℕ → ℕ → ℕ → ℕ → ℕ → Pace
@@ -56,6 +63,8 @@ pub record Ready (st : State) (p : Pace) (low span other : List ℕ) (b : ℕ) (
   pub going : Going st p
   pub known : Known family.B st b fixes
   pub known' : Known (family.Extra extra.K) st k extras
+  pub reached : Reaches family.B st b
+  pub reached' : Reaches (family.Extra extra.K) st k
   pub places : FixLaid fixes low span other
   pub places' : ExtraLaid extras low' span' other'
 

@@ -12,7 +12,7 @@ ghost use Rattle.rules.specs.declared.Family.TheVariants as family;
 ghost use Rattle.check_state.specs.States.{Few};
 ghost use Rattle.check_ahead.specs.Paces.{paced, Known};
 ghost use Rattle.check_ahead.specs.Runs.{MayRun, AllAllowed, Gauged, Ran};
-ghost use Rattle.check_ahead.specs.Strides.{FixLaid, ExtraLaid};
+ghost use Rattle.check_ahead.specs.Strides.{Reaches, FixLaid, ExtraLaid};
 
 use check_clock::{Pace, Taken};
 use rules::{Extra, Family, Layout, State};
@@ -55,7 +55,7 @@ fn pace_of(at: usize, st: State) -> Pace
 }
 
 // The lines from a place on, as far as they are surely good and the table has room: B and K lines by their places as long as they can be, then one line by its kind.
-fn run_lines(
+fn run_strides(
     low: &[u8],
     span: &[u8],
     other: &[u8],
@@ -76,7 +76,8 @@ fn run_lines(
 ) -> Ahead
     requires { (from ≤ length file.now) × (length file.now ≤ 16777216) × Few st × (st.points ≡ 0) × (after_h ≤ st.stage) × (st.stage ≤ in_body)
         × Known family.B st b fixes.now × Known (family.Extra extra.K) st k extras.now × Known (family.Extra extra.N) st n unsigned.now
-        × FixLaid fixes.now low.now span.now other.now × ExtraLaid extras.now lowest.now spread.now beside.now }
+        × FixLaid fixes.now low.now span.now other.now × ExtraLaid extras.now lowest.now spread.now beside.now
+        × Reaches family.B st b × Reaches (family.Extra extra.K) st k }
     ensures { Ran lent file.now table.old from st result table.new }
 {
     let mut p = pace_of(from, st);
@@ -96,6 +97,38 @@ fn run_lines(
         p = next;
     }
     ahead_at(p, st)
+}
+
+// The lines from a place on, as far as they are surely good and the table has room.
+fn run_lines(
+    file: &[u8],
+    lent: bool,
+    table: &mut [u32],
+    from: usize,
+    b: usize,
+    fixes: &[u8],
+    k: usize,
+    extras: &[u8],
+    n: usize,
+    unsigned: &[u8],
+    st: State,
+) -> Ahead
+    requires { (from ≤ length file.now) × (length file.now ≤ 16777216) × Few st × (st.points ≡ 0) × (after_h ≤ st.stage) × (st.stage ≤ in_body)
+        × Known family.B st b fixes.now × Known (family.Extra extra.K) st k extras.now × Known (family.Extra extra.N) st n unsigned.now }
+    ensures { Ran lent file.now table.old from st result table.new }
+{
+    let fix_places = check_places::fix_places(fixes);
+    let extra_places = check_places::extra_places(extras);
+    let low = fix_places.low;
+    let span = fix_places.span;
+    let other = fix_places.other;
+    let lowest = extra_places.low;
+    let spread = extra_places.span;
+    let beside = extra_places.other;
+    run_strides(
+        &low, &span, &other, &lowest, &spread, &beside, file, lent, table, from, b, fixes, k,
+        extras, n, unsigned, st,
+    )
 }
 
 // Whether body lines may come at a place of a file of allowed size, and the counts are few.
@@ -180,21 +213,7 @@ fn run_known(
     let n = unsigned.size;
     let in_unsigned = unsigned.end;
     let unsigned_columns = unsigned.pattern;
-    let fix_places = check_places::fix_places(&fix_columns[..in_fixes]);
-    let extra_places = check_places::extra_places(&extra_columns[..in_extras]);
-    let low = fix_places.low;
-    let span = fix_places.span;
-    let other = fix_places.other;
-    let lowest = extra_places.low;
-    let spread = extra_places.span;
-    let beside = extra_places.other;
     run_lines(
-        &low,
-        &span,
-        &other,
-        &lowest,
-        &spread,
-        &beside,
         file,
         lent,
         table,

@@ -3,22 +3,22 @@ use Prim.Native.Nat.{ℕ, zero, suc, ◌+◌, ◌-◌, ◌*◌, ◌≤◌, ◌<�
 use mathlib.Core.Bool.{Bool, true, false, ◌&&◌, ◌||◌}
 use mathlib.Core.List.{List, [], ◌∷◌}
 use mathlib.Core.Option.{Option, some}
-use mathlib.Core.Path.{◌≡◌, refl, sym}
+use mathlib.Core.Path.{◌≡◌, refl}
 use native.Mathlib.Omega.{arith}
 use borrow.Author.Tests.{le-leb, leb-true, eqb-true}
 use lib.Dec.{eqb, leb}
 use lib.IntN.{pos}
-use lib.ListN.{length, get_or, set, drop, length-drop}
-use lib.Seq.{drop-drop, get_or-drop}
+use lib.ListN.{get_or, drop}
+use lib.Seq.{drop-drop}
 use Rattle.rules.specs.Choice.{leads, on, bytes}
 use Rattle.rules.specs.Chars.{is_digit}
 use Rattle.rules.specs.Numbers.{spell, number_at}
 use Rattle.rules.specs.Fields.{is_either, most_latitude, most_longitude, position_at, latitude_at, longitude_at, altitude_at}
 use Rattle.rules.specs.declared.Position.{Position}
-use Rattle.rules.proofs.Inverse.{and_inv, or_inv}
+use Rattle.rules.proofs.Inverse.{and_inv}
 use Rattle.byte_number.proofs.Laws.{digit_low, digit_high, spell_other, number_long, cond_some}
-use Rattle.check_front.specs.Front.{is_within, between, lows, highs, is_bounded, is_below, is_front}
-use Rattle.check_front.proofs.Laws.{between_drop, between_short, tighter}
+use Rattle.check_front.specs.Front.{is_within, between, lows, highs, nears, is_bounded, is_front}
+use Rattle.check_front.proofs.Laws.{between_drop}
 
 -- ---- digits
 
@@ -116,24 +116,16 @@ module _ (l : List ℕ) (north : is_either (get_or l 14 0) 78 83 ≡ true) (east
         gnss = altitude_there l 30 99999 (number_there lows high l 3 27 5 99999 (omega arith) e refl g);
       }
 
-  -- the first digit of the longitude is 0, or its second is at most 7
-  front_of : between lows highs (drop 3 l) ≡ true → is_below (get_or l 15 0) (get_or l 16 0) ≡ true → Front l
-  unfolding bytes spell is_digit is_below
-  front_of e b =
-      or_inv (leb (get_or l 15 0) 48) (leb (get_or l 16 0) 55) b
-      (λ h. front_by (set highs 12 48) 99 (tighter 12 48 lows highs (drop 3 l) e (rw (get_or-drop 3 l 12 0) (leb-true (get_or l 15 0) 48 h))) (omega arith) refl refl refl refl refl refl)
-      (λ h. front_by (set highs 13 55) 179 (tighter 13 55 lows highs (drop 3 l) e (rw (get_or-drop 3 l 13 0) (leb-true (get_or l 16 0) 55 h))) (omega arith) refl refl refl refl refl refl)
+  front_of : (s t : Bool) → between lows highs (drop 3 l) ≡ s → between lows nears (drop 3 l) ≡ t → (s || t) ≡ true → Front l
+  unfolding bytes spell is_digit
+  front_of true t e f o = front_by highs 179 e (omega arith) refl refl refl refl refl refl
+  front_of false true e f o = front_by nears 99 f (omega arith) refl refl refl refl refl refl
+  front_of false false e f o = let z : ◌≡◌ {A = ℕ} 0 1 = cc in absurd (omega arith)
 
 pub front_there : (l : List ℕ) → is_front l ≡ true → Front l
 unfolding is_front is_bounded
 front_there l e =
     let a = and_inv _ _ e in
-    let b = and_inv _ _ a.0 in
-    let within = and_inv _ _ b.0 in
-    let letters = and_inv _ _ b.1 in
-    front_of l letters.0 letters.1 a.1 within.0 within.1
-
--- a line that ends before its altitudes do has none
-pub front_short : (l : List ℕ) → length l < 35 → false ≡ is_front l
-unfolding is_front is_bounded bytes
-front_short l h = rw (sym (between_short lows highs (drop 3 l) (simp length-drop (omega arith))))
+    let b = and_inv _ _ a.1 in
+    let c = and_inv _ _ b.1 in
+    front_of l b.0 c.0 c.1 _ _ refl refl a.0

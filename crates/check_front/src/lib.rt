@@ -7,8 +7,11 @@ ghost use Rattle.check_front.specs.Front.{is_within, between, is_bounded, BelowT
 // The least that the bytes at the offsets 3 to 34 may be: minutes and seconds of the time, latitude, longitude, validity and two altitudes.
 const LOW: [u8; 32] = *b"00000000000N00000000EA0000000000";
 
-// The most that they may be. Longitudes up to 199 degrees are among them: `is_below` tells those from 180 on.
-const HIGH: [u8; 32] = *b"59598959999S19959999WV9999999999";
+// The most that they may be: longitudes below 80 degrees, and from 100 up to 179.
+const HIGH: [u8; 32] = *b"59598959999S17959999WV9999999999";
+
+// The most that they may be: longitudes below 100 degrees.
+const NEAR: [u8; 32] = *b"59598959999S09959999WV9999999999";
 
 // Whether all bytes so far were within their bounds, and this one is.
 fn still(ok: bool, low: u8, high: u8, b: u8) -> bool
@@ -41,13 +44,33 @@ fn is_between(line: &[u8], low: &[u8], high: &[u8]) -> bool
     ok
 }
 
-// Whether each byte is within its bounds. Only here are the bounds lent, so that the compiler keeps them as constants.
+// Whether each byte is within its bounds, the longitude below 180 degrees.
 fn is_bounded(line: &[u8]) -> bool
     ensures { result ≡ is_bounded line.now }
 {
     let low = LOW;
     let high = HIGH;
-    is_between(line, &low, &high)
+    if is_between(line, &low, &high) {
+        return true;
+    }
+    let near = NEAR;
+    is_between(line, &low, &near)
+}
+
+// Whether each byte is within its bounds, and the three letters are right.
+pub fn is_front(line: &[u8]) -> bool
+    ensures { FrontTest line.now result }
+{
+    if !is_bounded(line) {
+        return false;
+    }
+    if !byte_chars::is_either(byte_chars::byte(line, 14), b'N', b'S') {
+        return false;
+    }
+    if !byte_chars::is_either(byte_chars::byte(line, 23), b'E', b'W') {
+        return false;
+    }
+    byte_chars::is_either(byte_chars::byte(line, 24), b'A', b'V')
 }
 
 // Whether a longitude of digits, the first of them 0 or 1, is below 180 degrees.
@@ -55,18 +78,4 @@ pub fn is_below(hundreds: u8, tens: u8) -> bool
     ensures { BelowTest hundreds tens result }
 {
     (hundreds <= b'0') | (tens <= b'7')
-}
-
-// Whether each byte is within its bounds, the longitude is below 180 degrees, and the three letters are right. All tests are made, since which of two letters stands there cannot be
-// foretold.
-pub fn is_front(line: &[u8]) -> bool
-    ensures { FrontTest line.now result }
-{
-    if line.len() < 35 {
-        return false;
-    }
-    let within = is_bounded(line) & is_below(line[15], line[16]);
-    let placed = byte_chars::is_either(line[14], b'N', b'S')
-        & byte_chars::is_either(line[23], b'E', b'W');
-    within & placed & byte_chars::is_either(line[24], b'A', b'V')
 }

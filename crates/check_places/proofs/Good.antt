@@ -19,7 +19,8 @@ use Rattle.rules.specs.declared.Family.TheVariants as family
 use Rattle.rules.specs.declared.Layout.{Layout}
 use Rattle.rules.proofs.Inverse.{and_inv}
 use Rattle.byte_sweep.specs.Plain.{is_plain, is_mild}
-use Rattle.check_front.specs.Front.{is_within, between, lows, highs, is_bounded, is_below, is_front}
+use Rattle.check_front.specs.Front.{is_within, between, lows, wides, is_below, is_front}
+use Rattle.check_front.proofs.Below.{front_below}
 use Rattle.check_sure.specs.Sure.{pattern_of, keeps_pattern, fields_time}
 use Rattle.check_sure.proofs.Easy.{joined}
 use Rattle.check_sure.proofs.Laws.{front_time}
@@ -250,16 +251,13 @@ pub record Good (f : Family) (l : List ℕ) (size : ℕ) (pattern : List ℕ) (t
   pub lf : get_or l (size + 1) 0 ≡ 10
 
 front_good : (l : List ℕ) → kept fix_lows fix_spans fix_others l ≡ true → is_below (get_or l 15 0) (get_or l 16 0) ≡ true → is_front l ≡ true
-unfolding is_front is_bounded bytes inside
+unfolding bytes inside
 front_good l e b =
     let behind = kept_append (66 ∷ 48 ∷ 48 ∷ []) (0 ∷ 2 ∷ 9 ∷ []) (66 ∷ 48 ∷ 48 ∷ []) (drop 3 fix_lows) (drop 3 fix_spans) (drop 3 fix_others) l refl refl e in
-    rw (
-      bounded lows highs (drop 3 fix_lows) (drop 3 fix_spans) (drop 3 fix_others) (drop 3 l) refl behind.1,
-      b,
-      either 78 83 (get_or l 14 0) (omega arith) (kept_at fix_lows fix_spans fix_others l 14 e (omega arith)),
-      either 69 87 (get_or l 23 0) (omega arith) (kept_at fix_lows fix_spans fix_others l 23 e (omega arith)),
-      either 65 86 (get_or l 24 0) (omega arith) (kept_at fix_lows fix_spans fix_others l 24 e (omega arith)),
-    )
+    front_below l (bounded lows wides (drop 3 fix_lows) (drop 3 fix_spans) (drop 3 fix_others) (drop 3 l) refl behind.1) b
+    (either 78 83 (get_or l 14 0) (omega arith) (kept_at fix_lows fix_spans fix_others l 14 e (omega arith)))
+    (either 69 87 (get_or l 23 0) (omega arith) (kept_at fix_lows fix_spans fix_others l 23 e (omega arith)))
+    (either 65 86 (get_or l 24 0) (omega arith) (kept_at fix_lows fix_spans fix_others l 24 e (omega arith)))
 
 first_is : (a b : ℕ) → a ≤ 255 → may_stand a 0 a b ≡ true → b ≡ a
 first_is a b h e = stands a 0 a b (omega arith) e (λ f g. omega arith) (λ q. q)

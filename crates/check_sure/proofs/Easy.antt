@@ -1,6 +1,6 @@
 -- A line whose columns are mild and whose other bytes are read as a time or within bounds has mild bytes alone: digits are mild, and so are the bounds. Assumes nothing.
 use Prim.Native.Nat.{ℕ, zero, suc, ◌+◌, ◌-◌, ◌*◌, ◌≤◌}
-use mathlib.Core.Bool.{Bool, true, false, ◌&&◌}
+use mathlib.Core.Bool.{Bool, true, false, ◌&&◌, ◌||◌}
 use mathlib.Core.List.{List, [], ◌∷◌}
 use mathlib.Core.Option.{Option, none, some}
 use mathlib.Core.Path.{◌≡◌, refl, sym, ◌∙◌}
@@ -21,7 +21,7 @@ use Rattle.byte_number.proofs.Laws.{digit_low, digit_high, cond_some}
 use Rattle.byte_sweep.specs.Plain.{is_plain, is_mild, every}
 use Rattle.rules.proofs.Inverse.{and_inv}
 use Rattle.byte_sweep.proofs.Laws.{plain_mild}
-use Rattle.check_front.specs.Front.{between, is_within, lows, highs, is_bounded, is_front}
+use Rattle.check_front.specs.Front.{between, is_within, lows, highs, nears, is_bounded, is_front}
 use Rattle.check_sure.specs.Sure.{keeps_pattern, is_easy, fields_time, clean_time, pattern_time, sure_time}
 use Rattle.check_sure.proofs.Laws.{front_time}
 
@@ -111,9 +111,12 @@ between_mild (a ∷ low) (z ∷ high) (b ∷ l) f g e =
 
 front_mild : (l : List ℕ) → is_front l ≡ true → Mild 32 (drop 3 l)
 unfolding is_front is_bounded bytes leads
-front_mild l e =
-    let within = and_inv _ _ (and_inv _ _ (and_inv _ _ e).0).0 in
-    between_mild lows highs (drop 3 l) refl refl within.0
+front_mild l e = by _ _ refl refl (and_inv _ _ e).0
+  where
+    by : (s t : Bool) → between lows highs (drop 3 l) ≡ s → between lows nears (drop 3 l) ≡ t → (s || t) ≡ true → Mild 32 (drop 3 l)
+    by true t f g o = between_mild lows highs (drop 3 l) refl refl f
+    by false true f g o = between_mild lows nears (drop 3 l) refl refl g
+    by false false f g o = let z : ◌≡◌ {A = ℕ} 0 1 = cc in absurd (omega arith)
 
 -- ---- the whole line
 

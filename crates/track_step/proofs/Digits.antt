@@ -1,6 +1,6 @@
 -- Digits that are known to stand there, one at a time; and which stand in a line with a good front. Assumes nothing.
 use Prim.Native.Nat.{ℕ, ◌+◌, ◌-◌, ◌*◌, ◌^◌, ◌≤◌, ◌<◌}
-use mathlib.Core.Bool.{Bool, true, false}
+use mathlib.Core.Bool.{Bool, true, false, ◌||◌}
 use mathlib.Core.List.{List}
 use mathlib.Core.Logic.{inl, inr}
 use mathlib.Core.Option.{Option, none, some}
@@ -10,20 +10,18 @@ use native.Mathlib.Omega.{arith}
 use borrow.Author.Tests.{le-leb, leb-true}
 use lib.Dec.{leb, eqb}
 use lib.IntN.{pos}
-use lib.ListN.{length, get_or, set, drop}
-use lib.Seq.{get_or-drop}
+use lib.ListN.{length, get_or, drop}
 use mir.Syntax.{w64}
 use mir.Val.{Fits}
 use Rattle.rules.specs.Choice.{given, on, leads, bytes}
 use Rattle.rules.specs.Chars.{is_digit}
 use Rattle.rules.specs.Fields.{time_at, is_second, is_either, most_latitude, most_longitude, position_at, latitude_at, longitude_at, altitude_at}
 use Rattle.rules.specs.Numbers.{spell, number_at}
-use Rattle.rules.proofs.Inverse.{and_inv, or_inv, given_inv, need_inv, none_some}
+use Rattle.rules.proofs.Inverse.{and_inv, given_inv, need_inv, none_some}
 use Rattle.rules.proofs.Times.{SecondIn, second_inv}
 use Rattle.byte_number.proofs.Laws.{number_long, number_below}
 use Rattle.byte_digits.proofs.Joined.{number_joined, one_some, one_none}
-use Rattle.check_front.specs.Front.{between, lows, highs, is_bounded, is_below, is_front}
-use Rattle.check_front.proofs.Laws.{tighter}
+use Rattle.check_front.specs.Front.{between, lows, highs, nears, is_bounded, is_front}
 use Rattle.check_front.proofs.There.{Spelt, number_there, no_minus}
 use Rattle.track_step.specs.Known.{Numbered}
 
@@ -100,31 +98,38 @@ pub record Digits (l : List ℕ) : Type 0 where
 weaker : (o : Option ℕ) (m n : ℕ) → m ≤ n → Spelt o m → Spelt o n
 weaker o m n h s = record { value = s.value; read = s.read; below = omega (arith, s.below) }
 
-degrees : (l : List ℕ) → between lows highs (drop 3 l) ≡ true → is_below (get_or l 15 0) (get_or l 16 0) ≡ true → Spelt (number_at l 15 3) 179
-unfolding bytes spell is_digit leads is_below
-degrees l e b =
-    or_inv (leb (get_or l 15 0) 48) (leb (get_or l 16 0) 55) b
-    (λ h. weaker _ 99 179 (omega arith) (number_there lows (set highs 12 48) l 3 12 3 99 (omega arith) (tighter 12 48 lows highs (drop 3 l) e (rw (get_or-drop 3 l 12 0) (leb-true (get_or l 15 0) 48 h))) refl refl))
-    (λ h. number_there lows (set highs 13 55) l 3 12 3 179 (omega arith) (tighter 13 55 lows highs (drop 3 l) e (rw (get_or-drop 3 l 13 0) (leb-true (get_or l 16 0) 55 h))) refl refl)
+-- whichever upper bounds are kept, their longitude being below 180 degrees
+module _ (l : List ℕ) (north : is_either (get_or l 14 0) 78 83 ≡ true) (east : is_either (get_or l 23 0) 69 87 ≡ true) (valid : is_either (get_or l 24 0) 65 86 ≡ true) where
+  digits_by : (high : List ℕ) (degrees : ℕ) → between lows high (drop 3 l) ≡ true → degrees ≤ 179
+      → spell 2 0 (drop 4 high) ≡ some 89 → spell 5 0 (drop 6 high) ≡ some 59999 → spell 3 0 (drop 12 high) ≡ some degrees → spell 5 0 (drop 15 high) ≡ some 59999
+      → spell 5 0 (drop 22 high) ≡ some 99999 → spell 5 0 (drop 27 high) ≡ some 99999 → Digits l
+  unfolding bytes leads is_digit
+  digits_by high degrees e h lat north_minutes lon east_minutes p g =
+      record {
+        lat = number_there lows high l 3 4 2 89 (omega arith) e refl lat;
+        lat_minutes = number_there lows high l 3 6 5 59999 (omega arith) e refl north_minutes;
+        lon = weaker _ degrees 179 h (number_there lows high l 3 12 3 degrees (omega arith) e refl lon);
+        lon_minutes = number_there lows high l 3 15 5 59999 (omega arith) e refl east_minutes;
+        pressure = number_there lows high l 3 22 5 99999 (omega arith) e refl p;
+        gnss = number_there lows high l 3 27 5 99999 (omega arith) e refl g;
+        north = north;
+        east = east;
+        valid = valid;
+      }
+
+  digits_of : (s t : Bool) → between lows highs (drop 3 l) ≡ s → between lows nears (drop 3 l) ≡ t → (s || t) ≡ true → Digits l
+  unfolding bytes spell is_digit
+  digits_of true t e f o = digits_by highs 179 e (omega arith) refl refl refl refl refl refl
+  digits_of false true e f o = digits_by nears 99 f (omega arith) refl refl refl refl refl refl
+  digits_of false false e f o = let z : ◌≡◌ {A = ℕ} 0 1 = cc in absurd (omega arith)
 
 pub digits_there : (l : List ℕ) → is_front l ≡ true → Digits l
-unfolding is_front is_bounded bytes spell is_digit leads
+unfolding is_front is_bounded
 digits_there l e =
     let a = and_inv _ _ e in
-    let b = and_inv _ _ a.0 in
-    let within = and_inv _ _ b.0 in
-    let letters = and_inv _ _ b.1 in
-    record {
-      lat = number_there lows highs l 3 4 2 89 (omega arith) within.0 refl refl;
-      lat_minutes = number_there lows highs l 3 6 5 59999 (omega arith) within.0 refl refl;
-      lon = degrees l within.0 within.1;
-      lon_minutes = number_there lows highs l 3 15 5 59999 (omega arith) within.0 refl refl;
-      pressure = number_there lows highs l 3 22 5 99999 (omega arith) within.0 refl refl;
-      gnss = number_there lows highs l 3 27 5 99999 (omega arith) within.0 refl refl;
-      north = letters.0;
-      east = letters.1;
-      valid = a.1;
-    }
+    let b = and_inv _ _ a.1 in
+    let c = and_inv _ _ b.1 in
+    digits_of l b.0 c.0 c.1 _ _ refl refl a.0
 
 pub known : (l : List ℕ) (at n most : ℕ) → Spelt (number_at l at n) most → Numbered l at n
 known l at n most s = record { value = s.value; read = s.read }

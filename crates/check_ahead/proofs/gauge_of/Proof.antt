@@ -1,8 +1,6 @@
 -- `check_ahead::gauge_of` meets its contract. Assumes nothing.
 use native.Mathlib.Omega.{arith}
-use mathlib.Core.Path.{◌∙◌}
 use borrow.Author.Rules.{rules}
-use Rattle.check_places.proofs.Good.{line_ends}
 use Rattle.layout_coded.proofs.Turns.{unmapped}
 use Rattle.check_ahead.proofs.Runs.{count_most, pattern_put, pattern_fits}
 use Rattle.check_ahead.proofs.gauge_of.Statement.{statement}
@@ -15,7 +13,6 @@ returns c =
       sized = c.before.before.line-length.ensures;
       ended = pattern_fits _ _ most c.pattern.ensures;
       columned = pattern_put _ _ (search unmapped) most c.pattern.ensures;
-      reached = c.before.before.line-length.ensures ∙ line_ends _ _ (search unmapped) most;
     }
 
 pub gauge_of_spec : {M : Type 1} → statement M
