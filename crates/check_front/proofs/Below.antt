@@ -1,12 +1,11 @@
 -- A line that keeps the wider bounds and is below 180 degrees keeps the bounds of one kind or of the other. Assumes nothing.
-use Prim.Native.Nat.{ℕ, ◌+◌, ◌≤◌}
-use mathlib.Core.Bool.{Bool, true, false, ◌&&◌, ◌||◌}
+use Prim.Native.Nat.{ℕ}
+use mathlib.Core.Bool.{Bool, true, false, ◌||◌}
 use mathlib.Core.List.{List}
 use mathlib.Core.Path.{◌≡◌, refl}
-use native.Mathlib.Omega.{arith}
 use borrow.Author.Tests.{leb-true}
 use lib.Dec.{leb}
-use lib.ListN.{get_or, set, drop}
+use lib.ListN.{get_or, drop}
 use lib.Seq.{get_or-drop}
 use Rattle.rules.specs.Choice.{bytes}
 use Rattle.rules.specs.Fields.{is_either}
