@@ -1,5 +1,6 @@
 // The state after an H line, a line that tells a layout, a C line, and a line with columns.
 #![tactic(auto)]
+
 ghost use Rattle.rules.specs.Order.{dated, begun, pointed};
 ghost use Rattle.rules.specs.Refusals.{says, and_then};
 ghost use Rattle.rules.specs.Reads.{date_read_told, head_told, point_told};

@@ -1,5 +1,6 @@
 // Each kind of line, without its CR LF, by the checks 7 to 13 in their order: what the line says, or the first refusal, with 0 for the line number.
 #![tactic(auto)]
+
 ghost use Rattle.std.specs.Prelude.{◌≡◌, ◌-◌, ◌%◌, eqb, length, drop};
 ghost use Rattle.rules.specs.Families.{first_start};
 ghost use Rattle.rules.specs.Lines.{at_limit, is_date_mark, planned_at, head_fields, bad_pair, shaped_by};

@@ -1,5 +1,6 @@
 // Bytes put in their place in a buffer: a number as four bytes, the low byte first; and bytes moved down.
 #![tactic(auto)]
+
 ghost use Rattle.std.specs.Prelude.{◌%◌, ◌≡◌};
 ghost use Rattle.shelf_bytes.specs.Stow.{WordPut, BytesMoved};
 

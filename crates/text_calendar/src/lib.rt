@@ -1,5 +1,6 @@
 // The date that is so many days after a date, by the calendar.
 #![tactic(auto)]
+
 ghost use Rattle.std.specs.Prelude.{◌≤◌, ◌≡◌};
 ghost use Rattle.rules.specs.Fields.{days_of};
 ghost use Rattle.text_calendar.specs.Calendar.{opening, year_behind, month_behind, next_day, days_after, civil_told, DateAfter};

@@ -1,5 +1,6 @@
 // A date as people read it, put into a lent buffer: year, month and day.
 #![tactic(auto)]
+
 ghost use Rattle.text_pieces.specs.Buffer.{PiecePut};
 ghost use Rattle.text_dates.specs.Dates.{two_digits, date_shown};
 

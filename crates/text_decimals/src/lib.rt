@@ -1,5 +1,6 @@
 // A time and a position in degrees as text, with the decimals that the file has.
 #![tactic(auto)]
+
 ghost use Rattle.std.specs.Prelude.{◌+◌, ◌≤◌};
 ghost use Rattle.text_pieces.specs.Buffer.{PiecePut};
 ghost use Rattle.text_decimals.specs.Decimals.{behind_dot, extra_shown, seconds_behind, clock_behind, shown_seconds, shown_clock, with_decimals, units_of, degrees_behind, shown_degrees};

@@ -1,5 +1,6 @@
 // The lines that the listing program prints, each put at the start of a lent buffer that has room for the longest of them.
 #![tactic(auto)]
+
 mod lines;
 mod values;
 

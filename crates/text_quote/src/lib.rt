@@ -1,5 +1,6 @@
 // The text of a line and a caret under a byte of it, put into a buffer at a place of it, with the place behind them as the answer.
 #![tactic(auto)]
+
 ghost use Rattle.std.specs.Prelude.{◌≤◌, map, ◌≡◌, replicate};
 ghost use Rattle.text_pieces.specs.Buffer.{PiecePut};
 ghost use Rattle.text_quote.specs.Quote.{visible, window, window_line, caret_line, BytesBefore, QuotePut};

@@ -1,5 +1,6 @@
 // The table of refusals, document 01's with the numbers of document 02: the number, the name and the meaning of each.
 #![tactic(auto)]
+
 ghost use Rattle.text_pieces.specs.Buffer.{PiecePut};
 ghost use Rattle.text_refusal.specs.Table.{NumberOf, NamePut, MeaningPut, WordIn, word_at};
 

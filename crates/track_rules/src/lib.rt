@@ -1,5 +1,6 @@
 // The track of a file as values: a fix as a record, and how far the reading of the fixes has come. What the track of a file is, is told in specs/.
 #![tactic(auto)]
+
 use rules::{Finer, Fix};
 
 // A fix of the track: the number of its line, its day counted from 0, and what its reading gives.

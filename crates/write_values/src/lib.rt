@@ -1,5 +1,6 @@
 // Whether one field's value, a C point with its text, or the text of a line keeps to its limits.
 #![tactic(auto)]
+
 ghost use Rattle.std.specs.Prelude.{◌≡◌};
 ghost use Rattle.rules.specs.Degrees.{is_position};
 ghost use Rattle.write_values.specs.Tests.{CleanTest, DateTest, PlannedTest, LatitudeTest, LongitudeTest, AltitudeTest, PointTest};
