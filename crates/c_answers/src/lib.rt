@@ -1,5 +1,6 @@
 // The lent answer of a call from C: its numbers, of which the first two tell a refusal's line and byte and the others the values.
 #![tactic(auto)]
+
 ghost use Rattle.std.specs.Prelude.{◌≡◌, length};
 ghost use Rattle.c_answers.specs.Answers.{size, RefusalNumber, RefusalNumbers, ValueNumbers, TimeNumbers, PresenceNumbers, AnswerGiven, BytesBetween};
 

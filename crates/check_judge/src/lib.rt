@@ -1,5 +1,6 @@
 // One line judged after those before it: whether its kind may come, and what the rules of its kind say.
 #![tactic(auto)]
+
 ghost use Rattle.std.specs.Prelude.{◌≤◌};
 ghost use Rattle.rules.specs.Order.{ruled, judge};
 ghost use Rattle.rules.specs.Families.{count_of};

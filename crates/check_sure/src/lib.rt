@@ -1,5 +1,6 @@
 // A line with columns that is surely good, told quickly: its time, or nothing where the line is refused or not sure to be good.
 #![tactic(auto)]
+
 ghost use Rattle.std.specs.Prelude.{true, ◌≡◌, drop};
 ghost use Rattle.rules.specs.Families.{first_start};
 ghost use Rattle.rules.specs.Choice.{byte, part};

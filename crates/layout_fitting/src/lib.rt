@@ -1,5 +1,6 @@
 // Whether entries can be those of a line that was read, for the look into them: at most 13, no code twice, each inside the line.
 #![tactic(auto)]
+
 ghost use Rattle.std.specs.Prelude.{◌+◌, ◌<◌, ◌≡◌, drop};
 ghost use Rattle.rules.specs.Layouts.{entries_of};
 ghost use Rattle.rules.specs.Looks.{carried_in, twice, is_inside, are_inside};

@@ -1,5 +1,6 @@
 // The readers of a line of a family by a layout that is known to be allowed: the layout is not tested. On one that is not allowed they are total too, but say nothing of the paper.
 #![tactic(auto)]
+
 ghost use Rattle.std.specs.Prelude.{◌≡◌};
 ghost use Rattle.rules.specs.Reads.{fix_fields_told, time_read_told};
 ghost use Rattle.line_known.specs.Known.{fields_known, extra_known, FixKnown, ExtraKnown};

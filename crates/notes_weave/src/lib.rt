@@ -1,6 +1,7 @@
 // The notes of two slices put one after the other: each slice is read in runs of up to 4,096 notes in order, and of the two that come next the one that comes first is put
 // into the output, once where both have it.
 #![tactic(auto)]
+
 ghost use Rattle.std.specs.Prelude.{◌∷◌, [], ◌≤◌, ◌<◌, length};
 ghost use Rattle.notes_weave.specs.Loom.{Ready, Fine, Fresh, Taken, Fills, Emitted, Chosen, Turned, Walked, NotesPut};
 

@@ -1,5 +1,6 @@
 // An entry of a shelf, read and put.
 #![tactic(auto)]
+
 ghost use Rattle.std.specs.Prelude.{◌+◌, ◌*◌, ◌≤◌, ◌<◌, ◌≡◌, leb, length};
 ghost use Rattle.shelf_rules.specs.Contents.{word};
 ghost use Rattle.shelf_slot.specs.Entries.{SlotRead, ClearTest, SlotPut};

@@ -1,5 +1,6 @@
 // What is told of some fixes: their first and their last moment, and the least and the greatest of their heights and positions. What is told of two parts of a flight is joined.
 #![tactic(auto)]
+
 ghost use Rattle.std.specs.Prelude.{◌≡◌};
 ghost use Rattle.summary_span.specs.Sums.{higher_of, lower_of, joined_span, merged, FigureGiven, NothingTold, SumsJoined};
 

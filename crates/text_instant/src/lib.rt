@@ -1,5 +1,6 @@
 // A moment and a height as other programs read them, put into a lent buffer.
 #![tactic(auto)]
+
 ghost use Rattle.text_pieces.specs.Buffer.{PiecePut};
 ghost use Rattle.text_calendar.specs.Calendar.{civil_told};
 ghost use Rattle.text_dates.specs.Dates.{date_shown};

@@ -1,5 +1,6 @@
 // The course of a track, by what the check says of a file: how many fixes are to be stored, and where their reading starts.
 #![tactic(auto)]
+
 ghost use Rattle.track_course.specs.Courses.{StartGiven, CourseRefused, fix_size, FlightPlanned};
 ghost use Rattle.std.specs.Prelude.{◌≡◌};
 

@@ -1,5 +1,6 @@
 // How every line that is written ends, and how a writer refuses.
 #![tactic(auto)]
+
 ghost use Rattle.write_ending.specs.Ends.{LineClosed, WriteRefused};
 
 use rules::{Reason, Refusal, Wrote};
