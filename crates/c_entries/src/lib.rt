@@ -1,5 +1,6 @@
 // The entries of a reading as a lent list of numbers, for C: how many entries there are, then of each of 13 its code, its first and its last byte.
 #![tactic(auto)]
+
 ghost use Rattle.std.specs.Prelude.{◌+◌, ◌<◌, ◌≡◌, length};
 ghost use Rattle.c_entries.specs.Lent.{entries_size, entry_numbers, with_triple, EntriesPut};
 

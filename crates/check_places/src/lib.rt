@@ -1,5 +1,6 @@
 // What each place of a line with columns may hold, put down once for many lines; and a line held against it, many bytes at a time.
 #![tactic(auto)]
+
 ghost use Rattle.std.specs.Prelude.{◌≡◌, ◌+◌, ◌-◌, ◌*◌, ◌<◌, ◌≤◌, ◌&&◌, List, [], length, replicate, slice_set};
 ghost use Rattle.std.proofs.lemmas.List.Edits.{sets};
 ghost use Rattle.check_places.specs.Places.{may_stand, first_mark, next_mark, column_marks, end_marks, columns_marks, low_marks, span_marks, other_marks, laid, PlacedTest, SecondsGiven, FixPlaces, ExtraPlaces};

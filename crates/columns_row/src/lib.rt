@@ -1,5 +1,6 @@
 // The numbers of some columns of a line, put one after the other into a lent list. They have room there as a whole, or nothing changes.
 #![tactic(auto)]
+
 ghost use Rattle.std.specs.Prelude.{◌+◌, ◌*◌, ◌≤◌, ◌≡◌, length};
 ghost use Rattle.std.proofs.lemmas.List.Edits.{sets};
 ghost use Rattle.rules.specs.Numbers.{whole_of};

@@ -1,5 +1,6 @@
 // What became of a file, and with which status the programs igc and badge end.
 #![tactic(auto)]
+
 ghost use Rattle.igc_fate.specs.Status.{StatusGiven, WorseGiven};
 
 // What became of a file.

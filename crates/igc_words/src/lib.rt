@@ -1,5 +1,6 @@
 // What the words of the program igc mean.
 #![tactic(auto)]
+
 mod deeds;
 
 ghost use Rattle.std.specs.Prelude.{◌≡◌};

@@ -1,5 +1,6 @@
 // The readers of a line, total on every line and every layout: 17 first, then the checks of its kind, with 0 for the line number.
 #![tactic(auto)]
+
 ghost use Rattle.std.specs.Prelude.{◌≡◌};
 ghost use Rattle.rules.specs.Promises.{EventGiven, SatellitesGiven, DateGiven, HeadGiven, HeadRest, PointGiven, PointRest, FixGiven, ExtraGiven, LayoutGiven};
 

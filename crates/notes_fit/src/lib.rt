@@ -1,5 +1,6 @@
 // The notes of two slices woven into one and put into an output, where they have room there.
 #![tactic(auto)]
+
 ghost use Rattle.std.specs.Prelude.{◌&&◌, ◌≡◌, leb};
 ghost use Rattle.notes_fit.specs.Weave.{NotesWoven};
 

@@ -1,5 +1,6 @@
 // The twelve numbers that are told of some fixes, put into a lent list at a place of it. They have room there as a whole, or nothing changes.
 #![tactic(auto)]
+
 ghost use Rattle.std.specs.Prelude.{◌+◌, ◌≤◌, ◌∷◌, [], ◌≡◌, length};
 ghost use Rattle.std.proofs.lemmas.List.Edits.{sets};
 ghost use Rattle.summary_slots.specs.Slots.{flag_of, numbers_of, SumPut};

@@ -1,5 +1,6 @@
 // The listing behind its first line, block by block: each fix of the file and its columns, in their order.
 #![tactic(auto)]
+
 ghost use Rattle.std.specs.Prelude.{◌+◌, true, ◌≡◌, ltb};
 ghost use Rattle.rules.specs.Layouts.{allowed};
 ghost use Rattle.text_block.specs.Blocks.{LinesFilled, Filled};

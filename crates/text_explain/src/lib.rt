@@ -1,5 +1,6 @@
 // A refusal told to a person: its number and name, the line and the byte, when the number is given, and the line's text with a caret under the byte.
 #![tactic(auto)]
+
 mod told;
 
 ghost use Rattle.text_explain.specs.Explanation.{RefusalExplained};

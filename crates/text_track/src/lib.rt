@@ -1,5 +1,6 @@
 // The text of a track for people: one line for each fix, which a spreadsheet and gnuplot read as it is.
 #![tactic(auto)]
+
 ghost use Rattle.text_pieces.specs.Buffer.{PiecePut};
 ghost use Rattle.text_track.specs.Trail.{moment_shown, heights_shown, record_shown};
 

@@ -33,6 +33,7 @@ use Rattle.byte_tens.proofs.Laws.{power_all}
 -- ---- a count without its extra decimals: one decimal less
 
 pub tenth : (x left : ℕ) → 0 < left → x / 10 / 10 ^ (left - 1) ≡ x / 10 ^ left
+tenth x zero h = elim h [ ]
 tenth x (suc k) h = rw (sub-one, pow-succ' 10 k) (div-div-eq-div-mul x 10 (10 ^ k))
 
 pub none_left : (x left : ℕ) → left ≤ 0 → x / 10 ^ left ≡ x
