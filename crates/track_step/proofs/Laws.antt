@@ -7,11 +7,8 @@ use mathlib.Core.Option.{Option, none, some}
 use mathlib.Core.Path.{◌≡◌, refl, sym, ◌∙◌, ap}
 use native.Mathlib.Omega.{arith}
 use borrow.Author.Tests.{le-leb, lt-leb, leb-true, leb-false, eq-eqb, ne_eqb, eqb-true, not-true, not-false}
-use denote.Enum.Declared.{tag_of}
-use types.Run.{OneOf, miss}
 use lib.Dec.{eqb, leb}
 use lib.ListN.{length, get_or, drop}
-use Rattle.rules.specs.contracts.Role.{the_type}
 use Rattle.rules.proofs.Inverse.{and_inv}
 use Rattle.rules.specs.Fields.{time_at, time_told, most_latitude, most_longitude}
 use Rattle.rules.specs.Fixes.{digits_at, refined}
@@ -24,6 +21,7 @@ use Rattle.rules.specs.Order.{passing}
 use Rattle.rules.specs.Reads.{fix_fields_told}
 use Rattle.rules.specs.Roles.{role_of, is_timed}
 use Rattle.rules.specs.Walk.{time_on, day_after}
+use Rattle.rules.specs.declared.Family.{Family}
 use Rattle.rules.specs.declared.Finer.{Finer}
 use Rattle.rules.specs.declared.Fix.{Fix}
 use Rattle.rules.specs.declared.FixFields.{FixFields}
@@ -44,23 +42,20 @@ use Rattle.track_rules.specs.declared.FixStep.{FixStep}
 use Rattle.track_rules.specs.declared.Progress.{Progress}
 use Rattle.track_rules.specs.declared.Record.{Record}
 
--- the places, among the roles, of those that have no time
-abbrev pub untimed : List ℕ
-untimed = 0 ∷ 1 ∷ 2 ∷ 4 ∷ 7 ∷ 8 ∷ 9 ∷ 10 ∷ 11 ∷ []
-
-pub no_time : (r : Role) → OneOf untimed (tag_of the_type r) → false ≡ is_timed r
-no_time role.Opens h = refl
-no_time role.Heads h = refl
-no_time (role.Tells f) h = refl
-no_time (role.Columned f) h = absurd (miss untimed 3 tt h)
-no_time role.Declares h = refl
-no_time role.Event h = absurd (miss untimed 5 tt h)
-no_time role.Satellites h = absurd (miss untimed 6 tt h)
-no_time role.Differential h = refl
-no_time role.Seals h = refl
-no_time role.Remark h = refl
-no_time role.Other h = refl
-no_time role.NoRole h = refl
+-- the roles that have no time
+pub no_time : (r : Role) → ((f : Family) → r ≡ role.Columned f → ⊥) → (r ≡ role.Event → ⊥) → (r ≡ role.Satellites → ⊥) → false ≡ is_timed r
+no_time role.Opens c e s = refl
+no_time role.Heads c e s = refl
+no_time (role.Tells f) c e s = refl
+no_time (role.Columned f) c e s = absurd (c f refl)
+no_time role.Declares c e s = refl
+no_time role.Event c e s = absurd (e refl)
+no_time role.Satellites c e s = absurd (s refl)
+no_time role.Differential c e s = refl
+no_time role.Seals c e s = refl
+no_time role.Remark c e s = refl
+no_time role.Other c e s = refl
+no_time role.NoRole c e s = refl
 
 -- room for a line and its CR LF, by differences that do not wrap
 module _ (len at size : ℕ) where

@@ -1,5 +1,6 @@
 // The fixes of a file one after the other: lines are passed with their times, and the B line that is reached is read.
 #![tactic(auto)]
+
 mod swift;
 
 ghost use Rattle.std.specs.Prelude.{ℕ, ◌<◌, ◌≤◌, ◌+◌, true, false, List, ◌≡◌, leb, length, drop};

@@ -1,7 +1,0 @@
--- `track_step::anew` meets its contract. Assumes nothing.
-use mathlib.Core.Path.{refl}
-use Rattle.track_step.proofs.anew.Statement.{statement}
-use Rattle.track_step.proofs.anew.Tie as tie
-
-pub anew_spec : {M : Type 1} → statement M
-anew_spec = tie.close (tie.spec (λ c. refl))
