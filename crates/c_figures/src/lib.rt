@@ -1,5 +1,6 @@
 // What the check says of a file, in numbers.
 #![tactic(auto)]
+
 ghost use Rattle.std.specs.Prelude.{◌≡◌};
 ghost use Rattle.c_answers.specs.Answers.{accepting};
 ghost use Rattle.c_figures.specs.Figures.{one_if, flight_numbers, FileNumbered};

@@ -1,6 +1,7 @@
 // The readers of a line with its layout given as the text of the file's own I, J or M line; no bytes stand for no such line. A layout that its line tells
 // is allowed, so it is not tested again.
 #![tactic(auto)]
+
 ghost use Rattle.std.specs.Prelude.{◌≤◌, ◌≡◌};
 ghost use Rattle.rules.specs.Layouts.{LayoutTold};
 ghost use Rattle.rules.specs.Reads.{answered, extra_reading_told};

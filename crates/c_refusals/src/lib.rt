@@ -1,5 +1,6 @@
 // The calls from C that tell a refusal in words: its name, and its explanation with the line's text and the caret. Each is put at the start of a lent text.
 #![tactic(auto)]
+
 mod reasons;
 
 ghost use Rattle.c_refusals.specs.Calls.{name_of, explained_of, WordsPut, NameAnswered, ExplainAnswered};

@@ -1,5 +1,6 @@
 // A reading place that steps over the lines of a file.
 #![tactic(auto)]
+
 ghost use Rattle.file_cursor.specs.Steps.{LineStepped, AtFirst};
 
 use file_lines::{crlf_from, unplaced};

@@ -231,7 +231,7 @@ passes_above (next {st = st} {m = m} {s = s} {l = l} {ls = ls} e p) g =
 -- the lines of one part
 pub data Section (p : Part) : State → List (List ℕ) → State → Type 0 where
   empty : {st : State} → Section p st [] st
-  also : {st m s : State} {l : List ℕ} {ls : List (List ℕ)} → Leads st l p m → Section p m ls s → Section p st (l ∷ ls) s
+  also : {st : State} {l : List ℕ} {m s : State} {ls : List (List ℕ)} → Leads st l p m → Section p m ls s → Section p st (l ∷ ls) s
 
 -- the lines of a part, and then those of later parts
 pub record Split (p : Part) (st : State) (ls : List (List ℕ)) (s : State) : Type 0 where

@@ -1,0 +1,11 @@
+-- `c_refusals::name` meets its contract. Assumes nothing.
+use borrow.Author.Rules.{rules}
+use Rattle.c_answers.proofs.Laws.{beside_no_room}
+use Rattle.c_refusals.proofs.Laws.{text_room}
+use Rattle.c_refusals.proofs.name.Goals as goal
+
+pub returns-then-answer-ne-SIZE : goal.returns-then-answer-ne-SIZE
+returns-then-answer-ne-SIZE c = beside_no_room _ _ _ _ c.if-answer-ne-SIZE.true
+
+pub returns : goal.returns
+returns c = text_room _ _ _ _ _ _ _ _ c.if-answer-ne-SIZE.false c.put_name-wrote.ensures c.numbers.ensures c.give.ensures
