@@ -1,12 +1,14 @@
-/* What the kit's library os asks of C: a program's words, and opened files. Not proved.
+/* What the kit's libraries os and libc ask of C: a program's words, the error of the last call, and memory. Not proved.
 
-   The kit has this code for x86-64 alone (lib/libos_c.a). The static programs take it from here on every machine (c/static). The meaning of each function is the
-   contract that os assumes of it (libs/os/src/c.rt of the kit). */
+   The kit has this code for x86-64 alone (c/libos_c.a, c/liblibc_c.a). The static programs take it from here on every machine (c/static). The meaning of each function is the
+   contract that os and libc assume of it (rattle/os/src/c.rt and rattle/libc/src/heap.rt of the kit). */
 #include <errno.h>
-#include <fcntl.h>
 #include <stddef.h>
 #include <stdint.h>
+#include <stdlib.h>
 #include <sys/types.h>
+
+extern char **environ;
 
 static size_t count;
 static char **words;
@@ -23,44 +25,38 @@ size_t rattle_arg_count(void)
     return count;
 }
 
-/* Puts word i at the start of out and returns its length; -1 where there is no such word; -2 where it does not fit, and then out is full. */
-ssize_t rattle_arg(size_t i, uint8_t *out, size_t length)
+/* Puts a text at the start of out and returns its length; -1 where there is none; -2 where it does not fit, and then out is full. */
+static ssize_t put(const char *text, uint8_t *out, size_t length)
 {
-    if (i >= count || !words[i])
+    if (!text)
         return -1;
     size_t n = 0;
-    for (; words[i][n]; n++) {
+    for (; text[n]; n++) {
         if (n == length)
             return -2;
-        out[n] = (uint8_t)words[i][n];
+        out[n] = (uint8_t)text[n];
     }
     return (ssize_t)n;
 }
 
-/* Each returns a descriptor, or -1. */
-int32_t rattle_open_to_read(const char *path)
+/* Word i, and the value of a variable of the environment, put so. */
+ssize_t rattle_arg(size_t i, uint8_t *out, size_t length)
 {
-    return open(path, O_RDONLY | O_NOCTTY | O_CLOEXEC);
+    return put(i < count ? words[i] : NULL, out, length);
 }
 
-int32_t rattle_open_new(const char *path, uint32_t mode)
+ssize_t rattle_env(const char *name, uint8_t *out, size_t length)
 {
-    return open(path, O_WRONLY | O_CREAT | O_EXCL | O_NOCTTY | O_CLOEXEC, (mode_t)mode);
+    return put(getenv(name), out, length);
 }
 
-int32_t rattle_open_to_overwrite(const char *path, uint32_t mode)
+/* Entry i of the environment, put so. */
+ssize_t rattle_env_at(size_t i, uint8_t *out, size_t length)
 {
-    return open(path, O_WRONLY | O_CREAT | O_TRUNC | O_NOCTTY | O_CLOEXEC, (mode_t)mode);
-}
-
-int32_t rattle_open_to_append(const char *path)
-{
-    return open(path, O_WRONLY | O_APPEND | O_NOCTTY | O_CLOEXEC);
-}
-
-int32_t rattle_open_to_update(const char *path)
-{
-    return open(path, O_RDWR | O_NOCTTY | O_CLOEXEC);
+    size_t n = 0;
+    while (environ && environ[n] && n < i)
+        n++;
+    return put(environ ? environ[n] : NULL, out, length);
 }
 
 int32_t rattle_errno(void)
@@ -72,3 +68,43 @@ void rattle_set_errno(int32_t error)
 {
     errno = error;
 }
+
+/* Whether there is memory, and the pointer to it, which is never NULL. */
+struct tried {
+    uint64_t ok;
+    void *place;
+};
+
+static struct tried tried(void *place)
+{
+    static char none;
+    return place ? (struct tried){1, place} : (struct tried){0, &none};
+}
+
+/* Memory for size bytes. malloc aligns it as far as 16, which is the most that is asked; a size of 0 takes a block too. */
+struct tried rattle_alloc(size_t size, size_t align)
+{
+    return tried(malloc(size ? size : align));
+}
+
+/* The same block with another size, its first `kept` bytes as they were; where there is no memory it stays as it is. */
+struct tried rattle_realloc(void *place, size_t kept, size_t size, size_t align)
+{
+    (void)kept;
+    return tried(realloc(place, size ? size : align));
+}
+
+void rattle_dealloc(void *place)
+{
+    free(place);
+}
+
+#ifndef __x86_64__
+/* As it begins, a program asks glibc whether the processor has what its code for x86-64 uses. The code for another machine uses none of that. */
+const void *__x86_get_cpuid_feature_leaf(unsigned leaf)
+{
+    static uint32_t all[8] = {~0u, ~0u, ~0u, ~0u, ~0u, ~0u, ~0u, ~0u};
+    (void)leaf;
+    return all;
+}
+#endif

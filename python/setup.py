@@ -1,4 +1,4 @@
-"""The wheel is for one kind of machine, which HIVE_MACHINE names as uname -m does, and there for every Python 3 and every C library of Linux: the shared library asks only for memcpy and memset."""
+"""The wheel is for one kind of machine, which HIVE_MACHINE names as uname -m does, and there for every Python 3 and every C library of Linux: the shared library asks only for memcpy, memmove and memset."""
 import os
 import platform
 

@@ -17,18 +17,18 @@ const MOSTLY_UNDER: usize = 400;
 
 const TOP: &str = "-- Generated files and the answers expected on them, computed.
 use Prim.Native.Nat.{ℕ}
-use mathlib.Core.Bool.{Bool, true, false, _&&_}
-use mathlib.Core.List.{List, [], _∷_}
+use mathlib.Core.Bool.{Bool, true, false, ◌&&◌}
+use mathlib.Core.List.{List, [], ◌∷◌}
 use mathlib.Core.Option.{some}
-use mathlib.Core.Path.{_≡_, refl}
+use mathlib.Core.Path.{◌≡◌, refl}
 use lib.Dec.{eqb}
 use lib.ListN.{replicate}
-use Rattle·rules·specs.specs.Refusals.{Said, says, refuses}
-use Rattle·rules·specs.specs.Layouts.{line_length}
-use Rattle·rules·specs.specs.Files.{verdict, table_after}
-use Rattle·rules·specs.specs.declared.Flight.{Flight}
-use Rattle·rules·specs.specs.declared.Seal.the-variants as seal
-use Rattle·rules·proofs.proofs.Computed.{everything}
+use Rattle.rules.specs.Refusals.{Said, says, refuses}
+use Rattle.rules.specs.Layouts.{line_length}
+use Rattle.rules.specs.Files.{verdict, table_after}
+use Rattle.rules.specs.declared.Flight.{Flight}
+use Rattle.rules.specs.declared.Seal.TheVariants as seal
+use Rattle.rules.proofs.Computed.{everything}
 
 unfoldable one_if : Bool → ℕ
 one_if true = 1
@@ -37,8 +37,8 @@ one_if false = 0
 unfoldable numbers_of : Said Flight → List ℕ
 unfolding line_length one_if
 numbers_of (says f) =
-    0 ∷ f .lines ∷ f .counts .b ∷ f .counts .k ∷ f .counts .n ∷ f .date .day ∷ f .date .month ∷ f .date .year
-        ∷ line_length 36 (f .layouts .b) ∷ line_length 8 (f .layouts .k) ∷ line_length 8 (f .layouts .n) ∷ one_if (f .signed) ∷ []
+    0 ∷ f.lines ∷ f.counts.b ∷ f.counts.k ∷ f.counts.n ∷ f.date.day ∷ f.date.month ∷ f.date.year
+        ∷ line_length 36 f.layouts.b ∷ line_length 8 f.layouts.k ∷ line_length 8 f.layouts.n ∷ one_if f.signed ∷ []
 numbers_of (refuses n l b) = n ∷ l ∷ b ∷ []
 
 unfoldable same : List ℕ → List ℕ → Bool
