@@ -1,5 +1,6 @@
 // The calls from C on a B, a K or an N line: its value and the entries of its columns, with the layout given as the text of its own line.
 #![tactic(auto)]
+
 ghost use Rattle.std.specs.Prelude.{◌∷◌, [], ◌≡◌, length};
 ghost use Rattle.rules.specs.Reads.{fix_told};
 ghost use Rattle.c_answers.specs.Answers.{accepting, in_numbers};

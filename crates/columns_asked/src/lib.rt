@@ -1,5 +1,6 @@
 // The codes that are asked for, as a lent text of three bytes each: whether they are codes, and where a layout has their columns.
 #![tactic(auto)]
+
 ghost use Rattle.std.specs.Prelude.{◌-◌, ◌*◌, ◌≤◌, ◌≡◌, drop};
 ghost use Rattle.rules.specs.Listed.{packed_of};
 ghost use Rattle.rules.specs.Refusals.{no};

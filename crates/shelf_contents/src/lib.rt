@@ -1,5 +1,6 @@
 // The table of contents of a shelf: whether a buffer keeps the rules of a shelf, and an entry by its flight number.
 #![tactic(auto)]
+
 ghost use Rattle.std.specs.Prelude.{◌<◌, ◌≡◌};
 ghost use Rattle.shelf_rules.specs.Contents.{one_kept, two_kept, slot_sound};
 ghost use Rattle.shelf_contents.specs.Questions.{SoundTest, EntryFound};

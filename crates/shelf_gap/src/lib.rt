@@ -1,5 +1,6 @@
 // The smallest start where a body fits between the others.
 #![tactic(auto)]
+
 ghost use Rattle.std.specs.Prelude.{◌≡◌};
 ghost use Rattle.rules.specs.Promises.{found_told};
 ghost use Rattle.shelf_rules.specs.Shelf.{blocker_of};

@@ -1,5 +1,6 @@
 // What is told of one fix of a track: by the plain counts of its time and its position.
 #![tactic(auto)]
+
 ghost use Rattle.std.specs.Prelude.{◌≤◌, ◌≡◌, pos, neg_ℤ};
 ghost use Rattle.summary_fix.specs.Spots.{taken_time, taken_position, signed_figure, height_figure, span_if, FixAlone};
 

@@ -1,5 +1,6 @@
 // A track as comma-separated values, put into a lent buffer: the line of names, and a fix's line.
 #![tactic(auto)]
+
 ghost use Rattle.text_pieces.specs.Buffer.{PiecePut};
 ghost use Rattle.text_csv.specs.Rows.{names_shown, rest_shown, row_shown};
 

@@ -1,5 +1,6 @@
 // A track as GPX 1.1, put into a lent buffer: what stands before the first point, a fix as a point, and what stands behind the last.
 #![tactic(auto)]
+
 ghost use Rattle.text_pieces.specs.Buffer.{PiecePut};
 ghost use Rattle.text_gpx.specs.Points.{open_shown, shut_shown, place_shown, rise_shown, point_shown};
 

@@ -1,5 +1,6 @@
 // C point lines: written into a lent output from a place on.
 #![tactic(auto)]
+
 ghost use Rattle.std.specs.Prelude.{◌++◌};
 ghost use Rattle.rules.specs.Writes.{point_text, crlf};
 ghost use Rattle.rules.specs.Promises.{PointWritten};
