@@ -1,6 +1,7 @@
 // The look into the answer of a merged reading: a column by its code, as the places of its bytes, as text and as a number. It takes any line and any entries, and
 // does not check the line again.
 #![tactic(auto)]
+
 ghost use Rattle.rules.specs.Promises.{LookGiven, LookTextGiven, LookNumberGiven};
 
 use layout_coded::Spot;

@@ -1,5 +1,6 @@
 // A shelf packed: its bodies moved to the front in order of start, without gaps.
 #![tactic(auto)]
+
 ghost use Rattle.std.specs.Prelude.{true, ◌≡◌, ◌+◌, ◌≤◌, ◌<◌, length};
 ghost use Rattle.shelf_rules.specs.Contents.{start_of, size_of, slot_of, sound};
 ghost use Rattle.shelf_rules.specs.Moves.{NextOf, moved_to};

@@ -1,5 +1,6 @@
 // The entry and the start of a body that is to be added to a sound shelf: the first free entry, and the smallest start where the body fits.
 #![tactic(auto)]
+
 ghost use Rattle.std.specs.Prelude.{◌≡◌};
 ghost use Rattle.shelf_rules.specs.Shelf.{usable};
 ghost use Rattle.shelf_place.specs.Plans.{SpotAllotted};

@@ -1,5 +1,6 @@
 // The summary of so many fixes of a file, reckoned in one pass, run by run: `fill` puts the numbers of each run and of the whole, and `of_fixes` says what is refused.
 #![tactic(auto)]
+
 ghost use Rattle.std.specs.Prelude.{◌*◌, ◌+◌, ◌≤◌, ◌≡◌};
 ghost use Rattle.track_step.specs.Steps.{step_of};
 ghost use Rattle.summary_reckon.specs.Filled.{leg_of, next_run, put_from, turned_leg, turned_list, filled};

@@ -1,5 +1,6 @@
 // The forms that a track is written in: what stands before the first fix, a fix, and what stands behind the last, each put into a lent buffer.
 #![tactic(auto)]
+
 ghost use Rattle.text_pieces.specs.Buffer.{PiecePut};
 ghost use Rattle.text_forms.specs.Forms.{front_of, line_as, back_of};
 

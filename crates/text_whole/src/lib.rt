@@ -1,5 +1,6 @@
 // A text that is put whole or not at all.
 #![tactic(auto)]
+
 ghost use Rattle.text_whole.specs.Whole.{Delivered};
 
 use text_pieces::put_text;
