@@ -1,5 +1,6 @@
 -- `entry` meets its contract. Assumes nothing.
 use borrow.Author.Rules.{rules}
+use Rattle.c_columns.specs.Values.{entry_numbers}
 use Rattle.c_answers.proofs.Laws.{given_said}
 use Rattle.c_columns.proofs.entry.Statement.{statement}
 use Rattle.c_columns.proofs.entry.Tie as tie
@@ -12,4 +13,4 @@ entry_spec =
     (λ c κs. search rules)
     (λ c κs. search rules)
     (λ c. search rules)
-    (λ c. given_said _ _ _ _ _ _ _ _ c.before.before.before.before.entry.ensures c.before.before.before.entry2.ensures c.before.before.give.ensures))
+    (λ c. given_said _ _ entry_numbers _ _ _ _ _ c.before.before.before.before.entry.ensures c.before.before.before.entry2.ensures c.before.before.give.ensures))
