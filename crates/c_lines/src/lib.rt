@@ -1,5 +1,6 @@
 // The calls from C on a line that has no layout, the date line, E and F lines, a declaration's head and points; and on a position for the map.
 #![tactic(auto)]
+
 ghost use Rattle.c_lines.specs.Calls.{DateAnswered, EventAnswered, SatellitesAnswered, HeadAnswered, PointAnswered};
 
 mod angles;

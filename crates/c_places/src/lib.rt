@@ -1,5 +1,6 @@
 // The calls from C on where a line of a file stands: by its number, and at a reading place over the lines.
 #![tactic(auto)]
+
 ghost use Rattle.c_places.specs.Calls.{LineAnswered, StepAnswered};
 
 use file_cursor::Cursor;

@@ -1,5 +1,6 @@
 // A code sought among the numbers that tell the entries of a line, where they stand: the first and last byte of its entry.
 #![tactic(auto)]
+
 ghost use Rattle.std.specs.Prelude.{◌+◌, ◌*◌, ◌≤◌, ◌≡◌, length, get_or};
 ghost use Rattle.rules.specs.Layouts.{column_told};
 ghost use Rattle.rules.specs.Promises.{found_told};

@@ -1,5 +1,6 @@
 // The twelve numbers of a summary by their places in a list, and how long the flight lasted.
 #![tactic(auto)]
+
 ghost use Rattle.text_twelve.specs.Twelve.{NumberAt, NaturalAt, NoneTest, FlightLasted};
 
 use rules::Height;

@@ -1,0 +1,12 @@
+-- `angles::put_degrees` meets its contract. Assumes nothing.
+use borrow.Author.Rules.{rules}
+use Rattle.rules.specs.Degrees.{degrees_told}
+use Rattle.c_lines.proofs.angles.put_degrees.Goals as goal
+
+pub returns-in-Both : goal.returns-in-Both
+unfolding degrees_told
+returns-in-Both c = rw c.in-Both.is c.put_pair.ensures
+
+pub returns-in-Refused : goal.returns-in-Refused
+unfolding degrees_told
+returns-in-Refused c = rw c.in-Refused.is c.put_pair-in-Refused.ensures

@@ -1,0 +1,8 @@
+-- `event` meets its contract. Assumes nothing.
+use borrow.Author.Rules.{rules}
+use Rattle.c_answers.specs.Answers.{time_numbers}
+use Rattle.c_answers.proofs.Laws.{given_said}
+use Rattle.c_lines.proofs.event.Goals as goal
+
+pub returns : goal.returns
+returns c = given_said _ _ time_numbers _ _ _ _ _ c.event.ensures c.time.ensures c.give.ensures

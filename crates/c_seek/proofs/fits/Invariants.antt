@@ -1,0 +1,17 @@
+-- `fits` meets its contract: the entries that are left decide as all do. Assumes nothing.
+use Prim.Native.Nat.{◌+◌, ◌*◌, ◌≤◌}
+use mathlib.Core.Path.{◌≡◌, refl, sym, ◌∙◌}
+use native.Mathlib.Omega.{arith}
+use borrow.Author.Rules.{rules}
+use borrow.Author.Tests.{not-true, not-false}
+use lib.ListN.{length}
+use Rattle.c_entries.specs.Lent.{entries_size}
+use Rattle.c_seek.specs.Parts.{fit_in}
+use Rattle.c_seek.proofs.Turns.{fit_outside, fit_again, fit_next, fit_done}
+use Rattle.c_seek.proofs.fits.Given as goal
+
+abbrev pub invariant-loop-left : goal.invariant-loop-left
+invariant-loop-left l = (l.at + 3 * l.left ≤ entries_size) × (length l.list ≡ entries_size) × (fit_in l.bytes l.left l.list l.at ≡ fit_in l.bytes l.count l.list 1)
+
+abbrev pub decreases-loop-left : goal.decreases-loop-left
+decreases-loop-left l = l.left
