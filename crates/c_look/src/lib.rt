@@ -1,6 +1,7 @@
 // The look into the entries of a reading that are lent as numbers, for C: a column by its code, as the places of its bytes and as a number. It takes any line and any
 // numbers; `c_seek` reads them where they stand, and no layout is made of them.
 #![tactic(auto)]
+
 ghost use Rattle.c_look.specs.Looks.{LookBy, LookNumberBy};
 
 use rules::{ColumnRead, NumberRead, Reason, Refusal, Whole};

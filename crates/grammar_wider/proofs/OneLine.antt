@@ -90,7 +90,7 @@ module _ (f : Family) (old new : Layout) (l l' : List ℕ) (w : WiderLine f old 
         go e a b (some s) h =
             let k = kept_text e.code s h in
             let i : span_of e ≡ k.0 = cc in
-            rw (i, k.2) (old_meets (first_start f) (limits_of f l) old l e.code s c h)
+            subst (λ (x : Span). (are_valid (column_text l' x) ≡ true) × (keeps_limit (limits_of f l) e.code (column_text l' x) ≡ true)) (sym i) (rw k.2 (old_meets (first_start f) (limits_of f l) old l e.code s c h))
 
     new_checked : Checked (first_start f) (limits_of f l) new l'
     unfolding shaped_by

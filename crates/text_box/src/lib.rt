@@ -1,5 +1,6 @@
 // The box of a flight as text: its least and greatest latitude and longitude in degrees, of the twelve numbers of its summary.
 #![tactic(auto)]
+
 ghost use Rattle.std.specs.Prelude.{◌≡◌};
 ghost use Rattle.text_pieces.specs.Buffer.{PiecePut};
 ghost use Rattle.text_twelve.specs.Twelve.{number};

@@ -1,5 +1,6 @@
 // I, J and M lines, the legends of the columns of B, K and N lines: written into a lent output from a place on.
 #![tactic(auto)]
+
 ghost use Rattle.std.specs.Prelude.{◌++◌, ◌<◌, ◌≤◌};
 ghost use Rattle.rules.specs.Listed.{code_text};
 ghost use Rattle.rules.specs.Layouts.{entries_of};
