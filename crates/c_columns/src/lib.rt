@@ -1,5 +1,6 @@
 // The calls from C that look into the entries of a reading, and those on a layout that is given as the text of its own line.
 #![tactic(auto)]
+
 ghost use Rattle.std.specs.Prelude.{◌∷◌, [], ◌≡◌, length};
 ghost use Rattle.rules.specs.Reads.{number_read_told};
 ghost use Rattle.c_columns.specs.Values.{integers_of};

@@ -1,6 +1,7 @@
 // What the programs say of a file by its name: the heading of its listing, the line of its check, its line in the badge list, its line in a table, its refusal explained, its notes counted, why it was not read. Each is put at the
 // start of a lent buffer, and the answer is how many bytes that is; a full buffer takes no more.
 #![tactic(auto)]
+
 ghost use Rattle.text_pieces.specs.Buffer.{PiecePut};
 ghost use Rattle.igc_notice.specs.Notice.{name_shown, counted, counts_shown, extras_shown, signed_shown, accepted_shown, recorder_shown, flown_shown, fit_shown, HeadingPut, AcceptedPut, FitPut, RefusedPut, FailedPut, BothPut, BesidePut, NotedPut, TabledPut};
 

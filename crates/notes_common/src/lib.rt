@@ -1,5 +1,6 @@
 // The part of a file up to the end of its last G line: how long it is, whether two files have it alike, and how many notes stand behind it.
 #![tactic(auto)]
+
 ghost use Rattle.std.specs.Prelude.{◌≡◌, ◌≤◌, length, take};
 ghost use Rattle.notes_rules.specs.Notes.{is_same};
 ghost use Rattle.notes_common.specs.Common.{CommonCounted, CommonFound, NotesCounted};

@@ -1,6 +1,7 @@
 // The line of a flight's summary for people, up to the file's name: made of the date and of the twelve numbers of the whole flight, with one space between two fields, so that the lines
 // of a season's files are a table.
 #![tactic(auto)]
+
 ghost use Rattle.text_pieces.specs.Buffer.{PiecePut};
 ghost use Rattle.rules.specs.Listing.{shown_metres};
 ghost use Rattle.text_twelve.specs.Twelve.{number, natural};
