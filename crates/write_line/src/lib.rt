@@ -1,5 +1,6 @@
 // The lines that are written: B, I, J, K, M, N and C lines, each with its CR LF, into a lent output from a place on.
 #![tactic(auto)]
+
 mod extras;
 mod fixes;
 mod heads;

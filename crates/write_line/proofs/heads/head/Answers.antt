@@ -1,0 +1,25 @@
+-- `write_line::heads::head` meets its contract. Assumes nothing.
+use mathlib.Core.Logic.{⊎_elim}
+use mathlib.Core.Path.{refl}
+use native.Mathlib.Omega.{arith}
+use borrow.Author.Rules.{rules}
+use borrow.Author.Tests.{ltb-true, ltb-false}
+use Rattle.write_line.proofs.heads.head.Goals.{then-out-place-via-then-out-place, then-out-place-via-else-out-place+then-out-place-2}
+use Rattle.rules_trips.proofs.Heads.{head_good}
+use Rattle.write_ending.proofs.Laws.{bad, short, done}
+use Rattle.write_line.proofs.Laws.{head_length}
+use Rattle.write_line.proofs.heads.head.Goals as goal
+
+pub returns-then-not-good_head : goal.returns-then-not-good_head
+returns-then-not-good_head c = bad _ _ _ _ _ _ _ (head_good _ _) c.good_head.ensures _ c.if-not-good_head.true-raw c.refused.ensures refl
+
+pub returns-then-out-place : goal.returns-then-out-place
+returns-then-out-place c =
+    elim c.then-out-place.branch [ then-out-place-via-then-out-place w ↦ short _ _ _ _ _ _ _ (head_good _ _) c.good_head.ensures c.if-not-good_head.false-raw _ (head_length _ _) _ (omega arith) c.refused-then-out-place.ensures refl | then-out-place-via-else-out-place+then-out-place-2 w ↦ short _ _ _ _ _ _ _ (head_good _ _) c.good_head.ensures c.if-not-good_head.false-raw _ (head_length _ _) _ (omega (arith, ltb-true)) c.refused-then-out-place.ensures refl ]
+
+pub returns : goal.returns
+returns c =
+    done _ _ _ _ _ _ _ (head_good _ _) c.good_head.ensures c.if-not-good_head.false-raw _ (head_length _ _) _ (omega (arith, ltb-false)) refl c.fill_head.ensures
+
+pub overflow_add-result : goal.overflow_add-result
+overflow_add-result c = omega (arith, ltb-false)
