@@ -1,5 +1,6 @@
 // A line written by a layout that is given as the text of its own line.
 #![tactic(auto)]
+
 ghost use Rattle.c_given_write.specs.Written.{FixWrittenBy, ExtraWrittenBy, LayoutWrittenBy};
 
 use layout_family::FamilyRead;
