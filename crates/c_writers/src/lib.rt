@@ -1,5 +1,6 @@
 // The calls from C that write a line into a lent output from a place on.
 #![tactic(auto)]
+
 ghost use Rattle.c_given_write.specs.Written.{SaidWritten};
 ghost use Rattle.c_writers.specs.Values.{fix_from, head_of, point_of};
 ghost use Rattle.c_writers.specs.Calls.{kind_written, kind_text, WriteFixAnswered, WriteExtraAnswered, WriteLayoutAnswered, WriteHeadAnswered, WritePointAnswered};
