@@ -1,5 +1,6 @@
 // A run of body lines that are surely good, taken by numbers alone: the state with its layouts stays where it is until the run ends.
 #![tactic(auto)]
+
 mod pace;
 mod placed;
 
