@@ -1,5 +1,6 @@
 // A file in lent memory: the check of the whole file, with a table of its lines' offsets or without one.
 #![tactic(auto)]
+
 ghost use Rattle.rules.specs.Promises.{FileChecked, FileJudged};
 ghost use Rattle.check_file.specs.Checks.{LinesChecked};
 
