@@ -1,5 +1,6 @@
 // A shelf of flights in one lent buffer: a flight added, asked for, removed; the shelf packed.
 #![tactic(auto)]
+
 ghost use Rattle.std.specs.Prelude.{◌≡◌};
 ghost use Rattle.shelf_rules.specs.Shelf.{held_at, add_said};
 ghost use Rattle.shelf_place.specs.Plans.{plan_told};
