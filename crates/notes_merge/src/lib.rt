@@ -1,5 +1,6 @@
 // Two copies of a file with evening notes brought together: the part that they have in common, then the notes of both.
 #![tactic(auto)]
+
 ghost use Rattle.std.specs.Prelude.{◌≡◌, ◌≤◌, length, take, drop};
 ghost use Rattle.std.proofs.lemmas.List.Edits.{sets};
 ghost use Rattle.notes_merge.specs.Merge.{StrictlyAccepted, FilesMerged};
