@@ -1,5 +1,6 @@
 // The calls from C on a whole file: the usual check and the strict one, with the table of its lines' offsets, and the usual one without a table.
 #![tactic(auto)]
+
 ghost use Rattle.c_files.specs.Calls.{CheckAnswered, UsuallyChecked, StrictlyChecked};
 
 use c_answers::SIZE;

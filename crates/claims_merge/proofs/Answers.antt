@@ -107,6 +107,7 @@ module _ (first second : List ℕ) (notes : List (List ℕ)) (together : Togethe
 
   said_refused : (room : ℕ) (m : Merged) → MergeRefused first second room m → merge_said first second result room ≡ m
   unfolding merge_said number
+  said_refused room (merged _) x'' = elim x'' [ ]
   said_refused room (of_first n l b) (first_file x) = rw ((refused_first seal.Strict first none n l b).1 x)
   said_refused room (of_second n l b) (second_file k x) = rw ((meets_accepted first k).1, (refused_first seal.Strict second none n l b).1 x)
   said_refused room (of_neither _ _ _) (not_same m k d) = said_rest first second (meets_accepted first m) (meets_accepted second k) notes room ∙ go (is_same one two) refl
@@ -203,6 +204,7 @@ module _ (first second out : List ℕ) (r : Brought) (after : List ℕ) (w : Fil
   refused_leaves m x = w.bytes ∙ ap (λ (k : Merged). out_merged k (merged_file first w.notes) out) (said_refused first second w.notes w.together room m x) ∙ stays m x
     where
       stays : (k : Merged) → MergeRefused first second room k → out_merged k (merged_file first w.notes) out ≡ out
+      stays (merged _) x3 = elim x3 [ ]
       stays (of_first n l b) (first_file y) = refl
       stays (of_second n l b) (second_file k y) = refl
       stays (of_neither _ _ _) (not_same k j d) = refl
