@@ -1,5 +1,6 @@
 // The declaration of a whole file in one call: `declaration` checks the file, finds its head, the first C line, and puts six numbers of each of its points into a lent list.
 #![tactic(auto)]
+
 ghost use Rattle.std.specs.Prelude.{◌+◌, ◌*◌, ◌-◌, ◌≤◌, ◌<◌, ◌≡◌, length, drop};
 ghost use Rattle.std.proofs.lemmas.List.Edits.{sets};
 ghost use Rattle.rules.specs.Reads.{head_said, point_said};
