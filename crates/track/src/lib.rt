@@ -1,6 +1,7 @@
 // The whole track of a file in one call: `plan` checks the file and says how many fixes there are, `track_step::stride` reads them one after the other, and `track` stores them into
 // a lent list. Only `track` touches the list.
 #![tactic(auto)]
+
 ghost use Rattle.track.specs.Tracks.{CoursePlanned, FileTracked};
 
 use rules::{Outcome, Seal};
