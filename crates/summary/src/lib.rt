@@ -1,6 +1,7 @@
 // A summary beside a flight, made or brought up to date in a lent list of numbers: twelve for the whole flight, then twelve for each run of 256 fixes. The file is checked
 // once; `track_course::for_flight` says where its fixes are read from, and `summary_reckon::of_fixes` reads them.
 #![tactic(auto)]
+
 ghost use Rattle.summary.specs.Summaries.{FileSummed, FileDated};
 
 use rules::{Date, Outcome, Seal};

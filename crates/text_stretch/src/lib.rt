@@ -1,5 +1,6 @@
 // A track in a form, sheet by sheet: the next fixes of a file in a lent block, and where the next sheet goes on.
 #![tactic(auto)]
+
 ghost use Rattle.std.specs.Prelude.{◌≡◌};
 ghost use Rattle.text_stretch.specs.Sheets.{sheet_of, StretchPut, SheetFilled};
 
