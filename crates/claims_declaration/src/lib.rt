@@ -1,1 +1,2 @@
 // What the declaration of a whole file is for, as theorems; no code.
+#![tactic(auto)]

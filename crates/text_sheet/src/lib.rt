@@ -1,5 +1,6 @@
 // The lines of a track for people, sheet by sheet: those of the next fixes of a file in a lent block, and where the next sheet goes on.
 #![tactic(auto)]
+
 ghost use Rattle.std.specs.Prelude.{◌≡◌};
 ghost use Rattle.text_pieces.specs.Buffer.{PiecePut};
 ghost use Rattle.text_sheet.specs.Sheets.{sheet_of, line_of, SheetFilled};
