@@ -1,6 +1,7 @@
 // The numbers of some columns of a whole file in one call, row by row: `columns` checks the file, finds where the columns that are asked for stand, goes over the lines by their known lengths and puts
 // the numbers of each line of the family into a lent list.
 #![tactic(auto)]
+
 ghost use Rattle.std.specs.Prelude.{◌≤◌, ◌<◌, ◌≡◌, length};
 ghost use Rattle.std.proofs.Math.Option.{none};
 ghost use Rattle.std.proofs.lemmas.List.Edits.{sets};
