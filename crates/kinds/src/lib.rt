@@ -1,5 +1,6 @@
 // What each line of a whole file is, in one call: `kinds` checks the file, goes over its lines by their known lengths and puts a byte for each into a lent list, the line's letter or the mark of a note.
 #![tactic(auto)]
+
 ghost use Rattle.std.specs.Prelude.{◌≤◌, ◌≡◌, length};
 ghost use Rattle.std.proofs.Math.Option.{none};
 ghost use Rattle.std.proofs.lemmas.List.Edits.{sets};
