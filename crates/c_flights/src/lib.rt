@@ -1,6 +1,7 @@
 // The calls from C on whole files: two of them merged, a file's track told, its columns and what each of its lines is put into a list, its declaration told, its summary kept, and files
 // kept on a shelf.
 #![tactic(auto)]
+
 mod declarations;
 mod grids;
 mod lettered;

@@ -1,0 +1,13 @@
+-- `c_flights::shelves::shelf_remove` meets its contract. Assumes nothing.
+use mathlib.Core.Path.{◌∙◌, ap}
+use borrow.Author.Rules.{rules}
+use Rattle.c_answers.specs.Answers.{in_numbers}
+use Rattle.c_answers.proofs.Laws.{beside_no_room, beside_room}
+use Rattle.c_flights.specs.Shelves.{no_numbers}
+use Rattle.c_flights.proofs.shelves.shelf_remove.Goals as goal
+
+pub returns-then-answer-ne-SIZE : goal.returns-then-answer-ne-SIZE
+returns-then-answer-ne-SIZE c = beside_no_room _ _ _ _ c.if-answer-ne-SIZE.true
+
+pub returns : goal.returns
+returns c = beside_room _ _ _ _ _ _ _ _ c.if-answer-ne-SIZE.false (c.done.ensures ∙ ap (in_numbers no_numbers) c.remove-told.ensures.told) c.give.ensures c.remove-told.ensures.bytes
