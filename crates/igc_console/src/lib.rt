@@ -1,12 +1,14 @@
 // What igc and badge write, their answers on standard output and what is no answer on standard error; the words that they were started with, and a new file made.
 #![tactic(auto)]
+
 mod making;
 mod words;
 
 use igc_fate::Fate;
-use libc::{STDERR_FILENO, STDOUT_FILENO};
+use igc_host::{Host, fail};
 pub use making::{give_up, make, open_new, replace};
 use rules::{Flight, Refusal};
+use std::io;
 pub use words::{Names, names_from, place_of, refuse_words, tell, verb_at};
 
 const USAGE: [u8; 1000] = *b"\
@@ -21,113 +23,126 @@ const USAGE: [u8; 1000] = *b"\
     Status: 0 all accepted, 1 some file refused, 2 not all was read or written, or wrong words.\n\
 ";
 
-// A text written on standard output: whether all of it was, as everywhere here.
-pub fn write(text: &[u8]) -> bool {
-    io::write_all(STDOUT_FILENO, text)
+// A text written on standard output: why not all of it was, if so, as everywhere here.
+pub fn write<R: Print>(rt: &R, text: &[u8]) -> io::Result<()> {
+    rt.write_all(text)
 }
 
-pub(crate) fn print_usage(fd: i32) -> bool {
+pub(crate) fn print_usage<R: Print>(rt: &R) -> io::Result<()> {
     let text = USAGE;
-    io::write_all(fd, &text)
+    rt.write_all(&text)
+}
+
+// The help text on standard error.
+pub(crate) fn say_usage<R: Host>(rt: &R) {
+    let text = USAGE;
+    let _ = rt.complain(&text);
 }
 
 // What became of a file whose answer was written, or was not: then that is said, once, in these words.
-pub fn fate_by(words: &[u8], written: bool, fate: Fate) -> Fate {
-    if !written {
-        os::fail(words);
-        return Fate::Unwritten;
+pub fn fate_by<R: Host>(rt: &R, words: &[u8], written: io::Result<()>, fate: Fate) -> Fate {
+    match written {
+        Ok(()) => fate,
+        Err(error) => {
+            fail(rt, words, error);
+            Fate::Unwritten
+        }
     }
-    fate
 }
 
 // The same, said by igc.
-pub fn fate_of(written: bool, fate: Fate) -> Fate {
-    fate_by(b"igc: the output could not be written", written, fate)
+pub fn fate_of<R: Host>(rt: &R, written: io::Result<()>, fate: Fate) -> Fate {
+    fate_by(rt, b"igc: the output could not be written", written, fate)
 }
 
 // The line before what is printed of a file, where there are several.
-pub fn print_heading(name: &[u8]) -> bool {
+pub fn print_heading<R: Print>(rt: &R, name: &[u8]) -> io::Result<()> {
     let mut out = [0u8; 4608];
     let n = igc_notice::heading(name, &mut out);
-    write(&out[..n])
+    write(rt, &out[..n])
 }
 
 // A refusal explained, with no name before it.
-pub fn print_refusal(file: &[u8], why: Refusal) -> bool {
+pub fn print_refusal<R: Print>(rt: &R, file: &[u8], why: Refusal) -> io::Result<()> {
     let mut out = [0u8; 400];
     let n = text_explain::refused(file, why, &mut out);
-    write(&out[..n])
+    write(rt, &out[..n])
 }
 
 // There is room for two names.
-pub fn print_refused(name: &[u8], file: &[u8], why: Refusal) -> bool {
+pub fn print_refused<R: Print>(rt: &R, name: &[u8], file: &[u8], why: Refusal) -> io::Result<()> {
     let mut out = [0u8; 9216];
     let n = igc_notice::refused(name, file, why, &mut out);
-    write(&out[..n])
+    write(rt, &out[..n])
 }
 
 // Why two files are not merged, where that is of neither: it names no line.
-pub fn print_unmerged(first: &[u8], second: &[u8], why: Refusal) -> bool {
+pub fn print_unmerged<R: Print>(
+    rt: &R,
+    first: &[u8],
+    second: &[u8],
+    why: Refusal,
+) -> io::Result<()> {
     let mut names = [0u8; 8704];
     let n = igc_notice::both(first, second, &mut names);
-    print_refused(&names[..n], b"", why)
+    print_refused(rt, &names[..n], b"", why)
 }
 
-pub fn print_noted(name: &[u8], notes: usize) -> bool {
+pub fn print_noted<R: Print>(rt: &R, name: &[u8], notes: usize) -> io::Result<()> {
     let mut out = [0u8; 4608];
     let n = igc_notice::noted(name, notes, &mut out);
-    write(&out[..n])
+    write(rt, &out[..n])
 }
 
-pub fn print_accepted(name: &[u8], flight: Flight) -> bool {
+pub fn print_accepted<R: Print>(rt: &R, name: &[u8], flight: Flight) -> io::Result<()> {
     let mut out = [0u8; 4608];
     let n = igc_notice::accepted(name, flight, &mut out);
-    write(&out[..n])
+    write(rt, &out[..n])
 }
 
 // A line of a table: a text, and the file's name at its end.
-pub fn print_tabled(text: &[u8], name: &[u8]) -> bool {
+pub fn print_tabled<R: Print>(rt: &R, text: &[u8], name: &[u8]) -> io::Result<()> {
     let mut out = [0u8; 4608];
     let n = igc_notice::tabled(text, name, &mut out);
-    write(&out[..n])
+    write(rt, &out[..n])
 }
 
 // The line of a file in the badge list.
-pub fn print_fit(name: &[u8], flight: Flight, file: &[u8]) -> bool {
+pub fn print_fit<R: Print>(rt: &R, name: &[u8], flight: Flight, file: &[u8]) -> io::Result<()> {
     let mut out = [0u8; 4608];
     let n = igc_notice::fit(name, flight, file, &mut out);
-    write(&out[..n])
+    write(rt, &out[..n])
 }
 
 // What failed, with what the system says of it.
-fn say_failed(name: &[u8], what: &[u8]) {
+fn say_failed<R: Host>(rt: &R, name: &[u8], what: &[u8], error: io::Error) {
     let mut out = [0u8; 4608];
     let n = igc_notice::failed(name, what, &mut out);
-    os::fail(&out[..n]);
+    fail(rt, &out[..n], error);
 }
 
-pub fn say_unopened(name: &[u8]) {
-    say_failed(name, b"cannot be opened");
+pub fn say_unopened<R: Host>(rt: &R, name: &[u8], error: io::Error) {
+    say_failed(rt, name, b"cannot be opened", error);
 }
 
-pub(crate) fn say_unmade(name: &[u8]) {
-    say_failed(name, b"cannot be made");
+pub(crate) fn say_unmade<R: Host>(rt: &R, name: &[u8], error: io::Error) {
+    say_failed(rt, name, b"cannot be made", error);
 }
 
-pub(crate) fn say_unfilled(name: &[u8]) {
-    say_failed(name, b"cannot be written whole");
+pub(crate) fn say_unfilled<R: Host>(rt: &R, name: &[u8], error: io::Error) {
+    say_failed(rt, name, b"cannot be written whole", error);
 }
 
-pub(crate) fn say_unplaced(name: &[u8]) {
-    say_failed(name, b"cannot be replaced");
+pub(crate) fn say_unplaced<R: Host>(rt: &R, name: &[u8], error: io::Error) {
+    say_failed(rt, name, b"cannot be replaced", error);
 }
 
-pub(crate) fn say_left(name: &[u8]) {
-    say_failed(name, b"what was written of it cannot be removed");
+pub(crate) fn say_left<R: Host>(rt: &R, name: &[u8], error: io::Error) {
+    say_failed(rt, name, b"what was written of it cannot be removed", error);
 }
 
-pub fn say_unread(name: &[u8]) {
+pub fn say_unread<R: Host>(rt: &R, name: &[u8]) {
     let mut out = [0u8; 4608];
     let n = igc_notice::failed(name, b"cannot be read to its end\n", &mut out);
-    io::write_all(STDERR_FILENO, &out[..n]);
+    let _ = rt.complain(&out[..n]);
 }

@@ -1,33 +1,33 @@
 // The words that igc was started with.
-use crate::{fate_of, print_usage, write};
+use crate::{fate_of, print_usage, say_usage, write};
 use igc_fate::Fate;
+use igc_host::Host;
 use igc_words::Verb;
-use libc::{STDERR_FILENO, STDOUT_FILENO};
 
 // The verb that a word is.
-pub fn verb_at(i: usize) -> Verb {
-    let mut word = io::buffer();
-    let k = os::arg(i, &mut word);
+pub fn verb_at<R: Host>(rt: &R, i: usize) -> Verb {
+    let mut word = [0u8; 4096];
+    let k = igc_host::arg(rt, i, &mut word);
     igc_words::verb_of(&word[..k])
 }
 
-fn is_option_at(i: usize) -> bool {
-    let mut word = io::buffer();
-    let k = os::arg(i, &mut word);
+fn is_option_at<R: Host>(rt: &R, i: usize) -> bool {
+    let mut word = [0u8; 4096];
+    let k = igc_host::arg(rt, i, &mut word);
     igc_words::is_option(&word[..k])
 }
 
-fn begins_names_at(i: usize) -> bool {
-    let mut word = io::buffer();
-    let k = os::arg(i, &mut word);
+fn begins_names_at<R: Host>(rt: &R, i: usize) -> bool {
+    let mut word = [0u8; 4096];
+    let k = igc_host::arg(rt, i, &mut word);
     igc_words::begins_names(&word[..k])
 }
 
 // Where the first word that begins with a dash stands, of those from a place on; n where none does.
-fn first_option(from: usize, n: usize) -> usize {
+fn first_option<R: Host>(rt: &R, from: usize, n: usize) -> usize {
     let mut i = from;
     while i < n {
-        if is_option_at(i) {
+        if is_option_at(rt, i) {
             return i;
         }
         i += 1;
@@ -43,8 +43,8 @@ pub struct Names {
 }
 
 // The names among the words from a place on, of n words.
-pub fn names_from(first: usize, n: usize) -> Names {
-    let dashes = first_option(first, n);
+pub fn names_from<R: Host>(rt: &R, first: usize, n: usize) -> Names {
+    let dashes = first_option(rt, first, n);
     if n <= first {
         return Names { dashes, count: 0 };
     }
@@ -54,7 +54,7 @@ pub fn names_from(first: usize, n: usize) -> Names {
             count: n - first,
         };
     }
-    if !begins_names_at(dashes) {
+    if !begins_names_at(rt, dashes) {
         return Names { dashes, count: 0 };
     }
     Names {
@@ -64,20 +64,24 @@ pub fn names_from(first: usize, n: usize) -> Names {
 }
 
 // Words that are not those of the help text: nothing is done.
-pub fn refuse_words() -> u32 {
-    print_usage(STDERR_FILENO);
+pub fn refuse_words<R: Host>(rt: &R) -> u32 {
+    say_usage(rt);
     2
 }
 
 // The help text or the version, where no further word stands behind the verb.
-pub fn tell(version: bool, n: usize) -> u32 {
+pub fn tell<R: Host>(rt: &R, version: bool, n: usize) -> u32 {
     if 2 < n {
-        return refuse_words();
+        return refuse_words(rt);
     }
     if version {
-        return igc_fate::status_of(fate_of(write(b"igc 1, of Hivebasket\n"), Fate::Accepted));
+        return igc_fate::status_of(fate_of(
+            rt,
+            write(rt, b"igc 1, of Hivebasket\n"),
+            Fate::Accepted,
+        ));
     }
-    igc_fate::status_of(fate_of(print_usage(STDOUT_FILENO), Fate::Accepted))
+    igc_fate::status_of(fate_of(rt, print_usage(rt), Fate::Accepted))
 }
 
 // The place of a word that names a file, where it is known without `--`: one further where that stands before it.

@@ -1,5 +1,6 @@
 // What the programs igc and badge do with files that are named: each errand goes from a file's name to its fate.
 #![tactic(auto)]
+
 mod claims;
 mod files;
 mod merging;
@@ -11,6 +12,7 @@ use claims::print_claim;
 use files::{print_check, print_list};
 use igc_console::{fate_of, print_heading};
 use igc_fate::Fate;
+use igc_host::Host;
 use igc_named::read_named;
 pub use merging::merge_named;
 use summaries::print_summary;
@@ -39,21 +41,22 @@ fn is_headed(errand: Errand, several: bool) -> bool {
 }
 
 // An errand on a file that was read whole.
-fn on_read(errand: Errand, name: &[u8], file: &[u8], table: &mut [u32]) -> Fate {
+fn on_read<R: Host>(rt: &R, errand: Errand, name: &[u8], file: &[u8], table: &mut [u32]) -> Fate {
     match errand {
-        Errand::List => print_list(file, table),
-        Errand::Check => print_check(name, file, table),
-        Errand::Track => print_track(file, Kind::Track),
-        Errand::Csv => print_track(file, Kind::Csv),
-        Errand::Gpx => print_track(file, Kind::Gpx),
-        Errand::Summary => print_summary(name, file),
-        Errand::Claim => print_claim(name, file),
+        Errand::List => print_list(rt, file, table),
+        Errand::Check => print_check(rt, name, file, table),
+        Errand::Track => print_track(rt, file, Kind::Track),
+        Errand::Csv => print_track(rt, file, Kind::Csv),
+        Errand::Gpx => print_track(rt, file, Kind::Gpx),
+        Errand::Summary => print_summary(rt, name, file),
+        Errand::Claim => print_claim(rt, name, file),
     }
 }
 
 // An errand on the file of a name: what is wanted of it is written to standard output, or why the file is refused. `input` takes the file, and has one byte more than the most that a file
 // may have; `table` has an entry for each line of a file. The answer tells what became of the file; it is not read whole where it cannot be opened or read to its end, or is longer.
-pub fn on_file(
+pub fn on_file<R: Host>(
+    rt: &R,
     errand: Errand,
     name: &[u8],
     several: bool,
@@ -61,14 +64,14 @@ pub fn on_file(
     table: &mut [u32],
 ) -> Fate {
     if is_headed(errand, several) {
-        if !print_heading(name) {
-            return fate_of(false, Fate::Unwritten);
+        if let Err(error) = print_heading(rt, name) {
+            return fate_of(rt, Err(error), Fate::Unwritten);
         }
     }
-    let got = read_named(name, input);
+    let got = read_named(rt, name, input);
     if !got.whole {
         return Fate::Unread;
     }
     let n = got.count;
-    on_read(errand, name, &input[..n], table)
+    on_read(rt, errand, name, &input[..n], table)
 }

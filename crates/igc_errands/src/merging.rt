@@ -1,49 +1,66 @@
 // Two copies of a file by their names: merged into a new file, which takes no other file's place.
 use igc_console::{fate_of, print_noted, print_refused, print_unmerged};
 use igc_fate::Fate;
+use igc_host::Host;
 use igc_named::read_named;
 use notes_merge::Brought;
+use std::io;
 
 // How many notes each copy has, and the new file.
-fn print_notes(
+fn print_notes<R: Host>(
+    rt: &R,
     first: &[u8],
     second: &[u8],
     new: &[u8],
     one: &[u8],
     two: &[u8],
     made: &[u8],
-) -> bool {
-    if !print_noted(first, notes_common::notes(one)) {
-        return false;
-    }
-    if !print_noted(second, notes_common::notes(two)) {
-        return false;
-    }
-    print_noted(new, notes_common::notes(made))
+) -> io::Result<()> {
+    print_noted(rt, first, notes_common::notes(one))?;
+    print_noted(rt, second, notes_common::notes(two))?;
+    print_noted(rt, new, notes_common::notes(made))
 }
 
-fn keep(first: &[u8], second: &[u8], new: &[u8], one: &[u8], two: &[u8], made: &[u8]) -> Fate {
-    if !igc_console::make(new, made) {
+fn keep<R: Host>(
+    rt: &R,
+    first: &[u8],
+    second: &[u8],
+    new: &[u8],
+    one: &[u8],
+    two: &[u8],
+    made: &[u8],
+) -> Fate {
+    if !igc_console::make(rt, new, made) {
         return Fate::Unwritten;
     }
     fate_of(
-        print_notes(first, second, new, one, two, made),
+        rt,
+        print_notes(rt, first, second, new, one, two, made),
         Fate::Accepted,
     )
 }
 
-fn bring(first: &[u8], second: &[u8], new: &[u8], one: &[u8], two: &[u8], out: &mut [u8]) -> Fate {
+fn bring<R: Host>(
+    rt: &R,
+    first: &[u8],
+    second: &[u8],
+    new: &[u8],
+    one: &[u8],
+    two: &[u8],
+    out: &mut [u8],
+) -> Fate {
     match notes_merge::merge(one, two, out) {
-        Brought::Whole(size) => keep(first, second, new, one, two, &out[..size]),
-        Brought::First(why) => fate_of(print_refused(first, one, why), Fate::Refused),
-        Brought::Second(why) => fate_of(print_refused(second, two, why), Fate::Refused),
-        Brought::Neither(why) => fate_of(print_unmerged(first, second, why), Fate::Refused),
+        Brought::Whole(size) => keep(rt, first, second, new, one, two, &out[..size]),
+        Brought::First(why) => fate_of(rt, print_refused(rt, first, one, why), Fate::Refused),
+        Brought::Second(why) => fate_of(rt, print_refused(rt, second, two, why), Fate::Refused),
+        Brought::Neither(why) => fate_of(rt, print_unmerged(rt, first, second, why), Fate::Refused),
     }
 }
 
 // Two copies of a file by their names, merged into a new file: it is made, and the notes of all three are counted; or why one of the two is refused, or both together, and then no file is
 // made. `input` and `other` each take one of the two, and have one byte more than the most that a file may have; `out` takes the new one. The answer tells what became of it.
-pub fn merge_named(
+pub fn merge_named<R: Host>(
+    rt: &R,
     first: &[u8],
     second: &[u8],
     new: &[u8],
@@ -51,15 +68,15 @@ pub fn merge_named(
     other: &mut [u8],
     out: &mut [u8],
 ) -> Fate {
-    let one = read_named(first, input);
+    let one = read_named(rt, first, input);
     if !one.whole {
         return Fate::Unread;
     }
-    let two = read_named(second, other);
+    let two = read_named(rt, second, other);
     if !two.whole {
         return Fate::Unread;
     }
     let n = one.count;
     let k = two.count;
-    bring(first, second, new, &input[..n], &other[..k], out)
+    bring(rt, first, second, new, &input[..n], &other[..k], out)
 }

@@ -1,7 +1,9 @@
 // A file's track on standard output, in a form, sheet by sheet; or why the file is refused.
 use igc_console::{fate_of, print_refusal};
 use igc_fate::Fate;
+use igc_host::Host;
 use rules::{Date, Outcome, Seal};
+use std::io;
 use text_forms::Form;
 use track_rules::Progress;
 
@@ -22,60 +24,67 @@ fn form_of(kind: Kind, date: Date) -> Form {
 }
 
 // Each sheet of the track, from the first to the last.
-fn print_sheets(file: &[u8], form: Form, start: Progress, count: usize) -> bool {
+fn print_sheets<R: Host>(
+    rt: &R,
+    file: &[u8],
+    form: Form,
+    start: Progress,
+    count: usize,
+) -> io::Result<()> {
     let mut block = [0u8; 65536];
     let mut from = start;
     let mut left = count;
     while 0 < left {
         let sheet = text_stretch::fill(file, form, from, left, &mut block);
         let n = sheet.used;
-        if !igc_console::write(&block[..n]) {
-            return false;
-        }
+        igc_console::write(rt, &block[..n])?;
         from = sheet.next;
         left = sheet.left;
     }
-    true
+    Ok(())
 }
 
 // What stands before the first fix has at most 256 bytes.
-fn print_front(form: Form) -> bool {
+fn print_front<R: Host>(rt: &R, form: Form) -> io::Result<()> {
     let mut text = [0u8; 256];
     let n = text_forms::put_front(&mut text, 0, form);
-    igc_console::write(&text[..n])
+    igc_console::write(rt, &text[..n])
 }
 
 // What stands behind the last.
-fn print_back(form: Form) -> bool {
+fn print_back<R: Host>(rt: &R, form: Form) -> io::Result<()> {
     let mut text = [0u8; 256];
     let n = text_forms::put_back(&mut text, 0, form);
-    igc_console::write(&text[..n])
+    igc_console::write(rt, &text[..n])
 }
 
 // What stands before the first fix, the fixes, and what stands behind the last.
-fn print_form(file: &[u8], form: Form, start: Progress, count: usize) -> bool {
-    if !print_front(form) {
-        return false;
-    }
-    if !print_sheets(file, form, start, count) {
-        return false;
-    }
-    print_back(form)
+fn print_form<R: Host>(
+    rt: &R,
+    file: &[u8],
+    form: Form,
+    start: Progress,
+    count: usize,
+) -> io::Result<()> {
+    print_front(rt, form)?;
+    print_sheets(rt, file, form, start, count)?;
+    print_back(rt, form)
 }
 
 // A file has no more fixes than bytes, so there is room for all of them.
-pub(crate) fn print_track(file: &[u8], kind: Kind) -> Fate {
+pub(crate) fn print_track<R: Host>(rt: &R, file: &[u8], kind: Kind) -> Fate {
     let checked = check_file::check_untabled(Seal::Usual, file);
     let outcome = checked.outcome;
     let flight = checked.flight;
     let date = flight.date;
     match outcome {
-        Outcome::Refused(why) => fate_of(print_refusal(file, why), Fate::Refused),
+        Outcome::Refused(why) => fate_of(rt, print_refusal(rt, file, why), Fate::Refused),
         Outcome::Accepted => {
             let course = track_course::for_flight(flight, file.len());
             let start = course.start;
             fate_of(
-                print_form(file, form_of(kind, date), start, course.count),
+                rt,
+                print_form(rt, file, form_of(kind, date), start, course.count),
                 Fate::Accepted,
             )
         }

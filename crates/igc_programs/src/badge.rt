@@ -1,10 +1,12 @@
 // The badge list: which of the IGC files that its words name are fit for a claim, by the strict check: badge FILE...
-// It is one exported function: C's `main` lends the memory and returns the status (c/badge.c).
-use crate::on_each;
+// It is one function, which the program's `main` calls.
+use crate::{FILE, on_each};
 use igc_errands::Errand;
 use igc_fate::Fate;
+use igc_host::Host;
 use igc_words::Verb;
-use libc::{STDERR_FILENO, STDOUT_FILENO};
+use std::alloc::AllocError;
+use std::io;
 
 const USAGE: [u8; 276] = *b"\
     usage: badge FILE...\n\
@@ -14,43 +16,55 @@ const USAGE: [u8; 276] = *b"\
     Status: 0 all accepted, 1 some file refused, 2 not all was read or written, or wrong words.\n\
 ";
 
-fn print_usage(fd: i32) -> bool {
+fn print_usage<R: Print>(rt: &R) -> io::Result<()> {
     let text = USAGE;
-    io::write_all(fd, &text)
+    rt.write_all(&text)
+}
+
+fn refuse_words<R: Host>(rt: &R) -> u32 {
+    let text = USAGE;
+    let _ = rt.complain(&text);
+    2
 }
 
 // A claim needs no table: one entry is lent, and never looked at.
-fn on_names(n: usize, dashes: usize, input: &mut [u8]) -> u32 {
+fn on_names<R: Host + AllocGlobal>(rt: &R, n: usize, dashes: usize) -> Result<u32, AllocError> {
+    let mut input = vec![in rt.alloc(); 0u8; FILE]?;
     let mut table = [0u32; 1];
-    on_each(Errand::Claim, 1, n, dashes, false, input, &mut table)
+    Ok(on_each(
+        rt,
+        Errand::Claim,
+        1,
+        n,
+        dashes,
+        false,
+        &mut input,
+        &mut table,
+    ))
 }
 
 // Words that name no file: `--help` alone is told, and all else refused; then nothing is done.
-fn on_no_names(n: usize) -> u32 {
+fn on_no_names<R: Host>(rt: &R, n: usize) -> u32 {
     if n != 2 {
-        print_usage(STDERR_FILENO);
-        return 2;
+        return refuse_words(rt);
     }
-    match igc_console::verb_at(1) {
+    match igc_console::verb_at(rt, 1) {
         Verb::Help => igc_fate::status_of(igc_errands::claim_fate(
-            print_usage(STDOUT_FILENO),
+            rt,
+            print_usage(rt),
             Fate::Accepted,
         )),
-        _ => {
-            print_usage(STDERR_FILENO);
-            2
-        }
+        _ => refuse_words(rt),
     }
 }
 
-// Runs the program on the arguments that it was started with, the names of files. `input` takes one file: it has one byte more than the most that a file may have. The
-// answer is the exit status: 0 all accepted, 1 some file refused, 2 not all was read or written, or wrong words.
-#[unsafe(no_mangle)]
-pub extern "C" fn badge_run(input: &mut [u8]) -> u32 {
-    let n = os::arg_count();
-    let names = igc_console::names_from(1, n);
+// Runs the program on the arguments that it was started with, the names of files. The answer is the exit status: 0 all accepted, 1 some file refused, 2 not all was read or written, or
+// wrong words; or that there is no memory for a file, and then nothing was done.
+pub fn badge_run<R: Host + AllocGlobal>(rt: &R) -> Result<u32, AllocError> {
+    let n = igc_host::arg_count(rt);
+    let names = igc_console::names_from(rt, 1, n);
     if names.count == 0 {
-        return on_no_names(n);
+        return Ok(on_no_names(rt, n));
     }
-    on_names(n, names.dashes, input)
+    on_names(rt, n, names.dashes)
 }

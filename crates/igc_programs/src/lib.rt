@@ -1,13 +1,26 @@
-// The programs igc and badge, one exported function each, which a `main` in C calls (c/igc.c, c/badge.c). Here is what both do: an errand on each file that is named.
+// The programs igc and badge, one function each, which their `main` calls (the crates `igc` and `badge`). Here is what both do: an errand on each file that is named, and their end.
 #![tactic(auto)]
+
+ghost use Rattle.std.specs.Prelude.{◌≡◌, min};
+ghost use Rattle.std.specs.Process.{exit_status};
+
 mod badge;
 mod igc;
 
+pub use badge::badge_run;
+pub use igc::igc_run;
 use igc_errands::Errand;
 use igc_fate::Fate;
+use igc_host::Host;
+use std::alloc::AllocError;
+use std::process::ExitCode;
+
+// One byte more than the most that a file may have, by which a longer one is told.
+pub(crate) const FILE: usize = 16777217;
 
 // An errand on the file that a word names; the word `--` names none.
-fn on_word(
+fn on_word<R: Host>(
+    rt: &R,
     errand: Errand,
     i: usize,
     dashes: usize,
@@ -18,9 +31,9 @@ fn on_word(
     if i == dashes {
         return Fate::Accepted;
     }
-    let mut name = io::buffer();
-    let k = os::arg(i, &mut name);
-    igc_errands::on_file(errand, &name[..k], several, input, table)
+    let mut name = [0u8; 4096];
+    let k = igc_host::arg(rt, i, &mut name);
+    igc_errands::on_file(rt, errand, &name[..k], several, input, table)
 }
 
 // Nothing more can be said where the output could not be written.
@@ -32,7 +45,8 @@ fn is_unwritten(fate: Fate) -> bool {
 }
 
 // An errand on each file that is named, from a word on. The answer is the exit status.
-fn on_each(
+fn on_each<R: Host>(
+    rt: &R,
     errand: Errand,
     first: usize,
     n: usize,
@@ -44,7 +58,7 @@ fn on_each(
     let mut status = 0;
     let mut i = first;
     while i < n {
-        let fate = on_word(errand, i, dashes, several, input, table);
+        let fate = on_word(rt, errand, i, dashes, several, input, table);
         status = igc_fate::worse(status, igc_fate::status_of(fate));
         if is_unwritten(fate) {
             return status;
@@ -52,4 +66,27 @@ fn on_each(
         i += 1;
     }
     status
+}
+
+// The status as the process's own. The programs' statuses are 0, 1 and 2.
+fn exit_code(status: u32) -> ExitCode
+    ensures { exit_status result ≡ min status 2 }
+{
+    match status {
+        0 => ExitCode::from(0),
+        1 => ExitCode::from(1),
+        _ => ExitCode::from(2),
+    }
+}
+
+// How a program ends: by its status; or by 2, and said on standard error by its name, where there was no memory for the files.
+pub fn end<R: Host>(rt: &R, name: &[u8], ran: Result<u32, AllocError>) -> ExitCode {
+    match ran {
+        Ok(status) => exit_code(status),
+        Err(_) => {
+            let _ = rt.complain(name);
+            let _ = rt.complain(b": there is not enough memory\n");
+            exit_code(2)
+        }
+    }
 }

@@ -1,26 +1,29 @@
 // Lists the IGC file on standard input: OK and its counts, FIX for each fix, COL for each of its columns; or REFUSED with number, line and byte.
 #![tactic(auto)]
-use libc::{STDERR_FILENO, STDIN_FILENO};
+
+use igc_host::{Host, fail};
+use std::io::Read;
 
 // An input that was read short of the limit has to be at its end. The program has no exit status, so what fails is said on standard error.
-fn is_whole(n: usize) -> bool {
+fn is_whole<F: Read>(input: &mut F, n: usize) -> bool {
     if 65536 < n {
         return true;
     }
-    igc_list::is_at_end(STDIN_FILENO)
+    igc_list::is_at_end(input)
 }
 
-fn main() {
+fn list<R: Host, F: Read>(rt: &R, from: &mut F) {
     let mut input = [0u8; 65537];
-    let n = io::read_full(STDIN_FILENO, &mut input);
-    if !is_whole(n) {
-        io::write_all(
-            STDERR_FILENO,
-            b"listing: the input cannot be read to its end\n",
-        );
+    let n = igc_host::read_full(from, &mut input);
+    if !is_whole(from, n) {
+        let _ = rt.complain(b"listing: the input cannot be read to its end\n");
         return;
     }
-    if !igc_list::list(&input[..n]) {
-        os::fail(b"listing: the output could not be written");
+    if let Err(error) = igc_list::list(rt, &input[..n]) {
+        fail(rt, b"listing: the output could not be written", error);
     }
+}
+
+fn main(rt: HostRuntime) {
+    list(&rt, &mut rt.stdin());
 }

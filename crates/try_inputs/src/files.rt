@@ -1,11 +1,11 @@
 // A file listed, with its name before it.
-use libc::STDOUT_FILENO;
+use std::io::Read;
 
-pub fn list(name: &[u8], fd: i32) {
-    io::write_all(STDOUT_FILENO, name);
-    io::write_all(STDOUT_FILENO, b"\n");
+// What is lost of the output is missed where it is compared with what it must be.
+pub fn list<R: Print, F: Read>(rt: &R, name: &[u8], file: &mut F) {
+    let _ = rt.write_all(name);
+    let _ = rt.write_all(b"\n");
     let mut input = [0u8; 65537];
-    let got = io::read_full(fd, &mut input);
-    libc::close(fd);
-    igc_list::list(&input[..got]);
+    let got = igc_host::read_full(file, &mut input);
+    let _ = igc_list::list(rt, &input[..got]);
 }

@@ -1,26 +1,20 @@
 // A file of 16,777,217 bytes is TOO_LONG; one byte fewer is not, and is refused for its missing line end.
 use rules::{Outcome, Seal};
+use std::alloc::AllocError;
 
-fn over() -> [u8; 16777217] {
-    [65; 16777217]
-}
-
-fn full() -> [u8; 16777216] {
-    [65; 16777216]
-}
-
-fn print_verdict(file: &[u8]) {
+fn print_verdict<R: Print>(rt: &R, file: &[u8]) {
     let mut table = [0u32; 4];
     let checked = check_file::check(Seal::Usual, file, &mut table);
     let outcome = checked.outcome;
     if let Outcome::Refused(why) = outcome {
-        igc_list::print_refusal(why);
+        let _ = igc_list::print_refusal(rt, why);
     }
 }
 
-pub fn check() {
-    let over_by_one = over();
-    print_verdict(&over_by_one);
-    let filled = full();
-    print_verdict(&filled);
+pub fn check<R: Print + AllocGlobal>(rt: &R) -> Result<(), AllocError> {
+    let over_by_one = vec![in rt.alloc(); 65u8; 16777217]?;
+    print_verdict(rt, &over_by_one);
+    let filled = vec![in rt.alloc(); 65u8; 16777216]?;
+    print_verdict(rt, &filled);
+    Ok(())
 }
