@@ -2,12 +2,12 @@
 // function below that promises the same, since only what stands in this crate gets into the library; `hive_track` alone is two, as it lends a list of records.
 #![tactic(auto)]
 
-mod columns;
 mod declarations;
 mod files;
 mod grids;
 mod lettered;
 mod lines;
+mod looks;
 mod refusals;
 mod shelves;
 mod summaries;
