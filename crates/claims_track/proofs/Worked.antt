@@ -26,7 +26,7 @@ nights =
     ("AXYZ001" ∷ "HFDTE311216" ∷ "B2359585130000N00015000WA0010000120" ∷ "K000001" ∷ "E000002PEV" ∷ "N000003" ∷ "F000004" ∷ "B0000055130001N00015001WV0010100121" ∷ "LXYZ a note"
     ∷ "K120006" ∷ "N000005" ∷ "B0000065130002S00015002EA-001200122" ∷ "E235960PEV" ∷ "B0000005130003N00015003WA0010300123" ∷ "GABC" ∷ [])
 
--- line, day and fix
+-- a record of its line, its day and its fix
 abbrev pub row : ℕ → ℕ → Fix → Record
 row line day fix = record { line = line; day = day; fix = fix }
 
