@@ -21,7 +21,7 @@ use Rattle.rules.proofs.Computed.{everything, file_of}
 use Rattle.rules.proofs.Damaged.{five_lines, five_layout}
 use Rattle.rules.proofs.SignedFiles.{four_lines}
 use Rattle.grammar_alike.specs.Alike.{without_l}
-use Rattle.claims_track.proofs.Worked.{nights, tracked}
+use Rattle.claims_track.proofs.Worked.{tracked}
 use Rattle.track_rules.specs.Track.{track_from, track_of}
 use Rattle.summary_fix.specs.Spots.{signed_count}
 use Rattle.summary_reckon.specs.Summary.{told, told_runs, updated, flight_summed, summary_after}
@@ -88,6 +88,14 @@ unfolding everything file_of
 listing_differs = (refl, refl)
 
 -- ---- days
+
+-- the flight over three midnights, whose track `claims_track` works out, byte for byte
+abbrev pub nights : List ℕ
+unfolding file_of
+nights =
+    file_of
+    ("AXYZ001" ∷ "HFDTE311216" ∷ "B2359585130000N00015000WA0010000120" ∷ "K000001" ∷ "E000002PEV" ∷ "N000003" ∷ "F000004" ∷ "B0000055130001N00015001WV0010100121" ∷ "LXYZ a note"
+    ∷ "K120006" ∷ "N000005" ∷ "B0000065130002S00015002EA-001200122" ∷ "E235960PEV" ∷ "B0000005130003N00015003WA0010300123" ∷ "GABC" ∷ [])
 
 -- the flight over three midnights of claims_track without its one note, and with notes of which four, were they timed, would break the time order, hide a midnight or add one
 abbrev pub noisy_nights : List ℕ
