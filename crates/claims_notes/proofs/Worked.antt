@@ -21,7 +21,7 @@ use Rattle.rules.proofs.Computed.{everything, file_of}
 use Rattle.rules.proofs.Damaged.{five_lines, five_layout}
 use Rattle.rules.proofs.SignedFiles.{four_lines}
 use Rattle.grammar_alike.specs.Alike.{without_l}
-use Rattle.claims_track.proofs.Worked.{tracked}
+use Rattle.claims_track.proofs.Worked.{nights, tracked}
 use Rattle.track_rules.specs.Track.{track_from, track_of}
 use Rattle.summary_fix.specs.Spots.{signed_count}
 use Rattle.summary_reckon.specs.Summary.{told, told_runs, updated, flight_summed, summary_after}
@@ -31,7 +31,6 @@ use Rattle.claims_notes.specs.Notes.{ButForNotes, unnumbered}
 
 -- with two notes before the G line and two behind it. The first begins as a line of 23:59:59 does: with that as its time the B line, at 12:00:00, would be refused with 14
 abbrev pub noted_five : List ℕ
-unfolding file_of
 noted_five =
     file_of
     ("AXYZ001" ∷ "HFDTE150724" ∷ "I023638FXA3940SIU" ∷ "L235959 TOW" ∷ "B1200005130000N00015000WA001000012001208" ∷ "LPLT A NOTE" ∷ "GABC" ∷ "LXYZ IN THE EVENING" ∷ "L" ∷ [])
@@ -55,7 +54,6 @@ five_pair seal.Strict = record { room = none; room' = none; accepted = refl; acc
 
 -- the four lines before it
 abbrev pub noted_four : List ℕ
-unfolding file_of
 noted_four = file_of ("AXYZ001" ∷ "HFDTE150724" ∷ "I023638FXA3940SIU" ∷ "L235959 TOW" ∷ "B1200005130000N00015000WA001000012001208" ∷ "LXYZ IN THE EVENING" ∷ [])
 
 pub four_pair : ButForNotes seal.Usual four_lines (saying 4 false) noted_four (saying 6 false)
@@ -89,17 +87,8 @@ listing_differs = (refl, refl)
 
 -- ---- days
 
--- the flight over three midnights, whose track `claims_track` works out, byte for byte
-abbrev pub nights : List ℕ
-unfolding file_of
-nights =
-    file_of
-    ("AXYZ001" ∷ "HFDTE311216" ∷ "B2359585130000N00015000WA0010000120" ∷ "K000001" ∷ "E000002PEV" ∷ "N000003" ∷ "F000004" ∷ "B0000055130001N00015001WV0010100121" ∷ "LXYZ a note"
-    ∷ "K120006" ∷ "N000005" ∷ "B0000065130002S00015002EA-001200122" ∷ "E235960PEV" ∷ "B0000005130003N00015003WA0010300123" ∷ "GABC" ∷ [])
-
 -- the flight over three midnights of claims_track without its one note, and with notes of which four, were they timed, would break the time order, hide a midnight or add one
 abbrev pub noisy_nights : List ℕ
-unfolding file_of
 noisy_nights =
     file_of
     ("AXYZ001" ∷ "HFDTE311216" ∷ "L235960" ∷ "B2359585130000N00015000WA0010000120" ∷ "L120000" ∷ "K000001" ∷ "E000002PEV" ∷ "N000003" ∷ "F000004" ∷ "L235959" ∷ "B0000055130001N00015001WV0010100121"

@@ -20,7 +20,6 @@ use Rattle.track_rules.specs.declared.Record.{Record}
 -- The first midnight shows between a B and a K line; the second, a fall of 43,201, between a K and an N line, and no B line falls there; the third is behind the leap second of an
 -- E line. Lines 3, 8, 12 and 14 are B lines.
 abbrev pub nights : List ℕ
-unfolding file_of
 nights =
     file_of
     ("AXYZ001" ∷ "HFDTE311216" ∷ "B2359585130000N00015000WA0010000120" ∷ "K000001" ∷ "E000002PEV" ∷ "N000003" ∷ "F000004" ∷ "B0000055130001N00015001WV0010100121" ∷ "LXYZ a note"
@@ -62,7 +61,6 @@ list_of_nights = (refl, refl)
 -- One digit for the time, four for each coordinate. The second fix has the plain time of the first and a smaller digit, and the time order goes by the plain time; the third is behind
 -- midnight, at 90 and 180 degrees, where the digits can only be zeros.
 abbrev pub fine : List ℕ
-unfolding file_of
 fine =
     file_of
     ("AXYZ001" ∷ "HFDTE311216" ∷ "I033636TDS3740LAD4144LOD" ∷ "B2359595130000N00015000WA0010000120912340009" ∷ "B2359595130001N00015001WA0010000120200000000" ∷ "B0000009000000S18000000EV0010100121500000000"
@@ -90,7 +88,6 @@ list_of_fine = (refl, refl)
 
 -- "13 for digits past a limit"
 abbrev pub past : List ℕ
-unfolding file_of
 past = file_of ("AXYZ001" ∷ "HFDTE311216" ∷ "I033636TDS3740LAD4144LOD" ∷ "B0000009000000S18000000EV0010100121500000001" ∷ "GABC" ∷ [])
 
 pub said_of_past : track_said past 1 ≡ refuses 13 4 41
@@ -101,7 +98,6 @@ said_of_past = refl
 
 -- a D line stands behind the G line: "the file's own, then 18 if the list is short". It is line 6, and the two B lines have no room in a list of one
 abbrev pub spoiled : List ℕ
-unfolding file_of
 spoiled = file_of ("AXYZ001" ∷ "HFDTE311216" ∷ "B2359585130000N00015000WA0010000120" ∷ "B0000055130001N00015001WV0010100121" ∷ "GABC" ∷ "D11234" ∷ [])
 
 pub said_of_spoiled : (track_said spoiled 2 ≡ refuses 6 6 1) × (track_said spoiled 1 ≡ refuses 6 6 1) × (track_said spoiled 0 ≡ refuses 6 6 1)
@@ -116,7 +112,6 @@ list_of_spoiled = (refl, refl)
 
 -- no G line: "The usual check now accepts a file with no G"
 abbrev pub unsealed : List ℕ
-unfolding file_of
 unsealed = file_of ("AXYZ001" ∷ "HFDTE311216" ∷ "B2359585130000N00015000WA0010000120" ∷ "B0000055130001N00015001WV0010100121" ∷ [])
 
 pub said_of_unsealed : (track_said unsealed 2 ≡ says 2) × (track_said unsealed 1 ≡ refuses 18 0 0)
@@ -127,7 +122,6 @@ said_of_unsealed = (refl, refl)
 
 -- its time goes on in a K line; no record is stored, and an empty list is long enough
 abbrev pub grounded : List ℕ
-unfolding file_of
 grounded = file_of ("AXYZ001" ∷ "HFDTE311216" ∷ "K120000" ∷ "GABC" ∷ [])
 
 pub said_of_grounded : (track_said grounded 0 ≡ says 0) × (track_said grounded 2 ≡ says 0)

@@ -38,7 +38,6 @@ fix_at time decimals lat more = record {
 
 -- LAD, of three digits, and TDS, of one, put between FXA and SIU of document 01's file of five lines
 abbrev pub finer_added : List ℕ
-unfolding file_of
 finer_added = file_of ("AXYZ001" ∷ "HFDTE150724" ∷ "I043638FXA3941LAD4242TDS4344SIU" ∷ "B1200005130000N00015000WA0010000120012123508" ∷ "GABC" ∷ [])
 
 pub finer_added_lem : WiderFile five_lines finer_added
@@ -57,12 +56,10 @@ added_counts = (refl, refl)
 -- ---- kept: the counts and their decimals are the old ones
 
 abbrev pub with_lad : List ℕ
-unfolding file_of
 with_lad = file_of ("AXYZ001" ∷ "HFDTE150724" ∷ "I013639LAD" ∷ "B1200005130000N00015000WA00100001201234" ∷ "GABC" ∷ [])
 
 -- ENL put before LAD
 abbrev pub lad_kept : List ℕ
-unfolding file_of
 lad_kept = file_of ("AXYZ001" ∷ "HFDTE150724" ∷ "I023638ENL3942LAD" ∷ "B1200005130000N00015000WA00100001203451234" ∷ "GABC" ∷ [])
 
 pub lad_kept_lem : WiderFile with_lad lad_kept
@@ -81,12 +78,10 @@ kept_counts = (refl, refl)
 -- ---- at 90 degrees
 
 abbrev pub at_pole : List ℕ
-unfolding file_of
 at_pole = file_of ("AXYZ001" ∷ "HFDTE150724" ∷ "B1200009000000N00015000WA0010000120" ∷ "GABC" ∷ [])
 
 -- zeros of LAD put in
 abbrev pub zeros_added : List ℕ
-unfolding file_of
 zeros_added = file_of ("AXYZ001" ∷ "HFDTE150724" ∷ "I013637LAD" ∷ "B1200009000000N00015000WA001000012000" ∷ "GABC" ∷ [])
 
 pub zeros_added_lem : WiderFile at_pole zeros_added
@@ -99,7 +94,6 @@ zeros_added_lem =
 
 -- other digits of LAD are against their rule there
 abbrev pub past_pole : List ℕ
-unfolding file_of
 past_pole = file_of ("AXYZ001" ∷ "HFDTE150724" ∷ "I013637LAD" ∷ "B1200009000000N00015000WA001000012001" ∷ "GABC" ∷ [])
 
 pub past_pole_lem : WiderFile at_pole past_pole → ⊥

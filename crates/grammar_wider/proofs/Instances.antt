@@ -41,7 +41,6 @@ fit v r h = record { valid = v; rule = r }
 
 -- ENL put between FXA and SIU of document 01's file of five lines
 abbrev pub enl_between : List ℕ
-unfolding file_of
 enl_between = file_of ("AXYZ001" ∷ "HFDTE150724" ∷ "I033638FXA3941ENL4243SIU" ∷ "B1200005130000N00015000WA001000012001234508" ∷ "GABC" ∷ [])
 
 pub between : WiderFile five_lines enl_between
@@ -54,7 +53,6 @@ between =
 
 -- the same without the G line
 abbrev pub enl_between_four : List ℕ
-unfolding file_of
 enl_between_four = file_of ("AXYZ001" ∷ "HFDTE150724" ∷ "I033638FXA3941ENL4243SIU" ∷ "B1200005130000N00015000WA001000012001234508" ∷ [])
 
 pub between_four : WiderFile four_lines enl_between_four
@@ -67,7 +65,6 @@ between_four =
 
 -- an I line put in behind the A line and the H line, where there is no other
 abbrev pub two_and_i : List ℕ
-unfolding file_of
 two_and_i = file_of ("AXYZ001" ∷ "HFDTE150724" ∷ "I023638FXA3940SIU" ∷ [])
 
 pub put_i_last : WiderFile two_lines two_and_i
@@ -76,7 +73,6 @@ put_i_last = front refl (front refl (from (put {i' = told family.B "I023638FXA39
 
 -- an unlisted code put before FXA, and the old columns in the other order
 abbrev pub others_moved : List ℕ
-unfolding file_of
 others_moved = file_of ("AXYZ001" ∷ "HFDTE150724" ∷ "I033637ZZZ3839SIU4042FXA" ∷ "B1200005130000N00015000WA0010000120X-08012" ∷ "GABC" ∷ [])
 
 pub before_and_moved : WiderFile five_lines others_moved
@@ -88,12 +84,10 @@ before_and_moved =
     (same refl done))))))
 
 abbrev pub no_columns : List ℕ
-unfolding file_of
 no_columns = file_of ("AXYZ001" ∷ "HFDTE150724" ∷ "HFPLTPILOT" ∷ "B1200005130000N00015000WA0010000120" ∷ "K120004" ∷ "N120004" ∷ "E120005PEV" ∷ "B1200055130000N00015000WA0010000120" ∷ "GABC" ∷ [])
 
 -- an I line put into a file that had none, after the last H line
 abbrev pub with_i : List ℕ
-unfolding file_of
 with_i = file_of ("AXYZ001" ∷ "HFDTE150724" ∷ "HFPLTPILOT" ∷ "I013638ENL" ∷ "B1200005130000N00015000WA0010000120345" ∷ "K120004" ∷ "N120004" ∷ "E120005PEV" ∷ "B1200055130000N00015000WA0010000120999" ∷ "GABC" ∷ [])
 
 pub put_i : WiderFile no_columns with_i
@@ -108,7 +102,6 @@ put_i =
 
 -- a K column added where there was no J line: it is put in after the last H line
 abbrev pub with_j : List ℕ
-unfolding file_of
 with_j = file_of ("AXYZ001" ∷ "HFDTE150724" ∷ "HFPLTPILOT" ∷ "J010810HDT" ∷ "B1200005130000N00015000WA0010000120" ∷ "K120004270" ∷ "N120004" ∷ "E120005PEV" ∷ "B1200055130000N00015000WA0010000120" ∷ "GABC" ∷ [])
 
 pub put_j : WiderFile no_columns with_j
@@ -123,7 +116,6 @@ put_j =
 
 -- an N column added where there was no M line: with neither an I nor a J line it is put in after the last H line
 abbrev pub with_m : List ℕ
-unfolding file_of
 with_m = file_of ("AXYZ001" ∷ "HFDTE150724" ∷ "HFPLTPILOT" ∷ "M010810HRT" ∷ "B1200005130000N00015000WA0010000120" ∷ "K120004" ∷ "N120004112" ∷ "E120005PEV" ∷ "B1200055130000N00015000WA0010000120" ∷ "GABC" ∷ [])
 
 pub put_m : WiderFile no_columns with_m
@@ -138,7 +130,6 @@ put_m =
 
 -- and where there is a J line, straight after that
 abbrev pub with_j_and_m : List ℕ
-unfolding file_of
 with_j_and_m = file_of ("AXYZ001" ∷ "HFDTE150724" ∷ "HFPLTPILOT" ∷ "J010810HDT" ∷ "M010810HRT" ∷ "B1200005130000N00015000WA0010000120" ∷ "K120004270" ∷ "N120004112" ∷ "E120005PEV" ∷ "B1200055130000N00015000WA0010000120" ∷ "GABC" ∷ [])
 
 pub put_m_behind : WiderFile with_j with_j_and_m
@@ -154,7 +145,6 @@ put_m_behind =
 
 -- all three put in
 abbrev pub with_all : List ℕ
-unfolding file_of
 with_all = file_of ("AXYZ001" ∷ "HFDTE150724" ∷ "HFPLTPILOT" ∷ "I013638ENL" ∷ "J010810HDT" ∷ "M010810HRT" ∷ "B1200005130000N00015000WA0010000120345" ∷ "K120004270" ∷ "N120004112" ∷ "E120005PEV" ∷ "B1200055130000N00015000WA0010000120999" ∷ "GABC" ∷ [])
 
 pub put_all : WiderFile no_columns with_all
@@ -170,12 +160,10 @@ put_all =
 
 -- with a line of every kind, a declaration among them
 abbrev pub every_kind : List ℕ
-unfolding file_of
 every_kind = file_of ("AXYZ001" ∷ "HFDTE150724" ∷ "I00" ∷ "J010808TDS" ∷ "M010810HRT" ∷ "C150724093000150724000100" ∷ "C5130000N00015000W" ∷ "C5130000N00015000W" ∷ "C5130000N00015000W" ∷ "C5130000N00015000W" ∷ "D20331" ∷ "F115959" ∷ "B1200005130000N00015000WA0010000120" ∷ "K1200047" ∷ "N120004112" ∷ "E120005PEV" ∷ "LPILOT" ∷ "Z" ∷ "GABC" ∷ [])
 
 -- I00 replaced, and a column put before the one of the K lines and before the one of the N lines
 abbrev pub all_widened : List ℕ
-unfolding file_of
 all_widened = file_of ("AXYZ001" ∷ "HFDTE150724" ∷ "I023639DAE4040ZZZ" ∷ "J020810HDT1111TDS" ∷ "M020810OXY1113HRT" ∷ "C150724093000150724000100" ∷ "C5130000N00015000W" ∷ "C5130000N00015000W" ∷ "C5130000N00015000W" ∷ "C5130000N00015000W" ∷ "D20331" ∷ "F115959" ∷ "B1200005130000N00015000WA0010000120-012:" ∷ "K1200042707" ∷ "N120004098112" ∷ "E120005PEV" ∷ "LPILOT" ∷ "Z" ∷ "GABC" ∷ [])
 
 pub all_widened_lem : WiderFile every_kind all_widened
@@ -193,7 +181,6 @@ all_widened_lem =
 
 -- columns added to the B lines and to the N lines, and none to the K lines between them
 abbrev pub some_widened : List ℕ
-unfolding file_of
 some_widened = file_of ("AXYZ001" ∷ "HFDTE150724" ∷ "I023639DAE4040ZZZ" ∷ "J010808TDS" ∷ "M020810HRT1113OXY" ∷ "C150724093000150724000100" ∷ "C5130000N00015000W" ∷ "C5130000N00015000W" ∷ "C5130000N00015000W" ∷ "C5130000N00015000W" ∷ "D20331" ∷ "F115959" ∷ "B1200005130000N00015000WA0010000120-012:" ∷ "K1200047" ∷ "N120004112098" ∷ "E120005PEV" ∷ "LPILOT" ∷ "Z" ∷ "GABC" ∷ [])
 
 pub some_widened_lem : WiderFile every_kind some_widened

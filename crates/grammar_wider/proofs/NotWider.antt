@@ -54,13 +54,11 @@ module _ (file' : List ℕ) (long : length file' ≤ 16777216) (w : WiderFile fi
 
 -- ---- what is no such file
 
-abbrev file_with : String → String → List ℕ
-unfolding file_of
+abbrev pub file_with : String → String → List ℕ
 file_with i b = file_of ("AXYZ001" ∷ "HFDTE150724" ∷ i ∷ b ∷ "GABC" ∷ [])
 
 -- FXA is 013, and was 012
 abbrev pub text_changed : List ℕ
-unfolding file_of
 text_changed = file_with "I033638FXA3941ENL4243SIU" "B1200005130000N00015000WA001000012001334508"
 
 pub text_changed_lem : WiderFile five_lines text_changed → ⊥
@@ -72,7 +70,6 @@ text_changed_lem w =
 
 -- the fix is one second later
 abbrev pub value_changed : List ℕ
-unfolding file_of
 value_changed = file_with "I033638FXA3941ENL4243SIU" "B1200015130000N00015000WA001000012001234508"
 
 abbrev seconds : Said (Reading Fix) → ℕ
@@ -88,7 +85,6 @@ value_changed_lem w =
 
 -- FXA is left out
 abbrev pub left_out : List ℕ
-unfolding file_of
 left_out = file_with "I023638ENL3940SIU" "B1200005130000N00015000WA001000012034508"
 
 pub left_out_lem : WiderFile five_lines left_out → ⊥
@@ -97,7 +93,6 @@ left_out_lem w = refuses_says {n = 19} {l = 0} {b = 0} (first_column left_out (l
 
 -- FXA is used twice
 abbrev pub used_twice : List ℕ
-unfolding file_of
 used_twice = file_with "I033638FXA3940SIU4143FXA" "B1200005130000N00015000WA001000012001208345"
 
 pub used_twice_lem : WiderFile five_lines used_twice → ⊥
@@ -106,7 +101,6 @@ used_twice_lem w = is_accepted used_twice (lit≤ tt) w 11 3 18 refl
 
 -- the text of ENL, which is listed, is no digits
 abbrev pub rule_broken : List ℕ
-unfolding file_of
 rule_broken = file_with "I033638FXA3940SIU4143ENL" "B1200005130000N00015000WA0010000120012083A5"
 
 pub rule_broken_lem : WiderFile five_lines rule_broken → ⊥
@@ -115,7 +109,6 @@ rule_broken_lem w = is_accepted rule_broken (lit≤ tt) w 13 4 41 refl
 
 -- the text of ZZZ, which is not listed, has an invalid character
 abbrev pub character_invalid : List ℕ
-unfolding file_of
 character_invalid = file_with "I033638FXA3940SIU4142ZZZ" "B1200005130000N00015000WA001000012001208X!"
 
 pub character_invalid_lem : WiderFile five_lines character_invalid → ⊥
@@ -124,7 +117,6 @@ character_invalid_lem w = is_accepted character_invalid (lit≤ tt) w 8 4 42 ref
 
 -- a J line is put in before the I line
 abbrev pub wrong_place : List ℕ
-unfolding file_of
 wrong_place = file_of ("AXYZ001" ∷ "HFDTE150724" ∷ "J010810HDT" ∷ "I023638FXA3940SIU" ∷ "B1200005130000N00015000WA001000012001208" ∷ "GABC" ∷ [])
 
 pub wrong_place_lem : WiderFile five_lines wrong_place → ⊥
@@ -133,7 +125,6 @@ wrong_place_lem w = is_accepted wrong_place (lit≤ tt) w 6 4 1 refl
 
 -- an M line is put in before the I line
 abbrev pub too_early : List ℕ
-unfolding file_of
 too_early = file_of ("AXYZ001" ∷ "HFDTE150724" ∷ "M010810HRT" ∷ "I023638FXA3940SIU" ∷ "B1200005130000N00015000WA001000012001208" ∷ "GABC" ∷ [])
 
 pub too_early_lem : WiderFile five_lines too_early → ⊥
