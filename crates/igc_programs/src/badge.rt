@@ -1,11 +1,10 @@
 // The badge list: which of the IGC files that its words name are fit for a claim, by the strict check: badge FILE...
 // It is one function, which the program's `main` calls.
-use crate::{FILE, on_each};
+use crate::on_each;
 use igc_errands::Errand;
 use igc_fate::Fate;
 use igc_host::Host;
 use igc_words::Verb;
-use std::alloc::AllocError;
 use std::io;
 
 const USAGE: [u8; 276] = *b"\
@@ -28,19 +27,9 @@ fn refuse_words<R: Host>(rt: &R) -> u32 {
 }
 
 // A claim needs no table: one entry is lent, and never looked at.
-fn on_names<R: Host + AllocGlobal>(rt: &R, n: usize, dashes: usize) -> Result<u32, AllocError> {
-    let mut input = vec![in rt.alloc(); 0u8; FILE]?;
+fn on_names<R: Host>(rt: &R, n: usize, dashes: usize, input: &mut [u8]) -> u32 {
     let mut table = [0u32; 1];
-    Ok(on_each(
-        rt,
-        Errand::Claim,
-        1,
-        n,
-        dashes,
-        false,
-        &mut input,
-        &mut table,
-    ))
+    on_each(rt, Errand::Claim, 1, n, dashes, false, input, &mut table)
 }
 
 // Words that name no file: `--help` alone is told, and all else refused; then nothing is done.
@@ -58,13 +47,13 @@ fn on_no_names<R: Host>(rt: &R, n: usize) -> u32 {
     }
 }
 
-// Runs the program on the arguments that it was started with, the names of files. The answer is the exit status: 0 all accepted, 1 some file refused, 2 not all was read or written, or
-// wrong words; or that there is no memory for a file, and then nothing was done.
-pub fn badge_run<R: Host + AllocGlobal>(rt: &R) -> Result<u32, AllocError> {
+// Runs the program on the arguments that it was started with, the names of files. `input` takes one file: it has one byte more than the most that a file may have. The answer is the exit
+// status: 0 all accepted, 1 some file refused, 2 not all was read or written, or wrong words.
+pub fn badge_run<R: Host>(rt: &R, input: &mut [u8]) -> u32 {
     let n = igc_host::arg_count(rt);
     let names = igc_console::names_from(rt, 1, n);
     if names.count == 0 {
-        return Ok(on_no_names(rt, n));
+        return on_no_names(rt, n);
     }
-    on_names(rt, n, names.dashes)
+    on_names(rt, n, names.dashes, input)
 }

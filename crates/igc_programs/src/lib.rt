@@ -15,8 +15,10 @@ use igc_host::Host;
 use std::alloc::AllocError;
 use std::process::ExitCode;
 
-// One byte more than the most that a file may have, by which a longer one is told.
-pub(crate) const FILE: usize = 16777217;
+// The memory that a program lends: for a file one byte more than the most that it may have, by which a longer one is told; and an entry for each line that such a file can have.
+pub const FILE: usize = 16777217;
+
+pub const LINES: usize = 5592405;
 
 // An errand on the file that a word names; the word `--` names none.
 fn on_word<R: Host>(
