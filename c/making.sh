@@ -1,9 +1,14 @@
 # What the scripts of c/ share: which files a crate is made of, what is made anew, the kit by links, and the compilers. Sourced from the repository's root.
 
-# Where the kit keeps its tools.
-doc=$(rt doc) || { echo 'c: rt, the command of the Rattle toolchain, is not there' >&2; exit 2; }
-kit=$(dirname "$(readlink -f "$doc")")
-version=$(rt version)
+# Where the kit keeps its tools, and its identity. A script that another one calls is told, since rt takes its time to say so.
+if [[ -z ${HIVE_KIT:-} || -z ${HIVE_KIT_VERSION:-} ]]; then
+    doc=$(rt doc) || { echo 'c: rt, the command of the Rattle toolchain, is not there' >&2; exit 2; }
+    HIVE_KIT=$(dirname "$(readlink -f "$doc")")
+    HIVE_KIT_VERSION=$(rt version)
+    export HIVE_KIT HIVE_KIT_VERSION
+fi
+kit=$HIVE_KIT
+version=$HIVE_KIT_VERSION
 tools=$kit/toolchain
 
 # Prints what crates.txt has behind the colon of a crate's line: the libraries that it uses, the repository's own and the kit's.
