@@ -8,7 +8,6 @@ mod lines;
 
 use igc_host::Host;
 use lines::Told;
-use std::alloc::AllocError;
 
 // An argument listed or read, and the layouts told up to it.
 fn take<R: Host>(rt: &R, i: usize, told: Told) -> Told {
@@ -24,7 +23,7 @@ fn take<R: Host>(rt: &R, i: usize, told: Told) -> Told {
     }
 }
 
-fn main(rt: HostRuntime) -> Result<(), AllocError> {
+fn main(rt: HostRuntime) {
     let n = igc_host::arg_count(&rt);
     let mut told = lines::none_told();
     let mut i = 1;
@@ -32,7 +31,6 @@ fn main(rt: HostRuntime) -> Result<(), AllocError> {
         told = take(&rt, i, told);
         i += 1;
     }
-    large::check(&rt)?;
+    large::check(&rt);
     layouts::write(&rt);
-    Ok(())
 }
