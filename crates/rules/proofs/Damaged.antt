@@ -1,10 +1,10 @@
 -- Document 01's file of five lines: its verdict, table, fix, columns and listing; and a damaged variant of it for each refusal number 3 to 16, with the line and
 -- byte worked out by hand; files with M and N lines, good and damaged. Computed. Assumes nothing.
+use Rattle.std.specs.Prelude.{Some}
 use Prim.Native.Nat.{ℕ}
 use Prim.Native.String.{String}
 use mathlib.Core.Bool.{true}
 use mathlib.Core.List.{List, [], ◌∷◌, ◌++◌}
-use mathlib.Core.Option.{some}
 use mathlib.Core.Path.{◌≡◌, refl}
 use lib.IntN.{ℤ, pos, neg_ℤ}
 use lib.ListN.{replicate}
@@ -31,7 +31,7 @@ five_layout = record {
   entries = record { first = 36; last = 38; code = 0x465841 } ∷ record { first = 39; last = 40; code = 0x534955 } ∷ replicate 11 unused;
 }
 
-pub verdict_of_five : verdict seal.Strict five_lines (some 16) ≡ says (record {
+pub verdict_of_five : verdict seal.Strict five_lines (Some 16) ≡ says (record {
   date = record { day = 15; month = 7; year = 2024 };
   layouts = record { b = five_layout; k = empty_layout; n = empty_layout };
   lines = 5;
@@ -53,7 +53,7 @@ listing_of_five = refl
 
 -- how many lines the file has, with room for so many
 unfoldable pub lines_in : ℕ → List ℕ → Said ℤ
-lines_in room file = and_then (verdict seal.Strict file (some room)) λ f. says (pos f.lines)
+lines_in room file = and_then (verdict seal.Strict file (Some room)) λ f. says (pos f.lines)
 
 -- a column of a B line as a number, by the layout of an I line
 unfoldable pub column_in : String → String → List ℕ → Said ℤ

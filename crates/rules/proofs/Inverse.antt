@@ -1,7 +1,7 @@
 -- What a chain's answer says of its links, and what a test says of its parts. Assumes nothing.
+use Rattle.std.specs.Prelude.{None, Option, Some}
 use Prim.Native.Nat.{ℕ}
 use mathlib.Core.Bool.{Bool, true, false, ◌&&◌, ◌||◌}
-use mathlib.Core.Option.{Option, none, some}
 use mathlib.Core.Path.{◌≡◌, refl, sym}
 use native.Mathlib.Omega.{arith}
 use Rattle.rules.specs.Choice.{given, need}
@@ -9,7 +9,7 @@ use Rattle.rules.specs.Refusals.{Said, says, refuses, in_line, and_then}
 
 -- ---- a value is no refusal
 
-pub none_some : {A : Type 0} {v : A} → ◌≡◌ {A = Option A} none (some v) → ⊥
+pub none_some : {A : Type 0} {v : A} → ◌≡◌ {A = Option A} None (Some v) → ⊥
 none_some e = let z : ◌≡◌ {A = ℕ} 0 1 = cc in omega arith
 
 pub refuses_says : {A : Type 0} {n l b : ℕ} {v : A} → refuses n l b ≡ says v → ⊥
@@ -20,13 +20,13 @@ false_true e = let z : ◌≡◌ {A = ℕ} 0 1 = cc in omega arith
 
 -- ---- a chain that came to x, and not by its other way a, took each link
 
-pub given_inv : {A B : Type 0} (o : Option A) (a x : B) (f : A → B) → (a ≡ x → ⊥) → given o a f ≡ x → (v : A) × (o ≡ some v) × (f v ≡ x)
-given_inv (some v) a x f n e = (v, refl, e)
-given_inv none a x f n e = absurd (n e)
+pub given_inv : {A B : Type 0} (o : Option A) (a x : B) (f : A → B) → (a ≡ x → ⊥) → given o a f ≡ x → (v : A) × (o ≡ Some v) × (f v ≡ x)
+given_inv (Some v) a x f n e = (v, refl, e)
+given_inv None a x f n e = absurd (n e)
 
-pub given_none : {A B : Type 0} (o : Option A) (a x : B) (f : A → B) → ((v : A) → f v ≡ x → ⊥) → given o a f ≡ x → (o ≡ none) × (a ≡ x)
-given_none (some v) a x f n e = absurd (n v e)
-given_none none a x f n e = (refl, e)
+pub given_none : {A B : Type 0} (o : Option A) (a x : B) (f : A → B) → ((v : A) → f v ≡ x → ⊥) → given o a f ≡ x → (o ≡ None) × (a ≡ x)
+given_none (Some v) a x f n e = absurd (n v e)
+given_none None a x f n e = (refl, e)
 
 pub need_inv : {A : Type 0} (t : Bool) (a x : A) (f : Unit {0} → A) → (a ≡ x → ⊥) → need t a f ≡ x → (t ≡ true) × (f tt ≡ x)
 need_inv true a x f n e = (refl, e)

@@ -2,6 +2,7 @@ pub mod Inverse
 pub mod Times
 pub mod Texts
 pub mod Links
+pub mod Handed
 pub mod Computed
 pub mod Marked
 pub mod FinerExamples

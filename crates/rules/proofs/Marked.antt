@@ -1,9 +1,9 @@
 -- The marked examples 1 to 12 of document 01, as document 02 changed them, in one table of whole lines and answers, computed. Assumes nothing.
+use Rattle.std.specs.Prelude.{Some}
 use Prim.Native.Nat.{ℕ}
 use Prim.Native.String.{String}
 use mathlib.Core.Bool.{true}
 use mathlib.Core.List.{List, [], ◌∷◌}
-use mathlib.Core.Option.{some}
 use mathlib.Core.Path.{◌≡◌, refl}
 use lib.IntN.{ℤ, pos, neg_ℤ}
 use Rattle.rules.specs.Choice.{bytes}
@@ -36,7 +36,7 @@ unfolding line_length
 b_length l = and_then (layout_said family.B l) λ i. says (pos (line_length 36 i))
 
 unfoldable pub lines : List ℕ → Said ℤ
-lines f = and_then (verdict seal.Strict f (some 16)) λ a. says (pos a.lines)
+lines f = and_then (verdict seal.Strict f (Some 16)) λ a. says (pos a.lines)
 
 abbrev ask : (List ℕ → Said ℤ) → String → Said ℤ → Example
 unfolding bytes

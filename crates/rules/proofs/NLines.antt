@@ -1,9 +1,9 @@
 -- Files with M and N lines, worked out by hand: what a good one says, and where a damaged one is refused. Computed. Assumes nothing.
+use Rattle.std.specs.Prelude.{Some}
 use Prim.Native.Nat.{ℕ}
 use Prim.Native.String.{String}
 use mathlib.Core.Bool.{true}
 use mathlib.Core.List.{List, [], ◌∷◌, ◌++◌}
-use mathlib.Core.Option.{some}
 use mathlib.Core.Path.{◌≡◌, refl}
 use lib.IntN.{ℤ, pos}
 use lib.ListN.{replicate}
@@ -36,7 +36,7 @@ pulse = record {
   entries = record { first = 8; last = 10; code = 0x485254 } ∷ record { first = 11; last = 13; code = 0x4F5859 } ∷ replicate 11 unused;
 }
 
-pub verdict_of_n_lines : verdict seal.Strict seven_and_g (some 16) ≡ says (record {
+pub verdict_of_n_lines : verdict seal.Strict seven_and_g (Some 16) ≡ says (record {
   date = record { day = 15; month = 7; year = 2024 };
   layouts = record { b = empty_layout; k = noise; n = pulse };
   lines = 8;

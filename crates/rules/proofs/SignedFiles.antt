@@ -1,10 +1,10 @@
 -- Files with a G line and without one, by the usual check and by the strict one: what each says of them, and whether they are signed, worked out by hand from document 02.
 -- Computed. Assumes nothing.
+use Rattle.std.specs.Prelude.{Some}
 use Prim.Native.Nat.{ℕ}
 use Prim.Native.String.{String}
 use mathlib.Core.Bool.{true, false, cond}
 use mathlib.Core.List.{List, [], ◌∷◌, ◌++◌}
-use mathlib.Core.Option.{some}
 use mathlib.Core.Path.{◌≡◌, refl}
 use lib.IntN.{ℤ, pos}
 use lib.ListN.{replicate}
@@ -29,7 +29,7 @@ unfolding file_of
 two_lines = file_of ("AXYZ001" ∷ "HFDTE150724" ∷ [])
 
 -- the usual check says of it what it says of the five lines, but for the count of lines, and that it is not signed
-pub verdict_of_four : verdict seal.Usual four_lines (some 16) ≡ says (record {
+pub verdict_of_four : verdict seal.Usual four_lines (Some 16) ≡ says (record {
   date = record { day = 15; month = 7; year = 2024 };
   layouts = record { b = five_layout; k = empty_layout; n = empty_layout };
   lines = 4;
@@ -40,7 +40,7 @@ unfolding everything file_of
 verdict_of_four = refl
 
 -- "A and H alone"
-pub verdict_of_two : verdict seal.Usual two_lines (some 16) ≡ says (record {
+pub verdict_of_two : verdict seal.Usual two_lines (Some 16) ≡ says (record {
   date = record { day = 15; month = 7; year = 2024 };
   layouts = record { b = empty_layout; k = empty_layout; n = empty_layout };
   lines = 2;
@@ -63,7 +63,7 @@ listing_of_four = refl
 
 -- whether the file is signed, 1 or 0
 unfoldable pub signed_said : Seal → List ℕ → Said ℤ
-signed_said s file = and_then (verdict s file (some 16)) λ f. says (pos (cond f.signed 1 0))
+signed_said s file = and_then (verdict s file (Some 16)) λ f. says (pos (cond f.signed 1 0))
 
 abbrev asks : Seal → List String → Said ℤ → Example
 unfolding file_of

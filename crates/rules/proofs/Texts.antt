@@ -1,4 +1,6 @@
 -- The texts of fields: how long each is; and texts put one after the other. Assumes nothing.
+use Rattle.rules.specs.declared.Date.{Date}
+use Rattle.std.specs.Prelude.{None, Option, Some}
 use Prim.Native.Nat.{ℕ, zero, suc, ◌+◌, ◌*◌, ◌/◌, ◌≤◌}
 use mathlib.Core.List.{List, [], ◌∷◌, ◌++◌}
 use mathlib.Core.Path.{◌≡◌, refl, ◌∙◌, ap}
@@ -12,8 +14,6 @@ use Rattle.rules.specs.Numbers.{digits_of, pairs_text}
 use Rattle.rules.specs.Fields.{date_text, metres_text}
 use Rattle.rules.specs.Writes.{entry_text, entry_texts, planned_text}
 use Rattle.rules.specs.declared.Entry.{Entry}
-use Rattle.rules.specs.declared.Planned.{Planned}
-use Rattle.rules.specs.declared.Planned.TheVariants as planned
 
 -- ---- how long a text is
 
@@ -25,10 +25,10 @@ digits_length (suc n) v = simp (length-append, digits_length n (v / 10)) (add-on
 pub pairs_length : (a b c : ℕ) → length (pairs_text a b c) ≡ 6
 pairs_length a b c = simp (length-append, digits_length)
 
-pub planned_length : (f : Planned) → length (planned_text f) ≡ 6
+pub planned_length : (f : Option Date) → length (planned_text f) ≡ 6
 unfolding planned_text date_text
-planned_length (planned.On d) = pairs_length _ _ _
-planned_length planned.NotGiven = digits_length 6 0
+planned_length (Some d) = pairs_length _ _ _
+planned_length None = digits_length 6 0
 
 pub metres_length : (z : ℤ) → length (metres_text z) ≡ 5
 metres_length (pos n) = digits_length 5 n

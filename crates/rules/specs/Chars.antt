@@ -1,7 +1,6 @@
 -- Document 01, 'Lines': the characters of a line; 'Fields': digits and code characters.
-use Rattle.std.specs.Prelude.{ℕ, ◌+◌, Bool, not, ◌&&◌, ◌||◌, List, eqb, leb, drop}
+use Rattle.std.specs.Prelude.{ℕ, ◌+◌, Bool, not, ◌&&◌, ◌||◌, List, eqb, leb, drop, Option}
 use Prim.Native.Char.{code}
-use Rattle.std.proofs.Math.Option.{Option}
 use Rattle.rules.specs.Choice.{first_of, leads, given}
 use Rattle.rules.specs.Refusals.{Said, says, no}
 use Rattle.rules.specs.declared.Reason.TheVariants.{Character}

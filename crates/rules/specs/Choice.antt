@@ -1,14 +1,13 @@
 -- How the definitions put cases one after the other, and a few words about lists.
-use Rattle.std.specs.Prelude.{ℕ, zero, suc, ◌-◌, Bool, true, false, ◌&&◌, cond, List, [], ◌∷◌, take, drop}
-use Rattle.std.proofs.Math.Option.{Option, none, some}
+use Rattle.std.specs.Prelude.{ℕ, zero, suc, ◌-◌, Bool, true, false, ◌&&◌, cond, List, [], ◌∷◌, take, drop, None, Option, Some}
 use Prim.Native.Char.{code}
 use Prim.Native.String.{String, [] as []ₛ, ◌∷◌ as ◌∷ₛ◌}
 
 module _ {A B : Type 0} where
   -- `given v a f`: f of the value where there is one, else a
   abbrev pub given : Option A → B → (A → B) → B
-  given (some v) a f = f v
-  given none a f = a
+  given (Some v) a f = f v
+  given None a f = a
 
 module _ {A : Type 0} where
   -- `need t a f`: the test t is needed to go on with f; where it fails, a
@@ -23,8 +22,8 @@ module _ {A B : Type 0} where
 
   -- what `found` makes of the first element that passes `test` and its place, the first place being n
   unfoldable pub first_of : (A → Bool) → (ℕ → A → B) → List A → ℕ → Option B
-  first_of test found [] n = none
-  first_of test found (x ∷ xs) n = cond (test x) (some (found n x)) (first_of test found xs (suc n))
+  first_of test found [] n = None
+  first_of test found (x ∷ xs) n = cond (test x) (Some (found n x)) (first_of test found xs (suc n))
 
 module _ {A : Type 0} where
   -- the first n elements are there, and each passes the test

@@ -10,8 +10,6 @@ use Rattle.rules.specs.declared.Reason.TheVariants.{BadValue}
 use Rattle.rules.specs.declared.Position.{Position}
 use Rattle.rules.specs.declared.FinePosition.{FinePosition}
 use Rattle.rules.specs.declared.Degrees.{Degrees}
-use Rattle.rules.specs.declared.DegreesRead.{DegreesRead}
-use Rattle.rules.specs.declared.DegreesRead.TheVariants.{Both, Refused}
 
 -- "the count over 60,000, one rounded division"; "The map's degrees use the finer count over 60,000 times that power of ten, still one division." (document 02): `round` takes the
 -- exact fraction to the nearest f64, once
@@ -56,6 +54,3 @@ degrees_of lat lon =
     says (record { lat = angle lat; lon = angle lon })
 
 -- the answer, in the paper's terms
-unfoldable pub degrees_told : DegreesRead → Said Degrees
-degrees_told (Both d) = says d
-degrees_told (Refused r) = refusal r

@@ -1,9 +1,8 @@
 -- The three families of lines with columns: document 01's B lines, whose layout an I line tells, and K lines, whose layout a J line tells, and document 02's N lines, whose
 -- layout an M line tells. Their letters, first starts, layouts and counts stand here; their fields stand in Lines, their place in the order in Roles.
 -- "M is built as J is"; "N is built as K is": K and N lines are the extra lines, and but for their letters the two families are one.
-use Rattle.std.specs.Prelude.{ℕ, ◌+◌, cond, eqb}
+use Rattle.std.specs.Prelude.{ℕ, ◌+◌, cond, eqb, None, Option, Some}
 use Prim.Native.Char.{code}
-use Rattle.std.proofs.Math.Option.{Option, none, some}
 use Rattle.rules.specs.declared.Layout.{Layout}
 use Rattle.rules.specs.declared.Extra.{Extra}
 use Rattle.rules.specs.declared.Extra.TheVariants as extra
@@ -32,9 +31,9 @@ layout_letter (family.Extra extra.N) = code "M"
 -- the family whose letter this is
 abbrev pub by_letter : (Family → ℕ) → ℕ → Option Family
 by_letter letter b =
-    cond (eqb b (letter family.B)) (some family.B)
-    (cond (eqb b (letter (family.Extra extra.K))) (some (family.Extra extra.K))
-    (cond (eqb b (letter (family.Extra extra.N))) (some (family.Extra extra.N)) none))
+    cond (eqb b (letter family.B)) (Some family.B)
+    (cond (eqb b (letter (family.Extra extra.K))) (Some (family.Extra extra.K))
+    (cond (eqb b (letter (family.Extra extra.N))) (Some (family.Extra extra.N)) None))
 
 -- the family of a line, by its first byte
 unfoldable pub family_of : ℕ → Option Family

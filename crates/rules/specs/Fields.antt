@@ -1,20 +1,11 @@
 -- Document 01, 'Fields': time, date, position and altitude, each read at a place of a line; and the text of each.
-use Rattle.std.specs.Prelude.{ℕ, ◌+◌, ◌*◌, ◌/◌, ◌%◌, Bool, true, false, ◌&&◌, ◌||◌, cond, List, [], ◌∷◌, ◌++◌, eqb, leb, ℤ, pos, negsuc, neg_ℤ, get_or}
+use Rattle.std.specs.Prelude.{ℕ, ◌+◌, ◌*◌, ◌/◌, ◌%◌, Bool, true, false, ◌&&◌, ◌||◌, cond, List, [], ◌∷◌, ◌++◌, eqb, leb, ℤ, pos, negsuc, neg_ℤ, get_or, None, Option, Some}
 use Prim.Native.Char.{code}
-use Rattle.std.proofs.Math.Option.{Option, none, some}
 use Rattle.rules.specs.Choice.{given, need, on}
 use Rattle.rules.specs.Numbers.{number_at, digits_of, pairs_text}
-use Rattle.rules.specs.declared.Time.{Time}
-use Rattle.rules.specs.declared.Time.TheVariants.{Secs, NoTime}
 use Rattle.rules.specs.declared.Date.{Date}
-use Rattle.rules.specs.declared.Day.{Day}
-use Rattle.rules.specs.declared.Day.TheVariants.{On, NoDay}
 use Rattle.rules.specs.declared.Position.{Position}
-use Rattle.rules.specs.declared.PositionField.{PositionField}
-use Rattle.rules.specs.declared.PositionField.TheVariants.{Is, NoPosition}
 use Rattle.rules.specs.declared.Height.{Height}
-use Rattle.rules.specs.declared.Altitude.{Altitude}
-use Rattle.rules.specs.declared.Altitude.TheVariants.{Metres, NoAltitude}
 
 -- "seconds are 00 to 59, and also 60 when hours and minutes are 23 and 59" (document 02)
 unfoldable pub is_second : ℕ → ℕ → ℕ → Bool
@@ -23,13 +14,13 @@ is_second h m x = leb x 59 || (eqb x 60 && eqb h 23 && eqb m 59)
 -- "Time: HHMMSS, 00 to 23, 00 to 59," seconds as above, "read as seconds of the day"; 235960 "reads as 86,400"
 unfoldable pub time_at : List ℕ → ℕ → Option ℕ
 time_at s at =
-    given (number_at s at 2) none λ h.
-    given (number_at s (at + 2) 2) none λ m.
-    given (number_at s (at + 4) 2) none λ x.
-    need (leb h 23) none λ _.
-    need (leb m 59) none λ _.
-    need (is_second h m x) none λ _.
-    some (h * 3600 + m * 60 + x)
+    given (number_at s at 2) None λ h.
+    given (number_at s (at + 2) 2) None λ m.
+    given (number_at s (at + 4) 2) None λ x.
+    need (leb h 23) None λ _.
+    need (leb m 59) None λ _.
+    need (is_second h m x) None λ _.
+    Some (h * 3600 + m * 60 + x)
 
 -- HHMMSS; "Writers accept 86,400 and write 235960." (document 02)
 unfoldable pub time_text : ℕ → List ℕ
@@ -54,14 +45,14 @@ year_of yy = cond (leb 80 yy) (1900 + yy) (2000 + yy)
 -- "DDMMYY", "The day must exist in that month and year."
 unfoldable pub date_at : List ℕ → ℕ → Option Date
 date_at s at =
-    given (number_at s at 2) none λ d.
-    given (number_at s (at + 2) 2) none λ m.
-    given (number_at s (at + 4) 2) none λ yy.
+    given (number_at s at 2) None λ d.
+    given (number_at s (at + 2) 2) None λ m.
+    given (number_at s (at + 4) 2) None λ yy.
     on (year_of yy) λ y.
-    need (leb 1 d) none λ _.
+    need (leb 1 d) None λ _.
     on (days_of y m) λ days.
-    need (leb d days) none λ _.
-    some (record { day = d; month = m; year = y })
+    need (leb d days) None λ _.
+    Some (record { day = d; month = m; year = y })
 
 -- DDMMYY
 unfoldable pub date_text : Date → List ℕ
@@ -75,13 +66,13 @@ is_either x a b = eqb x a || eqb x b
 -- at most, and the letter is a or b.
 unfoldable pub position_at : List ℕ → ℕ → ℕ → ℕ → ℕ → ℕ → Option Position
 position_at s at width most a b =
-    given (number_at s at width) none λ d.
-    given (number_at s (at + width) 5) none λ m.
-    need (leb m 59999) none λ _.
-    need (leb (d * 60000 + m) most) none λ _.
+    given (number_at s at width) None λ d.
+    given (number_at s (at + width) 5) None λ m.
+    need (leb m 59999) None λ _.
+    need (leb (d * 60000 + m) most) None λ _.
     on (get_or s (at + width + 5) 0) λ l.
-    need (is_either l a b) none λ _.
-    some (record { count = d * 60000 + m; letter = l })
+    need (is_either l a b) None λ _.
+    Some (record { count = d * 60000 + m; letter = l })
 
 -- "Latitude at most 5,400,000, longitude at most 10,800,000."
 abbrev pub most_latitude : ℕ
@@ -113,8 +104,8 @@ unfoldable pub altitude_at : List ℕ → ℕ → Option Height
 altitude_at s at =
     on (get_or s at 0) λ b.
     cond (eqb b (code "-"))
-    (given (number_at s (at + 1) 4) none λ v. need (leb 1 v) none λ _. some (record { metres = neg_ℤ (pos v) }))
-    (given (number_at s at 5) none λ v. some (record { metres = pos v }))
+    (given (number_at s (at + 1) 4) None λ v. need (leb 1 v) None λ _. Some (record { metres = neg_ℤ (pos v) }))
+    (given (number_at s at 5) None λ v. Some (record { metres = pos v }))
 
 -- five digits, or a minus and four
 abbrev pub metres_text : ℤ → List ℕ
@@ -125,18 +116,3 @@ unfoldable pub altitude_text : Height → List ℕ
 altitude_text h = metres_text h.metres
 
 -- the answers, in the paper's terms: the value, or that the field breaks its rule
-unfoldable pub time_told : Time → Option ℕ
-time_told (Secs t) = some t
-time_told NoTime = none
-
-unfoldable pub day_told : Day → Option Date
-day_told (On d) = some d
-day_told NoDay = none
-
-unfoldable pub position_told : PositionField → Option Position
-position_told (Is p) = some p
-position_told NoPosition = none
-
-unfoldable pub altitude_told : Altitude → Option Height
-altitude_told (Metres h) = some h
-altitude_told NoAltitude = none

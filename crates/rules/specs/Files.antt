@@ -1,8 +1,7 @@
 -- Document 01, 'The file we take and what we do with it': the verdict on a whole file, and the table of its lines' offsets afterwards.
-use Rattle.std.specs.Prelude.{ℕ, ◌+◌, ◌-◌, Bool, true, List, ◌++◌, ◌≡◌, eqb, leb, length, take, drop}
-use Rattle.std.proofs.Math.Option.{Option, none, some}
+use Rattle.std.specs.Prelude.{ℕ, ◌+◌, ◌-◌, Bool, true, List, ◌++◌, ◌≡◌, eqb, leb, length, take, drop, None, Option, Some}
 use Rattle.rules.specs.Choice.{need}
-use Rattle.rules.specs.Refusals.{number, Said, says, refuses, no, in_line, and_then, outcome, outcome_told, value_or}
+use Rattle.rules.specs.Refusals.{number, Said, says, refuses, no, in_line, and_then, outcome, value_or, result_told}
 use Rattle.rules.specs.Split.{Lines, end, broken, line, lines_of, offsets}
 use Rattle.rules.specs.Order.{start, no_flight, judge}
 use Rattle.rules.specs.Roles.{after_h, after_g}
@@ -29,8 +28,8 @@ finish seal st =
 
 -- whether the table has an entry for each of so many lines; it always has where no table is lent
 abbrev pub has_room : Option ℕ → ℕ → Bool
-has_room none lines = true
-has_room (some entries) lines = leb lines entries
+has_room None lines = true
+has_room (Some entries) lines = leb lines entries
 
 -- "Checks go line by line, in a line 3 to 15 in this order." "3 LINE_END: line, one past the text before it"; "15 TABLE_FULL: good line, no entry left; line, 0",
 -- where the table has `room` entries, or no table is lent
@@ -60,9 +59,9 @@ over entries table = entries ++ drop (length entries) table
 
 -- "The table gets entries for the lines before the faulty one (16 or accepted: all lines), the rest unchanged."
 unfoldable pub table_after : Seal → List ℕ → List ℕ → List ℕ
-table_after seal file table = over (take (good_lines (verdict seal file (some (length table)))) (offsets 0 (lines_of file))) table
+table_after seal file table = over (take (good_lines (verdict seal file (Some (length table)))) (offsets 0 (lines_of file))) table
 
 -- what the file says stands beside the answer; all zero and not signed where refused
 pub record CheckedTold (s : Said Flight) (r : Checked) : Type 0 where
-  pub answer : outcome_told r.outcome ≡ outcome s
+  pub answer : result_told r.outcome ≡ outcome s
   pub flight : r.flight ≡ value_or no_flight s

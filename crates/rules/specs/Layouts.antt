@@ -1,9 +1,9 @@
 -- Document 01, 'I and J layouts': the columns that an I, a J or an M line tells, over the place where the first one starts.
-use Rattle.std.specs.Prelude.{ℕ, zero, suc, ◌+◌, ◌-◌, ◌*◌, ◌^◌, Bool, true, false, not, ◌&&◌, cond, List, [], ◌∷◌, ◌≡◌, eqb, leb, length, get_or, take, drop, set, replicate}
-use Rattle.std.proofs.Math.Option.{Option}
+use Rattle.rules.specs.declared.Refusal.{Refusal}
+use Rattle.std.specs.Prelude.{ℕ, zero, suc, ◌+◌, ◌-◌, ◌*◌, ◌^◌, Bool, true, false, not, ◌&&◌, cond, List, [], ◌∷◌, ◌≡◌, eqb, leb, length, get_or, take, drop, set, replicate, Option, Result}
 use Rattle.std.specs.Int.Count.{ones}
 use Rattle.rules.specs.Choice.{given, need, first_of, leads, part, byte}
-use Rattle.rules.specs.Refusals.{Said, says, refuses, no, refusal, outcome_told, outcome, value_or, and_then, breaks}
+use Rattle.rules.specs.Refusals.{Said, says, refuses, no, refusal, outcome, value_or, and_then, breaks, result_told}
 use Rattle.rules.specs.Families.{first_start}
 use Rattle.rules.specs.Numbers.{number_at}
 use Rattle.rules.specs.Listed.{code_at, is_code_word, listed, width_fits, keeps_limit, listed_number}
@@ -14,15 +14,9 @@ use Rattle.rules.specs.declared.Entry.{Entry}
 use Rattle.rules.specs.declared.Layout.{Layout}
 use Rattle.rules.specs.declared.Family.{Family}
 use Rattle.rules.specs.declared.Family.TheVariants as family
-use Rattle.rules.specs.declared.LayoutRead.{LayoutRead}
-use Rattle.rules.specs.declared.LengthRead.{LengthRead}
-use Rattle.rules.specs.declared.LengthRead.TheVariants as length_read
 use Rattle.rules.specs.declared.Presence.{Presence}
-use Rattle.rules.specs.declared.PresenceRead.{PresenceRead}
-use Rattle.rules.specs.declared.PresenceRead.TheVariants as presence_read
-use Rattle.rules.specs.declared.ColumnRead.{ColumnRead}
-use Rattle.rules.specs.declared.ColumnRead.TheVariants as column_read
 use Rattle.rules.specs.declared.Class.TheVariants as class
+use Rattle.rules.specs.declared.Span.{Span}
 
 -- what stands behind the last entry
 abbrev pub unused : Entry
@@ -39,11 +33,6 @@ with_entry l e = record { count = l.count + 1; entries = set l.entries l.count e
 -- the entries of a layout, in their order
 abbrev pub entries_of : Layout → List Entry
 entries_of l = take l.count l.entries
-
--- a first and a last place
-pub record Span : Type 0 where
-  pub first : ℕ
-  pub last : ℕ
 
 abbrev pub span_of : Entry → Span
 span_of e = record { first = e.first; last = e.last }
@@ -157,19 +146,7 @@ unfoldable pub presence_said : Layout → Said Presence
 presence_said l = need (allowed (first_start family.B) l) (no BadValue 0) λ _. says (presence_of l)
 
 -- the answers, in the paper's terms
-unfoldable pub length_told : LengthRead → Said ℕ
-length_told (length_read.Bytes n) = says n
-length_told (length_read.Refused r) = refusal r
 
-unfoldable pub presence_told : PresenceRead → Said Presence
-presence_told (presence_read.Carries p) = says p
-presence_told (presence_read.Refused r) = refusal r
-
-unfoldable pub column_told : ColumnRead → Said Span
-column_told (column_read.Between a e) = says (record { first = a; last = e })
-column_told (column_read.Refused r) = refusal r
-
--- the layout that was read stands beside the answer; the empty one where refused
-pub record LayoutTold (s : Said Layout) (r : LayoutRead) : Type 0 where
-  pub answer : outcome_told r.outcome ≡ outcome s
-  pub layout : r.layout ≡ value_or empty_layout s
+-- the layout that was read, or the refusal
+abbrev pub LayoutTold : Said Layout → Result Layout Refusal → Type 0
+LayoutTold s r = result_told r ≡ s

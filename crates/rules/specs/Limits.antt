@@ -1,7 +1,6 @@
 -- What a value must keep to, so that some line reads as it: for each field and for each line that is written, a chain of tests that code can make.
-use Rattle.std.specs.Prelude.{ℕ, ◌+◌, ◌-◌, Bool, true, false, not, ◌&&◌, List, leb, eqb, ℤ, pos, negsuc, length}
+use Rattle.std.specs.Prelude.{ℕ, ◌+◌, ◌-◌, Bool, true, false, not, ◌&&◌, List, leb, eqb, ℤ, pos, negsuc, length, None, Option, Some}
 use Prim.Native.Char.{code}
-use Rattle.std.proofs.Math.Option.{Option}
 use Rattle.rules.specs.Choice.{given, need, on, first_of, part}
 use Rattle.rules.specs.Chars.{first_invalid}
 use Rattle.rules.specs.Fields.{days_of, is_either}
@@ -15,8 +14,6 @@ use Rattle.rules.specs.declared.Date.{Date}
 use Rattle.rules.specs.declared.Entry.{Entry}
 use Rattle.rules.specs.declared.Layout.{Layout}
 use Rattle.rules.specs.declared.Height.{Height}
-use Rattle.rules.specs.declared.Planned.{Planned}
-use Rattle.rules.specs.declared.Planned.TheVariants as planned
 use Rattle.rules.specs.declared.AtLimit.{AtLimit}
 use Rattle.rules.specs.declared.Reach.{Reach}
 use Rattle.rules.specs.declared.Finer.{Finer}
@@ -46,9 +43,9 @@ is_date d =
     true
 
 -- "000000 means not given; every other value must be a date"
-unfoldable pub is_planned : Planned → Bool
-is_planned (planned.On d) = is_date d
-is_planned planned.NotGiven = true
+unfoldable pub is_planned : Option Date → Bool
+is_planned (Some d) = is_date d
+is_planned None = true
 
 -- "Altitude in metres: five digits, or a minus and four digits that are not all zero. So -9,999 to 99,999."
 abbrev pub is_metres : ℤ → Bool

@@ -1,7 +1,7 @@
 -- Document 01, 'Lines' and 'Fields': each kind of line, without its CR LF, by the checks 7 to 13 in their order, and what it says.
-use Rattle.std.specs.Prelude.{ℕ, ◌+◌, ◌-◌, ◌%◌, Bool, true, false, ◌&&◌, cond, List, [], ◌∷◌, eqb, leb, ltb, length, get_or, drop}
+use Rattle.rules.specs.declared.Position.{Position}
+use Rattle.std.specs.Prelude.{ℕ, ◌+◌, ◌-◌, ◌%◌, Bool, true, false, ◌&&◌, cond, List, [], ◌∷◌, eqb, leb, ltb, length, get_or, drop, None, Option, Some}
 use Prim.Native.Char.{code}
-use Rattle.std.proofs.Math.Option.{Option, none, some}
 use Rattle.rules.specs.Families.{first_start}
 use Rattle.rules.specs.Choice.{given, need, on, byte}
 use Rattle.rules.specs.Refusals.{Said, says, no, and_then, breaks}
@@ -17,8 +17,6 @@ use Rattle.rules.specs.declared.Family.{Family}
 use Rattle.rules.specs.declared.Family.TheVariants as family
 use Rattle.rules.specs.declared.AtLimit.{AtLimit}
 use Rattle.rules.specs.declared.FixFields.{FixFields}
-use Rattle.rules.specs.declared.Planned.{Planned}
-use Rattle.rules.specs.declared.Planned.TheVariants as planned
 use Rattle.rules.specs.declared.Head.{Head}
 use Rattle.rules.specs.declared.Point.{Point}
 use Rattle.rules.specs.declared.Kind.{Kind}
@@ -88,10 +86,10 @@ unfoldable pub layout_line : ℕ → List ℕ → Said Layout
 layout_line start l = and_then (shaped 3 99 false l) λ _. layout_fields start l
 
 -- "000000 means not given; every other value must be a date"
-unfoldable pub planned_at : List ℕ → ℕ → Option Planned
+unfoldable pub planned_at : List ℕ → ℕ → Option (Option Date)
 planned_at l at =
-    given (number_at l at 6) none λ v.
-    cond (eqb v 0) (some planned.NotGiven) (given (date_at l at) none λ d. some (planned.On d))
+    given (number_at l at 6) None λ v.
+    cond (eqb v 0) (Some None) (given (date_at l at) None λ d. Some (Some d))
 
 -- "C head: declared date, time, flight date (000000 means not given; every other value must be a date, and the declared date always), 4-digit task number, 2-digit
 -- number of turn points, text."
@@ -135,9 +133,9 @@ e_line l =
 
 -- how many bytes stand before the first pair that is not two code characters; `at` stand before the first pair
 unfoldable pub bad_pair : ℕ → List ℕ → Option ℕ
-bad_pair at [] = none
-bad_pair at (a ∷ []) = none
-bad_pair at (a ∷ b ∷ l) = cond (is_code a && is_code b) (bad_pair (at + 2) l) (some at)
+bad_pair at [] = None
+bad_pair at (a ∷ []) = None
+bad_pair at (a ∷ b ∷ l) = cond (is_code a && is_code b) (bad_pair (at + 2) l) (Some at)
 
 -- "F 7 to 255"; "F: time, then pairs of code characters, perhaps none."; "F with an odd half pair is 9 at byte 8, after its time and before its pairs."
 unfoldable pub f_line : List ℕ → Said ℕ

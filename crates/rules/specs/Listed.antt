@@ -1,8 +1,7 @@
 -- Document 01, 'I and J layouts': the listed codes, and what their columns hold.
-use Rattle.std.specs.Prelude.{ℕ, ◌+◌, ◌*◌, ◌/◌, ◌%◌, Bool, true, false, not, ◌&&◌, ◌||◌, cond, List, [], ◌∷◌, eqb, leb, length, get_or, drop}
+use Rattle.std.specs.Prelude.{ℕ, ◌+◌, ◌*◌, ◌/◌, ◌%◌, Bool, true, false, not, ◌&&◌, ◌||◌, cond, List, [], ◌∷◌, eqb, leb, length, get_or, drop, None, Option, Some}
 use Prim.Native.Char.{code}
 use Prim.Native.String.{String}
-use Rattle.std.proofs.Math.Option.{Option, none, some}
 use Rattle.rules.specs.Choice.{given, need, first_of, leads, bytes}
 use Rattle.rules.specs.Chars.{is_digit, is_code, codes_at}
 use Rattle.rules.specs.declared.AtLimit.{AtLimit}
@@ -23,8 +22,8 @@ code_text x = (x / 65536) ∷ (x / 256 % 256) ∷ (x % 256) ∷ []
 -- "a code CCC of 3 code characters"
 unfoldable pub code_at : List ℕ → ℕ → Option ℕ
 code_at s at =
-    need (codes_at s at 3) none λ _.
-    some (packed (get_or s at 0) (get_or s (at + 1) 0) (get_or s (at + 2) 0))
+    need (codes_at s at 3) None λ _.
+    Some (packed (get_or s at 0) (get_or s (at + 1) 0) (get_or s (at + 2) 0))
 
 -- a number that three code characters make
 unfoldable pub is_code_word : ℕ → Bool

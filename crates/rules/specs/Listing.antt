@@ -1,6 +1,5 @@
 -- Document 01, 'Marked examples .. and a listing': what the listing program prints.
-use Rattle.std.specs.Prelude.{ℕ, zero, suc, ◌+◌, ◌/◌, ◌%◌, cond, List, [], ◌∷◌, ◌++◌, ltb, leb, ℤ, pos, negsuc, length}
-use Rattle.std.proofs.Math.Option.{some}
+use Rattle.std.specs.Prelude.{ℕ, zero, suc, ◌+◌, ◌/◌, ◌%◌, cond, List, [], ◌∷◌, ◌++◌, ltb, leb, ℤ, pos, negsuc, length, Some}
 use Prim.Native.Char.{code}
 use Rattle.rules.specs.Families.{first_start, layout_of, count_of}
 use Rattle.rules.specs.Choice.{need, bytes}
@@ -111,4 +110,4 @@ listed_as file (refuses n l b) = refused_text n l b
 -- "The listing program reads standard input, lends a table of 16,384 entries"; "21 INPUT_OVER: program's input over 65,536 bytes; 0, 0". It asks for the usual check: "instructors want
 -- their flights too", and only "the badge list and the merge of CR 3 must now ask for" the strict one
 unfoldable pub listing : List ℕ → List ℕ
-listing input = listed_as input (need (leb (length input) 65536) (no InputOver 0) λ _. verdict seal.Usual input (some 16384))
+listing input = listed_as input (need (leb (length input) 65536) (no InputOver 0) λ _. verdict seal.Usual input (Some 16384))

@@ -4,7 +4,8 @@ use Rattle.rules.specs.Choice.{given, need, first_of}
 use Rattle.rules.specs.Refusals.{Said, says, refuses, no, and_then}
 use Rattle.rules.specs.Numbers.{whole_of}
 use Rattle.rules.specs.Listed.{packed_of}
-use Rattle.rules.specs.Layouts.{Span, entries_of, look_in, look, column_text}
+use Rattle.rules.specs.declared.Span.{Span}
+use Rattle.rules.specs.Layouts.{entries_of, look_in, look, column_text}
 use Rattle.rules.specs.declared.Reason.TheVariants.{BadValue, Absent, NotNumber}
 use Rattle.rules.specs.declared.Entry.{Entry}
 use Rattle.rules.specs.declared.Layout.{Layout}

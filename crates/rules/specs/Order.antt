@@ -1,6 +1,5 @@
 -- Document 01, 'Which kind may follow which', and the time order of 'Fields': one line after those before it.
-use Rattle.std.specs.Prelude.{ℕ, ◌+◌, ◌-◌, Bool, true, false, not, ◌&&◌, ◌||◌, cond, List, eqb, leb, ltb, length, get_or}
-use Rattle.std.proofs.Math.Option.{Option, none}
+use Rattle.std.specs.Prelude.{ℕ, ◌+◌, ◌-◌, Bool, true, false, not, ◌&&◌, ◌||◌, cond, List, eqb, leb, ltb, length, get_or, None, Option}
 use Rattle.rules.specs.Choice.{given, need, on}
 use Rattle.rules.specs.Refusals.{Said, says, no, and_then}
 use Rattle.rules.specs.Families.{first_start, layout_of, with_layout, count_of, one_more}
@@ -26,7 +25,7 @@ fits_declaration c st =
 
 -- the part of the file that a line of this role leads to, where it may come
 unfoldable pub order_of : Role → State → Option ℕ
-order_of r st = need (fits_declaration (is_declaring r) st) none λ _. stage_after r st.stage
+order_of r st = need (fits_declaration (is_declaring r) st) None λ _. stage_after r st.stage
 
 abbrev pub no_date : Date
 no_date = record { day = 0; month = 0; year = 0 }

@@ -1,9 +1,10 @@
 -- Document 01, the paragraph after the refusal table: what each reader of a line answers. "Line readers repeat the checks of 7 to 13 after 17, with 0 for the line
 -- number; then 19, then 20. A refused reading returns no value."
-use Rattle.std.specs.Prelude.{ℕ, List, [], eqb, get_or, drop}
+use Rattle.rules.specs.declared.Refusal.{Refusal}
+use Rattle.std.specs.Prelude.{ℕ, List, [], eqb, get_or, drop, Ok, Err, Result}
 use Prim.Native.Char.{code}
 use Rattle.rules.specs.Choice.{need, byte}
-use Rattle.rules.specs.Refusals.{Said, says, refuses, no, refusal, and_then}
+use Rattle.rules.specs.Refusals.{Said, says, refuses, no, refusal, and_then, result_told}
 use Rattle.rules.specs.Families.{first_start, line_letter, layout_letter}
 use Rattle.rules.specs.Layouts.{empty_layout, allowed}
 use Rattle.rules.specs.Lines.{date_line, layout_line, head_line, point_line, e_line, f_line, FieldsIn, family_line}
@@ -19,22 +20,8 @@ use Rattle.rules.specs.declared.FixFields.{FixFields}
 use Rattle.rules.specs.declared.Fix.{Fix}
 use Rattle.rules.specs.declared.Head.{Head}
 use Rattle.rules.specs.declared.Point.{Point}
-use Rattle.rules.specs.declared.FixFieldsRead.{FixFieldsRead}
-use Rattle.rules.specs.declared.FixFieldsRead.TheVariants as fix_fields_read
-use Rattle.rules.specs.declared.FixRead.{FixRead}
-use Rattle.rules.specs.declared.FixRead.TheVariants as fix_read
 use Rattle.rules.specs.declared.FixReading.{FixReading}
 use Rattle.rules.specs.declared.ExtraReading.{ExtraReading}
-use Rattle.rules.specs.declared.TimeRead.{TimeRead}
-use Rattle.rules.specs.declared.TimeRead.TheVariants as time_read
-use Rattle.rules.specs.declared.DateRead.{DateRead}
-use Rattle.rules.specs.declared.DateRead.TheVariants as date_read
-use Rattle.rules.specs.declared.HeadRead.{HeadRead}
-use Rattle.rules.specs.declared.HeadRead.TheVariants as head_read
-use Rattle.rules.specs.declared.PointRead.{PointRead}
-use Rattle.rules.specs.declared.PointRead.TheVariants as point_read
-use Rattle.rules.specs.declared.NumberRead.{NumberRead}
-use Rattle.rules.specs.declared.NumberRead.TheVariants as number_read
 
 module _ {A : Type 0} where
   -- "A line of another kind than the reader's is 17."
@@ -128,36 +115,11 @@ point_rest l (says p) = drop (byte 19) l
 point_rest l (refuses n k b) = []
 
 -- the answers, in the paper's terms
-unfoldable pub fix_fields_told : FixFieldsRead → Said FixFields
-fix_fields_told (fix_fields_read.Is f) = says f
-fix_fields_told (fix_fields_read.Refused r) = refusal r
 
-unfoldable pub fix_told : FixRead → Said Fix
-fix_told (fix_read.Is f) = says f
-fix_told (fix_read.Refused r) = refusal r
+unfoldable pub fix_reading_told : Result FixReading Refusal → Said (Reading Fix)
+fix_reading_told (Ok r) = says (record { value = r.fix; entries = r.entries })
+fix_reading_told (Err w) = refusal w
 
-unfoldable pub time_read_told : TimeRead → Said ℕ
-time_read_told (time_read.Secs t) = says t
-time_read_told (time_read.Refused r) = refusal r
-
-unfoldable pub fix_reading_told : FixReading → Answer Fix
-fix_reading_told r = record { value = fix_told r.fix; entries = r.entries }
-
-unfoldable pub extra_reading_told : ExtraReading → Answer ℕ
-extra_reading_told r = record { value = time_read_told r.time; entries = r.entries }
-
-unfoldable pub date_read_told : DateRead → Said Date
-date_read_told (date_read.On d) = says d
-date_read_told (date_read.Refused r) = refusal r
-
-unfoldable pub head_told : HeadRead → Said Head
-head_told (head_read.Is h) = says h
-head_told (head_read.Refused r) = refusal r
-
-unfoldable pub point_told : PointRead → Said Point
-point_told (point_read.Is p) = says p
-point_told (point_read.Refused r) = refusal r
-
-unfoldable pub number_read_told : NumberRead → Said Signed
-number_read_told (number_read.Is z) = says z
-number_read_told (number_read.Refused r) = refusal r
+unfoldable pub extra_reading_told : Result ExtraReading Refusal → Said (Reading ℕ)
+extra_reading_told (Ok r) = says (record { value = r.time; entries = r.entries })
+extra_reading_told (Err w) = refusal w

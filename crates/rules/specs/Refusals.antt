@@ -1,12 +1,10 @@
 -- Document 01, 'Refusal numbers', with the numbers of document 02: the table, and what an answer says.
-use Rattle.std.specs.Prelude.{ℕ}
+use Rattle.std.specs.Prelude.{ℕ, Result, Ok, Err}
 use Rattle.rules.specs.declared.Class.{Class}
 use Rattle.rules.specs.declared.Class.TheVariants as class
 use Rattle.rules.specs.declared.Reason.{Reason}
 use Rattle.rules.specs.declared.Reason.TheVariants.{Empty, TooLong, LineEnd, EmptyLine, Kind, Order, Length, Character, Form, Tile, Twice, Width, Column, Back, TableFull, EndsEarly, BadValue, NoRoom, Absent, NotNumber, InputOver, Time, Position, Altitude, Date, NotSame, Shelf, Id, Entries, NoRun, NotFound}
 use Rattle.rules.specs.declared.Refusal.{Refusal}
-use Rattle.rules.specs.declared.Outcome.{Outcome}
-use Rattle.rules.specs.declared.Outcome.TheVariants.{Accepted, Refused}
 
 -- "No. | Name"
 unfoldable pub number : Reason → ℕ
@@ -59,6 +57,11 @@ module _ {A : Type 0} where
   abbrev pub refusal : Refusal → Said A
   refusal r = refuses (number r.reason) r.line r.byte
 
+  -- what the code's answer says, in the paper's terms
+  unfoldable pub result_told : Result A Refusal → Said A
+  result_told (Ok v) = says v
+  result_told (Err r) = refusal r
+
   -- a refusal of the line in hand, as one of line n
   abbrev pub in_line : ℕ → Said A → Said A
   in_line n (says v) = says v
@@ -79,11 +82,6 @@ module _ {A B : Type 0} where
   abbrev pub and_then : Said A → (A → Said B) → Said B
   and_then (says v) f = f v
   and_then (refuses n l b) f = refuses n l b
-
--- the answer of a reading whose value stands beside it
-unfoldable pub outcome_told : Outcome → Said (Unit {0})
-outcome_told Accepted = says tt
-outcome_told (Refused r) = refusal r
 
 -- "9 FORM: first field against its rule"; "A time field that breaks its rule becomes TIME, a latitude or longitude POSITION, an altitude ALTITUDE, a date DATE; every
 -- other field stays 9."

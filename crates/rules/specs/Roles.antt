@@ -1,6 +1,5 @@
 -- Document 01, 'Which kind may follow which': what each kind of line does in a file, and the part of the file that it leads to.
-use Rattle.std.specs.Prelude.{ℕ, ◌-◌, Bool, true, false, ◌&&◌, cond, leb}
-use Rattle.std.proofs.Math.Option.{Option, none, some}
+use Rattle.std.specs.Prelude.{ℕ, ◌-◌, Bool, true, false, ◌&&◌, cond, leb, None, Option, Some}
 use Rattle.rules.specs.Choice.{need}
 use Rattle.rules.specs.declared.Extra.{Extra}
 use Rattle.rules.specs.declared.Extra.TheVariants as extra
@@ -104,7 +103,7 @@ after_last_g = 8
 
 -- from the parts `low` to `high` the line leads to the part `next`; from any other it may not come
 abbrev pub leading : ℕ → ℕ → ℕ → ℕ → Option ℕ
-leading low high next stage = need (leb low stage && leb stage high) none λ _. some next
+leading low high next stage = need (leb low stage && leb stage high) None λ _. Some next
 
 -- "After these come C, D, E, F, B, K, L and other, with no further A, H, I, J."; so do N lines, and no further M
 abbrev pub body_after : ℕ → Option ℕ
@@ -125,4 +124,4 @@ stage_after role.Differential stage = body_after stage
 stage_after role.Seals stage = leading after_h after_g after_g stage
 stage_after role.Remark stage = cond (leb stage in_body) (body_after stage) (leading after_g after_last_g after_last_g stage)
 stage_after role.Other stage = body_after stage
-stage_after role.NoRole stage = none
+stage_after role.NoRole stage = None

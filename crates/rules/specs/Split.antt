@@ -1,11 +1,9 @@
 -- Document 01, 'Lines': the file cut into its lines; a line by its number; a reading place over the lines.
-use Rattle.std.specs.Prelude.{ℕ, suc, ◌+◌, ◌-◌, Bool, ◌&&◌, ◌||◌, cond, List, [], ◌∷◌, eqb, leb, length, get_or, drop}
-use Rattle.std.proofs.Math.Option.{Option, none, some}
+use Rattle.std.specs.Prelude.{ℕ, suc, ◌+◌, ◌-◌, Bool, ◌&&◌, ◌||◌, cond, List, [], ◌∷◌, eqb, leb, length, get_or, drop, None, Option, Some}
 use Rattle.rules.specs.Choice.{given, need, on, part}
 use Rattle.rules.specs.Refusals.{Said, says, refuses, no, refusal}
 use Rattle.rules.specs.declared.Reason.TheVariants.{BadValue}
-use Rattle.rules.specs.declared.LineRead.{LineRead}
-use Rattle.rules.specs.declared.LineRead.TheVariants as line_read
+use Rattle.rules.specs.declared.Bounds.{Bounds}
 
 -- "Every line, the last one too, ends with CR LF." A file is nothing more; or a line without its CR LF and what comes after; or it is broken:
 -- "first CR or LF is not CR LF, or none comes", behind n bytes of text.
@@ -42,13 +40,8 @@ begins_crlf l = eqb (get_or l 0 0) 13 && eqb (get_or l 1 0) 10
 
 -- how many bytes stand before the first CR LF; `at` stand before the list
 unfoldable pub first_crlf : ℕ → List ℕ → Option ℕ
-first_crlf at [] = none
-first_crlf at (b ∷ l) = cond (begins_crlf (b ∷ l)) (some at) (first_crlf (at + 1) l)
-
--- where a line starts and where its CR LF stands, each by the number of bytes before it
-pub record Bounds : Type 0 where
-  pub from : ℕ
-  pub to : ℕ
+first_crlf at [] = None
+first_crlf at (b ∷ l) = cond (begins_crlf (b ∷ l)) (Some at) (first_crlf (at + 1) l)
 
 -- "just past a CR LF"
 unfoldable pub is_start : List ℕ → ℕ → Bool
@@ -80,11 +73,8 @@ pub record Stepped : Type 0 where
 unfoldable pub step_at : List ℕ → ℕ → Said Stepped
 step_at file at =
     need (leb at (length file)) (no BadValue 0) λ _.
-    cond (eqb at (length file)) (says (record { found = none; next = at }))
+    cond (eqb at (length file)) (says (record { found = None; next = at }))
     (given (first_crlf at (drop at file)) (no BadValue 0) λ e.
-    says (record { found = some (record { from = at; to = e }); next = e + 2 }))
+    says (record { found = Some (record { from = at; to = e }); next = e + 2 }))
 
 -- the answer, in the paper's terms
-unfoldable pub line_told : LineRead → Said Bounds
-line_told (line_read.Part a e) = says (record { from = a; to = e })
-line_told (line_read.Refused r) = refusal r

@@ -1,6 +1,5 @@
 -- Document 01, the time order of 'Fields', and document 02, 'The whole track for the map': a walk over the lines of a file, with the clock and the day behind each line.
-use Rattle.std.specs.Prelude.{ℕ, ◌+◌, cond, List, get_or}
-use Rattle.std.proofs.Math.Option.{Option, none, some}
+use Rattle.std.specs.Prelude.{ℕ, ◌+◌, cond, List, get_or, None, Option, Some}
 use Rattle.rules.specs.Choice.{byte}
 use Rattle.rules.specs.Fields.{time_at}
 use Rattle.rules.specs.Lines.{kind_of}
@@ -19,7 +18,7 @@ set_out = record { lines = 0; clock = start.clock; day = 0 }
 
 -- the time of a line, at 2 to 7, where its kind runs in time order
 abbrev pub time_on : List ℕ → Option ℕ
-time_on l = cond (is_timed (role_of (kind_of (get_or l 0 0)))) (time_at l (byte 2)) none
+time_on l = cond (is_timed (role_of (kind_of (get_or l 0 0)))) (time_at l (byte 2)) None
 
 -- "The day number rises at each fall over 43,200 along the time order"
 abbrev pub day_after : Passing → ℕ → ℕ
@@ -29,8 +28,8 @@ day_after back day = day
 
 -- one line further, by its time, if it has one
 abbrev pub walked_by : Option ℕ → Walk → Walk
-walked_by none w = record { lines = w.lines + 1; clock = w.clock; day = w.day }
-walked_by (some t) w = record { lines = w.lines + 1; clock = t; day = day_after (passing w.clock t) w.day }
+walked_by None w = record { lines = w.lines + 1; clock = w.clock; day = w.day }
+walked_by (Some t) w = record { lines = w.lines + 1; clock = t; day = day_after (passing w.clock t) w.day }
 
 abbrev pub walked : List ℕ → Walk → Walk
 walked l w = walked_by (time_on l) w

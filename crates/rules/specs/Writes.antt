@@ -1,5 +1,5 @@
 -- Document 01, 'Refusal numbers': the lines that the writers make, when they give 17 and 18, and what the output holds afterwards.
-use Rattle.std.specs.Prelude.{ℕ, ◌+◌, Bool, true, false, ◌&&◌, cond, List, [], ◌∷◌, ◌++◌, eqb, leb, ℤ, pos, negsuc, length}
+use Rattle.std.specs.Prelude.{ℕ, ◌+◌, Bool, true, false, ◌&&◌, cond, List, [], ◌∷◌, ◌++◌, eqb, leb, ℤ, pos, negsuc, length, None, Option, Some}
 use Prim.Native.Char.{code}
 use Rattle.std.proofs.lemmas.List.Edits.{sets}
 use Rattle.rules.specs.Families.{line_letter, layout_letter}
@@ -22,12 +22,8 @@ use Rattle.rules.specs.declared.Family.TheVariants as family
 use Rattle.rules.specs.declared.FinePosition.{FinePosition}
 use Rattle.rules.specs.declared.FixFields.{FixFields}
 use Rattle.rules.specs.declared.Fix.{Fix}
-use Rattle.rules.specs.declared.Planned.{Planned}
-use Rattle.rules.specs.declared.Planned.TheVariants as planned
 use Rattle.rules.specs.declared.Head.{Head}
 use Rattle.rules.specs.declared.Point.{Point}
-use Rattle.rules.specs.declared.Wrote.{Wrote}
-use Rattle.rules.specs.declared.Wrote.TheVariants as wrote
 
 -- ---- the text of each line, without its CR LF. "Writers make B, I, J, K and C lines."; M and N "have writers".
 -- "Writers take what the readings give, columns and other text as bytes; B and K readers and writers take the layout too; C head and C point have a reader and a writer
@@ -60,9 +56,9 @@ unfoldable pub layout_text : Family → Layout → List ℕ
 layout_text f l = layout_letter f ∷ (digits_of 2 l.count ++ entry_texts (entries_of l))
 
 -- "000000 means not given"
-unfoldable pub planned_text : Planned → List ℕ
-planned_text (planned.On d) = date_text d
-planned_text planned.NotGiven = digits_of 6 0
+unfoldable pub planned_text : Option Date → List ℕ
+planned_text (Some d) = date_text d
+planned_text None = digits_of 6 0
 
 unfoldable pub head_text : Head → List ℕ → List ℕ
 head_text h rest =
@@ -103,11 +99,11 @@ same_fix f g =
 abbrev pub same_date : Date → Date → Bool
 same_date d e = eqb d.day e.day && eqb d.month e.month && eqb d.year e.year
 
-abbrev pub same_planned : Planned → Planned → Bool
-same_planned (planned.On d) (planned.On e) = same_date d e
-same_planned (planned.On d) planned.NotGiven = false
-same_planned planned.NotGiven (planned.On e) = false
-same_planned planned.NotGiven planned.NotGiven = true
+abbrev pub same_planned : Option Date → Option Date → Bool
+same_planned (Some d) (Some e) = same_date d e
+same_planned (Some d) None = false
+same_planned None (Some e) = false
+same_planned None None = true
 
 unfoldable pub same_head : Head → Head → Bool
 same_head h k =
@@ -158,9 +154,6 @@ out_after (says n) text place out = sets out place (text ++ crlf)
 out_after (refuses n l b) text place out = out
 
 -- the answer, in the paper's terms
-unfoldable pub wrote_told : Wrote → Said ℕ
-wrote_told (wrote.Next n) = says n
-wrote_told (wrote.Refused r) = refusal r
 
 -- ---- a field into an output: the bytes from a place on, where they have room; else nothing changes
 

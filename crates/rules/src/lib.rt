@@ -55,27 +55,6 @@ pub struct Refusal {
     pub byte: u32,
 }
 
-// What is said of something whose value, where it is accepted, stands beside this answer.
-#[derive(Clone, Copy)]
-pub enum Outcome {
-    Accepted,
-    Refused(Refusal),
-}
-
-// Where something was found: how many bytes stand before it.
-#[derive(Clone, Copy)]
-pub enum Found {
-    At(usize),
-    Nothing,
-}
-
-// What digits spell.
-#[derive(Clone, Copy)]
-pub enum Number {
-    Value(u64),
-    NoNumber,
-}
-
 // A whole number with its sign.
 #[derive(Clone, Copy)]
 pub struct Signed {
@@ -83,29 +62,10 @@ pub struct Signed {
 }
 
 #[derive(Clone, Copy)]
-pub enum Whole {
-    Of(Signed),
-    NoWhole,
-}
-
-// Seconds of the day.
-#[derive(Clone, Copy)]
-pub enum Time {
-    Secs(u32),
-    NoTime,
-}
-
-#[derive(Clone, Copy)]
 pub struct Date {
     pub day: u8,
     pub month: u8,
     pub year: u16,
-}
-
-#[derive(Clone, Copy)]
-pub enum Day {
-    On(Date),
-    NoDay,
 }
 
 // A latitude or a longitude: a count of thousandths of a minute, with its letter beside it.
@@ -116,12 +76,6 @@ pub struct Position {
     pub letter: u8,
 }
 
-#[derive(Clone, Copy)]
-pub enum PositionField {
-    Is(Position),
-    NoPosition,
-}
-
 // An altitude.
 #[repr(C)]
 #[derive(Clone, Copy)]
@@ -129,23 +83,11 @@ pub struct Height {
     pub metres: i32,
 }
 
-#[derive(Clone, Copy)]
-pub enum Altitude {
-    Metres(Height),
-    NoAltitude,
-}
-
 // A position for the map.
 #[derive(Clone, Copy)]
 pub struct Degrees {
     pub lat: f64,
     pub lon: f64,
-}
-
-#[derive(Clone, Copy)]
-pub enum DegreesRead {
-    Both(Degrees),
-    Refused(Refusal),
 }
 
 // A listed code: its three characters as one number, the least and the most width of its column, and whether the column may begin with a minus.
@@ -186,20 +128,6 @@ pub enum Family {
     Extra(Extra),
 }
 
-// A layout that was read; the empty one beside a refusal.
-#[derive(Clone, Copy)]
-pub struct LayoutRead {
-    pub outcome: Outcome,
-    pub layout: Layout,
-}
-
-// How many bytes a line has.
-#[derive(Clone, Copy)]
-pub enum LengthRead {
-    Bytes(usize),
-    Refused(Refusal),
-}
-
 // Which listed codes a layout carries: bit n of the word for the number n, and how many there are.
 #[derive(Clone, Copy)]
 pub struct Presence {
@@ -207,24 +135,11 @@ pub struct Presence {
     pub count: u32,
 }
 
+// The places of the first and last byte of a column in its line, counted from 1.
 #[derive(Clone, Copy)]
-pub enum PresenceRead {
-    Carries(Presence),
-    Refused(Refusal),
-}
-
-// Where a column stands: the places of its first and last byte, counted from 1.
-#[derive(Clone, Copy)]
-pub enum ColumnRead {
-    Between(u8, u8),
-    Refused(Refusal),
-}
-
-// A column as a whole number.
-#[derive(Clone, Copy)]
-pub enum NumberRead {
-    Is(Signed),
-    Refused(Refusal),
+pub struct Span {
+    pub first: u8,
+    pub last: u8,
 }
 
 // What the bytes of a B line before its columns spell, position and time as plain counts.
@@ -236,12 +151,6 @@ pub struct FixFields {
     pub validity: u8,
     pub pressure: Height,
     pub gnss: Height,
-}
-
-#[derive(Clone, Copy)]
-pub enum FixFieldsRead {
-    Is(FixFields),
-    Refused(Refusal),
 }
 
 // Which coordinates of a B line stand at their limit, 90 or 180 degrees: there finer digits can only be zeros.
@@ -295,44 +204,18 @@ pub struct Fix {
     pub gnss: Height,
 }
 
-#[derive(Clone, Copy)]
-pub enum FixRead {
-    Is(Fix),
-    Refused(Refusal),
-}
-
-// The time of a K, an N, an E or an F line.
-#[derive(Clone, Copy)]
-pub enum TimeRead {
-    Secs(u32),
-    Refused(Refusal),
-}
-
-// A B line read: its fix, and the entries of its columns in layout order; no entries beside a refusal.
+// A B line read: its fix, and the entries of its columns in layout order.
 #[derive(Clone, Copy)]
 pub struct FixReading {
-    pub fix: FixRead,
+    pub fix: Fix,
     pub entries: Layout,
 }
 
-// A K or an N line read: its time, and the entries of its columns in layout order; no entries beside a refusal.
+// A K or an N line read: its time, and the entries of its columns in layout order.
 #[derive(Clone, Copy)]
 pub struct ExtraReading {
-    pub time: TimeRead,
+    pub time: u32,
     pub entries: Layout,
-}
-
-#[derive(Clone, Copy)]
-pub enum DateRead {
-    On(Date),
-    Refused(Refusal),
-}
-
-// The flight date of a declaration.
-#[derive(Clone, Copy)]
-pub enum Planned {
-    On(Date),
-    NotGiven,
 }
 
 // What the first line of a declaration says before its text.
@@ -340,15 +223,9 @@ pub enum Planned {
 pub struct Head {
     pub declared: Date,
     pub time: u32,
-    pub flight: Planned,
+    pub flight: Option<Date>,
     pub task: u16,
     pub turns: u8,
-}
-
-#[derive(Clone, Copy)]
-pub enum HeadRead {
-    Is(Head),
-    Refused(Refusal),
 }
 
 // What a point line of a declaration says before its text.
@@ -356,12 +233,6 @@ pub enum HeadRead {
 pub struct Point {
     pub lat: Position,
     pub lon: Position,
-}
-
-#[derive(Clone, Copy)]
-pub enum PointRead {
-    Is(Point),
-    Refused(Refusal),
 }
 
 // A line's kind, told by its first byte. Other: O to Z. NoKind: no byte from A to Z.
@@ -447,30 +318,16 @@ pub struct State {
     pub flight: Flight,
 }
 
-// One line judged: the state after it, or the state at the start beside a refusal.
-#[derive(Clone, Copy)]
-pub struct Judged {
-    pub outcome: Outcome,
-    pub state: State,
-}
-
 // A whole file checked: what it says, or all zero and not signed beside a refusal.
 #[derive(Clone, Copy)]
 pub struct Checked {
-    pub outcome: Outcome,
+    pub outcome: Result<(), Refusal>,
     pub flight: Flight,
 }
 
 // A line of the file: how many bytes stand before it and before its CR LF.
 #[derive(Clone, Copy)]
-pub enum LineRead {
-    Part(usize, usize),
-    Refused(Refusal),
-}
-
-// A line written: the place after its CR LF.
-#[derive(Clone, Copy)]
-pub enum Wrote {
-    Next(usize),
-    Refused(Refusal),
+pub struct Bounds {
+    pub from: usize,
+    pub to: usize,
 }

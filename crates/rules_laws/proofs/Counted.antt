@@ -1,8 +1,8 @@
 -- The check of a file counts its lines and its B, K and N lines, and the table's entries lead to the lines by their numbers; the others stay; with a table only 15 is added. Assumes nothing.
+use Rattle.std.specs.Prelude.{None, Option, Some}
 use Prim.Native.Nat.{ℕ, ◌+◌, ◌-◌, ◌≤◌, ◌<◌}
 use mathlib.Core.Bool.{Bool, true, false, cond}
 use mathlib.Core.List.{List, []}
-use mathlib.Core.Option.{Option, none, some}
 use mathlib.Core.Path.{◌≡◌, refl, sym, ◌∙◌}
 use native.Mathlib.Nat.{add-zero, zero-add}
 use native.Mathlib.Omega.{arith}
@@ -188,7 +188,7 @@ full entries s h = rw (lt-leb (good_lines s) entries h)
 
 module _ (seal : Seal) where
   -- no good line is lost
-  run_goes : (k : Lines) (st : State) → st.flight.lines ≤ good_lines (run seal none st k)
+  run_goes : (k : Lines) (st : State) → st.flight.lines ≤ good_lines (run seal None st k)
   unfolding run good_lines
   run_goes end st = finish_by seal st (λ s. st.flight.lines ≤ good_lines s) (omega arith) (omega arith)
   run_goes (broken m) st = omega arith
@@ -196,33 +196,33 @@ module _ (seal : Seal) where
       by_line (λ s. st.flight.lines ≤ good_lines s) (OneMore t st) (st.flight.lines + 1) (judge t st) _ (judge_counts t st) (λ k b. omega arith) λ after m.
       omega (arith, m.lines, run_goes ls after)
 
-  run_tabled : (entries : ℕ) (k : Lines) (st : State) → st.flight.lines ≤ entries → run seal (some entries) st k ≡ tabled entries (run seal none st k)
+  run_tabled : (entries : ℕ) (k : Lines) (st : State) → st.flight.lines ≤ entries → run seal (Some entries) st k ≡ tabled entries (run seal None st k)
   unfolding run good_lines
   run_tabled entries end st h = finish_by seal st (λ s. s ≡ tabled entries s) (sym (fits entries (early seal st) (omega arith))) (sym (fits entries (says st.flight) (omega arith)))
   run_tabled entries (broken m) st h = rw (fits entries (refuses (number reason.LineEnd) (st.flight.lines + 1) (m + 1)) (omega arith))
   run_tabled entries (line t ls) st h = by (judge t st) (judge_counts t st) (λ after m e. run_tabled entries ls after e)
     where
-      by : (s : Said State) → Sure (OneMore t st) s → ((after : State) → OneMore t st after → after.flight.lines ≤ entries → run seal (some entries) after ls ≡ tabled entries (run seal none after ls))
-          → (and_then (in_line (st.flight.lines + 1) s) λ after. need (leb after.flight.lines entries) (refuses (number reason.TableFull) after.flight.lines 0) λ _. run seal (some entries) after ls)
-          ≡ tabled entries (and_then (in_line (st.flight.lines + 1) s) λ after. run seal none after ls)
+      by : (s : Said State) → Sure (OneMore t st) s → ((after : State) → OneMore t st after → after.flight.lines ≤ entries → run seal (Some entries) after ls ≡ tabled entries (run seal None after ls))
+          → (and_then (in_line (st.flight.lines + 1) s) λ after. need (leb after.flight.lines entries) (refuses (number reason.TableFull) after.flight.lines 0) λ _. run seal (Some entries) after ls)
+          ≡ tabled entries (and_then (in_line (st.flight.lines + 1) s) λ after. run seal None after ls)
       by (refuses n k b) m next = rw (fits entries (refuses n (st.flight.lines + 1) b) (omega arith))
       by (says after) m next = room (leb after.flight.lines entries) refl
         where
           room : (b : Bool) → leb after.flight.lines entries ≡ b
-              → (need b (refuses (number reason.TableFull) after.flight.lines 0) λ _. run seal (some entries) after ls) ≡ tabled entries (run seal none after ls)
+              → (need b (refuses (number reason.TableFull) after.flight.lines 0) λ _. run seal (Some entries) after ls) ≡ tabled entries (run seal None after ls)
           room true e = next after m (leb-true after.flight.lines entries e)
           room false e =
               let g = leb-false after.flight.lines entries e in
               let n : after.flight.lines ≡ entries + 1 = omega (arith, m.lines) in
-              rw (full entries (run seal none after ls) (omega (arith, run_goes ls after)), n)
+              rw (full entries (run seal None after ls) (omega (arith, run_goes ls after)), n)
 
-  pub table_adds : (file : List ℕ) (entries : ℕ) → verdict seal file (some entries) ≡ tabled entries (verdict seal file none)
+  pub table_adds : (file : List ℕ) (entries : ℕ) → verdict seal file (Some entries) ≡ tabled entries (verdict seal file None)
   unfolding verdict good_lines
   table_adds file entries = by (leb 1 (length file)) (leb (length file) 16777216)
     where
       by : (a b : Bool)
-          → (need a (no reason.Empty 0) λ _. need b (no reason.TooLong 0) λ _. run seal (some entries) start (lines_of file))
-          ≡ tabled entries (need a (no reason.Empty 0) λ _. need b (no reason.TooLong 0) λ _. run seal none start (lines_of file))
+          → (need a (no reason.Empty 0) λ _. need b (no reason.TooLong 0) λ _. run seal (Some entries) start (lines_of file))
+          ≡ tabled entries (need a (no reason.Empty 0) λ _. need b (no reason.TooLong 0) λ _. run seal None start (lines_of file))
       by false b = rw (fits entries (no reason.Empty 0) (omega arith))
       by true false = rw (fits entries (no reason.TooLong 0) (omega arith))
       by true true = run_tabled entries (lines_of file) start (omega arith)
@@ -234,7 +234,7 @@ over_past es table n d h =
 
 -- the lines before the faulty one; all, where the file is accepted
 abbrev pub good_in : Seal → List ℕ → List ℕ → ℕ
-good_in seal file table = good_lines (verdict seal file (some (length table)))
+good_in seal file table = good_lines (verdict seal file (Some (length table)))
 
 -- lines are numbered from 1
 abbrev pub offset_of : List ℕ → ℕ → ℕ
@@ -253,10 +253,10 @@ module _ (seal : Seal) (file table : List ℕ) where
   good = good_in seal file table
 
   within : good ≤ length table
-  within = leb-true good (length table) (verdict_within seal (some (length table)) file (le-leb 0 (length table) (omega arith))).1
+  within = leb-true good (length table) (verdict_within seal (Some (length table)) file (le-leb 0 (length table) (omega arith))).1
 
   enough : good ≤ length (offsets 0 (lines_of file))
-  enough = rw length_offsets (verdict_within seal (some (length table)) file (le-leb 0 (length table) (omega arith))).0
+  enough = rw length_offsets (verdict_within seal (Some (length table)) file (le-leb 0 (length table) (omega arith))).0
 
   as_many : length (take good (offsets 0 (lines_of file))) ≡ good
   as_many = length-take-le good (offsets 0 (lines_of file)) enough
@@ -281,7 +281,7 @@ module _ (seal : Seal) (file table : List ℕ) where
   line_by_number n low high =
       let i : n - 1 < good = omega arith in
       let there : n ≤ length (table_after seal file table) = rw table_length (omega (arith, within)) in
-      let leads = offset_leads file (n - 1) (omega (arith, (verdict_within seal (some (length table)) file (le-leb 0 (length table) (omega arith))).0)) in record {
+      let leads = offset_leads file (n - 1) (omega (arith, (verdict_within seal (Some (length table)) file (le-leb 0 (length table) (omega arith))).0)) in record {
         bounds = bounds_lead file (table_after seal file table) n (offset_of file n) (text_of file n) low there (entry_put (n - 1) 0 i) leads;
         bytes = text_there file (table_after seal file table) n (offset_of file n) (text_of file n) low there (entry_put (n - 1) 0 i) leads;
       }

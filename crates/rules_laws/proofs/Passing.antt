@@ -1,8 +1,8 @@
 -- A line that passes, taken apart once: by its role, what its check says of it and the state that it leaves. Everyone else cases on `Leaves`. Assumes nothing.
+use Rattle.std.specs.Prelude.{None, Option, Some}
 use Prim.Native.Nat.{ℕ, ◌+◌, ◌≤◌}
 use mathlib.Core.Bool.{Bool, true, false, not, ◌&&◌, cond}
 use mathlib.Core.List.{List, [], ◌∷◌}
-use mathlib.Core.Option.{Option, none, some}
 use mathlib.Core.Path.{◌≡◌, refl}
 use native.Mathlib.Omega.{arith}
 use borrow.Author.Tests.{le-leb, leb-true, eqb-true, eqb-false, eq-eqb, ne_eqb, not-true}
@@ -31,12 +31,12 @@ use Rattle.rules.proofs.Inverse.{none_some, refuses_says, false_true, given_inv,
 
 -- ---- the parts of a file
 
-pub leading_so : (low high next stage : ℕ) → low ≤ stage → stage ≤ high → leading low high next stage ≡ some next
+pub leading_so : (low high next stage : ℕ) → low ≤ stage → stage ≤ high → leading low high next stage ≡ Some next
 leading_so low high next stage p q = rw (le-leb low stage p, le-leb stage high q)
 
-pub leading_inv : (low high next stage s : ℕ) → leading low high next stage ≡ some s → (low ≤ stage) × (stage ≤ high) × (next ≡ s)
+pub leading_inv : (low high next stage s : ℕ) → leading low high next stage ≡ Some s → (low ≤ stage) × (stage ≤ high) × (next ≡ s)
 leading_inv low high next stage s e =
-    let n = need_inv (leb low stage && leb stage high) none (some s) _ none_some e in
+    let n = need_inv (leb low stage && leb stage high) None (Some s) _ none_some e in
     let r = and_inv (leb low stage) (leb stage high) n.0 in
     (leb-true _ _ r.0, leb-true _ _ r.1, cc)
 
@@ -167,7 +167,7 @@ pub record Judged (l : List ℕ) (st after : State) : Type 0 where
   pub long : 1 ≤ length l
   pub known : is_role (role_in l) ≡ true
   pub stage : ℕ
-  pub order : order_of (role_in l) st ≡ some stage
+  pub order : order_of (role_in l) st ≡ Some stage
   pub left : Leaves l (moved stage st) (role_in l) after
 
 pub judged : (l : List ℕ) (st after : State) → judge l st ≡ says after → Judged l st after

@@ -1,10 +1,10 @@
 -- Points that document 01 settles, for all values, each with its sentence. Assumes nothing.
+use Rattle.std.specs.Prelude.{Err, None, Option, Some}
 use Prim.Native.Nat.{ℕ, zero, suc, ◌+◌, ◌-◌, ◌*◌, ◌^◌, ◌≤◌, ◌<◌}
 use Prim.Native.Char.{code}
 use Prim.Native.String.{String}
 use mathlib.Core.Bool.{Bool, true, false, not, ◌&&◌, ◌||◌}
 use mathlib.Core.List.{List, [], ◌∷◌, map}
-use mathlib.Core.Option.{Option, none, some}
 use mathlib.Core.Path.{◌≡◌, refl, sym, ap, ◌∙◌}
 use native.Mathlib.Nat.{one-le-pow}
 use native.Mathlib.Omega.{arith}
@@ -15,7 +15,7 @@ use lib.Ieee.Scale.{round_same}
 use lib.IntN.{ℤ, pos, negsuc, neg_ℤ}
 use lib.ListN.{length, get_or}
 use Rattle.rules.specs.Choice.{given, first_of, bytes}
-use Rattle.rules.specs.Refusals.{says, refuses, number, value_or}
+use Rattle.rules.specs.Refusals.{says, refuses, number, value_or, result_told}
 use Rattle.rules.specs.Fields.{is_either, year_of}
 use Rattle.rules.specs.Degrees.{quotient, is_negated, angle, is_fine_position, degrees_of}
 use Rattle.rules.specs.Listed.{listed, unlisted, listed_number, packed_of}
@@ -23,7 +23,7 @@ use Rattle.rules.specs.Layouts.{empty_layout, allowed}
 use Rattle.rules.specs.Order.{onward, next_day, back, passing}
 use Rattle.rules.specs.Files.{verdict, good_lines, table_after}
 use Rattle.rules.specs.Reads.{layout_said}
-use Rattle.rules.specs.Writes.{is_fix, written, out_after, wrote_told}
+use Rattle.rules.specs.Writes.{is_fix, written, out_after}
 use Rattle.rules.specs.Promises.{Written}
 use Rattle.rules.specs.declared.Refusal.{Refusal}
 use Rattle.rules.specs.declared.FinePosition.{FinePosition}
@@ -31,7 +31,6 @@ use Rattle.rules.specs.declared.Listed.{Listed}
 use Rattle.rules.specs.declared.Layout.{Layout}
 use Rattle.rules.specs.declared.Family.TheVariants as family
 use Rattle.rules.specs.declared.Fix.{Fix}
-use Rattle.rules.specs.declared.Wrote.TheVariants as wrote
 use Rattle.rules.proofs.Inverse.{and_inv}
 use Rattle.rules.proofs.Computed.{everything}
 use Rattle.rules.proofs.Damaged.{five_layout}
@@ -80,7 +79,7 @@ empty_leaves seal table = refl
 
 pub long_leaves : (seal : Seal) (file table : List ℕ) → 16777216 < length file → table_after seal file table ≡ table
 unfolding table_after good_lines
-long_leaves seal file table h = rw (long_file seal file (some (length table)) h)
+long_leaves seal file table h = rw (long_file seal file (Some (length table)) h)
 
 -- ---- degrees
 
@@ -137,21 +136,21 @@ below_all test (suc k) n e p = let t = and_inv (test k) (below test k) e in belo
 abbrev is_at : ℕ → Bool
 is_at n = given (listed_number (get_or listed n unlisted).code) false (eqb n)
 
-given_eqb : (o : Option ℕ) (n : ℕ) → given o false (eqb n) ≡ true → o ≡ some n
-given_eqb (some m) n e = ap some (sym (eqb-true n m e))
-given_eqb none n e = let z : ◌≡◌ {A = ℕ} 0 1 = cc in absurd (omega arith)
+given_eqb : (o : Option ℕ) (n : ℕ) → given o false (eqb n) ≡ true → o ≡ Some n
+given_eqb (Some m) n e = ap Some (sym (eqb-true n m e))
+given_eqb None n e = let z : ◌≡◌ {A = ℕ} 0 1 = cc in absurd (omega arith)
 
 all_numbered : below is_at 15 ≡ true
 unfolding listed_number first_of listed bytes
 all_numbered = refl
 
-pub numbered : (n : ℕ) → n < 15 → listed_number (get_or listed n unlisted).code ≡ some n
+pub numbered : (n : ℕ) → n < 15 → listed_number (get_or listed n unlisted).code ≡ Some n
 numbered n h = given_eqb (listed_number (get_or listed n unlisted).code) n (below_all is_at 15 n all_numbered h)
 
 -- no code is listed twice
 pub listed_once : (m n : ℕ) → m < 15 → n < 15 → (get_or listed m unlisted).code ≡ (get_or listed n unlisted).code → m ≡ n
 listed_once m n h g e =
-    let a : some m ≡ some n = sym (numbered m h) ∙ ap listed_number e ∙ numbered n g in
+    let a : Some m ≡ Some n = sym (numbered m h) ∙ ap listed_number e ∙ numbered n g in
     cc
 
 -- ---- layouts
@@ -237,6 +236,6 @@ unfolding written
 room_enough text place out h = rw (le-leb (place + length text + 2) (length out) h)
 
 -- "a refused write changes no byte"
-pub unchanged : (good : Bool) (text : List ℕ) (place : ℕ) (out : List ℕ) (w : Refusal) (after : List ℕ) → Written good text place out (wrote.Refused w) after → after ≡ out
-unfolding wrote_told out_after
+pub unchanged : (good : Bool) (text : List ℕ) (place : ℕ) (out : List ℕ) (w : Refusal) (after : List ℕ) → Written good text place out (Err w) after → after ≡ out
+unfolding result_told out_after
 unchanged good text place out w after p = rw (← p.told) at p.bytes

@@ -1,8 +1,8 @@
 -- The check knows that a file is signed exactly where its lines have come past a G line; and the strict check says what the usual one says of a signed file. Assumes nothing.
+use Rattle.std.specs.Prelude.{None, Option, Some}
 use Prim.Native.Nat.{ℕ, ◌+◌, ◌≤◌}
 use mathlib.Core.Bool.{Bool, true, false, ◌||◌, cond}
 use mathlib.Core.List.{List}
-use mathlib.Core.Option.{Option, none, some}
 use mathlib.Core.Path.{◌≡◌, refl, sym, ◌∙◌, ap}
 use native.Mathlib.Omega.{arith}
 use borrow.Author.Tests.{le-leb, lt-leb, leb-true, leb-false}
@@ -56,12 +56,12 @@ module _ (s c : ℕ) where
   abbrev Past : Bool → Type 0
   Past b = leb after_g c ≡ (b || leb after_g s)
 
-  before_g : (low high next : ℕ) → high ≤ in_body → next ≤ in_body → leading low high next s ≡ some c → Past false
+  before_g : (low high next : ℕ) → high ≤ in_body → next ≤ in_body → leading low high next s ≡ Some c → Past false
   before_g low high next h n o =
       let i = leading_inv low high next s c o in
       lt-leb after_g c (omega (arith, i.2)) ∙ sym (lt-leb after_g s (omega (arith, i.1)))
 
-  remark_past : (b : Bool) → cond b (leading after_h in_body in_body s) (leading after_g after_last_g after_last_g s) ≡ some c → Past false
+  remark_past : (b : Bool) → cond b (leading after_h in_body in_body s) (leading after_g after_last_g after_last_g s) ≡ Some c → Past false
   remark_past true o = before_g after_h in_body in_body (omega arith) (omega arith) o
   remark_past false o =
       let i = leading_inv after_g after_last_g after_last_g s c o in
@@ -72,7 +72,7 @@ module _ (s c : ℕ) where
   told_early (family.Extra extra.K) = omega arith
   told_early (family.Extra extra.N) = omega arith
 
-  past : (r : Role) → stage_after r s ≡ some c → Past (is_sealing r)
+  past : (r : Role) → stage_after r s ≡ Some c → Past (is_sealing r)
   unfolding stage_after
   past role.Opens o = before_g at_start at_start after_a (omega arith) (omega arith) o
   past role.Heads o = before_g after_a after_h after_h (omega arith) (omega arith) o
@@ -96,7 +96,7 @@ unfolding order_of
 signed_next l st after e h =
     let j = judged l st after e in
     let w = left l (moved j.stage st) j.left in
-    let o = need_inv (fits_declaration _ st) none (some j.stage) _ none_some j.order in
+    let o = need_inv (fits_declaration _ st) None (Some j.stage) _ none_some j.order in
     w.signed ∙ ap (λ b. is_sealing (role_in l) || b) h ∙ sym (past st.stage j.stage (role_in l) o.1) ∙ ap (leb after_g) (sym w.stage)
 
 -- ---- the whole file

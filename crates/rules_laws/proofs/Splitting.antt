@@ -1,8 +1,8 @@
 -- A file and its lines: how a file is cut, that nothing is lost, and that a step and the table's entries lead to the lines in their order. Assumes nothing.
+use Rattle.std.specs.Prelude.{None, Some}
 use Prim.Native.Nat.{ℕ, zero, suc, ◌+◌, ◌-◌, ◌≤◌, ◌<◌}
 use mathlib.Core.Bool.{Bool, true, false, cond}
 use mathlib.Core.List.{List, [], ◌∷◌, ◌++◌}
-use mathlib.Core.Option.{none, some}
 use mathlib.Core.Path.{◌≡◌, refl, sym, ap, ◌∙◌}
 use native.Mathlib.Omega.{arith}
 use borrow.Author.Tests.{le-leb, eq-eqb, ne_eqb, eqb-true, eqb-false}
@@ -127,19 +127,19 @@ lengths_total file w = sym (length_unlines (lines_of file)) ∙ ap length (file_
 
 -- ---- the first CR LF is the line's end
 
-first_text : (t rest : List ℕ) (at : ℕ) → Text t → first_crlf at (t ++ 13 ∷ 10 ∷ rest) ≡ some (at + length t)
+first_text : (t rest : List ℕ) (at : ℕ) → Text t → first_crlf at (t ++ 13 ∷ 10 ∷ rest) ≡ Some (at + length t)
 unfolding first_crlf begins_crlf
-first_text [] rest at h = ap some (omega arith)
-first_text (b ∷ t) rest at h = simp (ne_eqb _ _ h.0) (first_text t rest (at + 1) h.2 ∙ ap some (omega arith))
+first_text [] rest at h = ap Some (omega arith)
+first_text (b ∷ t) rest at h = simp (ne_eqb _ _ h.0) (first_text t rest (at + 1) h.2 ∙ ap Some (omega arith))
 
-pub first_is_end : (l t : List ℕ) (ls : Lines) (at : ℕ) → lines_of l ≡ line t ls → first_crlf at l ≡ some (at + length t)
+pub first_is_end : (l t : List ℕ) (ls : Lines) (at : ℕ) → lines_of l ≡ line t ls → first_crlf at l ≡ Some (at + length t)
 first_is_end l t ls at e = let c = cut l t ls e in rw c.bytes (first_text t c.rest at c.clear)
 
 -- ---- a line at a place of the file
 
 pub record LineAt (file : List ℕ) (at : ℕ) (t : List ℕ) (ls : Lines) : Type 0 where
   pub inside : at + length t + 2 ≤ length file
-  pub ends : first_crlf at (drop at file) ≡ some (at + length t)
+  pub ends : first_crlf at (drop at file) ≡ Some (at + length t)
   pub text : part at (at + length t) file ≡ t
   pub starts : is_start file (at + length t + 2) ≡ true
   pub after : lines_of (drop (at + length t + 2) file) ≡ ls
@@ -177,19 +177,19 @@ line_at file at t ls e =
 
 -- what the steps from a place on find: each line in its order, and then that none is left; nothing is claimed from a broken line on
 abbrev pub Steps : List ℕ → ℕ → Lines → Type 0
-Steps file at end = step_at file at ≡ says (record { found = none; next = at })
+Steps file at end = step_at file at ≡ says (record { found = None; next = at })
 Steps file at (broken n) = Unit {0}
 Steps file at (line t ls) =
-    (step_at file at ≡ says (record { found = some (record { from = at; to = at + length t }); next = at + length t + 2 }))
+    (step_at file at ≡ says (record { found = Some (record { from = at; to = at + length t }); next = at + length t + 2 }))
     × (part at (at + length t) file ≡ t)
     × Steps file (at + length t + 2) ls
 
-step_none : (file : List ℕ) (at : ℕ) → at ≡ length file → step_at file at ≡ says (record { found = none; next = at })
+step_none : (file : List ℕ) (at : ℕ) → at ≡ length file → step_at file at ≡ says (record { found = None; next = at })
 unfolding step_at
 step_none file at e = rw (le-leb at (length file) (omega arith), eq-eqb at (length file) e)
 
-step_line : (file : List ℕ) (at e : ℕ) → at < length file → first_crlf at (drop at file) ≡ some e
-    → step_at file at ≡ says (record { found = some (record { from = at; to = e }); next = e + 2 })
+step_line : (file : List ℕ) (at e : ℕ) → at < length file → first_crlf at (drop at file) ≡ Some e
+    → step_at file at ≡ says (record { found = Some (record { from = at; to = e }); next = e + 2 })
 unfolding step_at
 step_line file at e h f = rw (le-leb at (length file) (omega arith), ne_eqb at (length file) (λ z. omega arith), f)
 
@@ -214,7 +214,7 @@ texts_of (line t ls) = t ∷ texts_of ls
 -- an offset that leads to a line
 pub record Leads (file : List ℕ) (o : ℕ) (t : List ℕ) : Type 0 where
   pub start : is_start file o ≡ true
-  pub ends : first_crlf o (drop o file) ≡ some (o + length t)
+  pub ends : first_crlf o (drop o file) ≡ Some (o + length t)
   pub text : part o (o + length t) file ≡ t
 
 pub length_offsets : (k : Lines) (at : ℕ) → length (offsets at k) ≡ length (texts_of k)

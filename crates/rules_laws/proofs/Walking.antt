@@ -1,11 +1,11 @@
 -- A walk over the lines of a file keeps step with its check: a line that passes has the time that the walk reads, and leaves the clock and the count of lines that the walk
 -- has. Days rise at a fall of more than 43,200 seconds alone. Assumes nothing.
+use Rattle.std.specs.Prelude.{None, Option, Some}
 use Prim.Native.Nat.{ℕ, ◌+◌, ◌-◌, ◌%◌}
 use Prim.Native.Char.{code}
 use Prim.Native.String.{String}
 use mathlib.Core.Bool.{false, cond}
 use mathlib.Core.List.{List, [], ◌∷◌}
-use mathlib.Core.Option.{Option, none, some}
 use mathlib.Core.Path.{◌≡◌, refl, sym, ap, ◌∙◌}
 use lib.Dec.{eqb}
 use lib.ListN.{length, get_or, drop}
@@ -33,7 +33,7 @@ use Rattle.rules_laws.proofs.Counted.{judged_more}
 
 -- ---- the time of a line that passes stands at 2 to 7
 
-fix_time : (l : List ℕ) (f : FixFields) → fix_fields l ≡ says f → time_at l 1 ≡ some f.time
+fix_time : (l : List ℕ) (f : FixFields) → fix_fields l ≡ says f → time_at l 1 ≡ Some f.time
 unfolding fix_fields on
 fix_time l f e =
     let t = given_inv (time_at l 1) _ (says f) _ refuses_says e in
@@ -43,9 +43,9 @@ fix_time l f e =
     let p = given_inv (altitude_at l 25) _ (says f) _ refuses_says v.1 in
     let g = given_inv (altitude_at l 30) _ (says f) _ refuses_says p.2 in
     let i : t.0 ≡ f.time = cc in
-    t.1 ∙ ap some i
+    t.1 ∙ ap Some i
 
-pub columned_time : (f : Family) (layout : Layout) (t : ℕ) (l : List ℕ) → columned_line f layout l ≡ says t → time_at l 1 ≡ some t
+pub columned_time : (f : Family) (layout : Layout) (t : ℕ) (l : List ℕ) → columned_line f layout l ≡ says t → time_at l 1 ≡ Some t
 unfolding columned_line b_line extra_line
 columned_time family.B layout t l e =
     let r = then_inv (b_line layout l) t _ e in
@@ -53,24 +53,24 @@ columned_time family.B layout t l e =
     let x = then_inv (fix_fields l) r.0 _ s.2 in
     let c = then_inv (columns (at_limit x.0) l layout) r.0 _ x.2 in
     let i : x.0.time ≡ t = cc in
-    fix_time l x.0 x.1 ∙ ap some i
+    fix_time l x.0 x.1 ∙ ap Some i
 columned_time (family.Extra x) layout t l e =
     let s = then_inv (shaped_by 8 layout l) t _ e in
     let x = given_inv (time_at l 1) _ (says t) _ refuses_says s.2 in
     let c = then_inv (columns off_limit l layout) t _ x.2 in
     let i : x.0 ≡ t = cc in
-    x.1 ∙ ap some i
+    x.1 ∙ ap Some i
 
-pub event_time : (t : ℕ) (l : List ℕ) → e_line l ≡ says t → time_at l 1 ≡ some t
+pub event_time : (t : ℕ) (l : List ℕ) → e_line l ≡ says t → time_at l 1 ≡ Some t
 unfolding e_line
 event_time t l e =
     let s = then_inv (shaped 10 255 false l) t _ e in
     let x = given_inv (time_at l 1) _ (says t) _ refuses_says s.2 in
     let c = need_inv (codes_at l 7 3) _ (says t) _ refuses_says x.2 in
     let i : x.0 ≡ t = cc in
-    x.1 ∙ ap some i
+    x.1 ∙ ap Some i
 
-pub satellites_time : (t : ℕ) (l : List ℕ) → f_line l ≡ says t → time_at l 1 ≡ some t
+pub satellites_time : (t : ℕ) (l : List ℕ) → f_line l ≡ says t → time_at l 1 ≡ Some t
 unfolding f_line
 satellites_time t l e =
     let s = then_inv (shaped 7 255 false l) t _ e in
@@ -78,11 +78,11 @@ satellites_time t l e =
     let n = need_inv (eqb ((length l - 7) % 2) 0) _ (says t) _ refuses_says x.2 in
     let p = given_none (bad_pair 7 (drop 7 l)) (says x.0) (says t) _ (λ v. refuses_says) n.1 in
     let i : x.0 ≡ t = cc in
-    x.1 ∙ ap some i
+    x.1 ∙ ap Some i
 
 -- ---- the clock that a line leaves, by its role
 
-pub left_clock : (l : List ℕ) (m : State) {r : Role} {after : State} → Leaves l m r after → after.clock ≡ given (cond (is_timed r) (time_at l 1) none) m.clock (λ t. t)
+pub left_clock : (l : List ℕ) (m : State) {r : Role} {after : State} → Leaves l m r after → after.clock ≡ given (cond (is_timed r) (time_at l 1) None) m.clock (λ t. t)
 left_clock l m (passes.opens e) = refl
 left_clock l m (passes.date d n e) = refl
 left_clock l m (passes.header n e) = refl
@@ -116,12 +116,12 @@ both_go l st after w e h =
     }
   where
     lines : (o : Option ℕ) → (walked_by o w).lines ≡ st.flight.lines + 1
-    lines none = ap (λ (n : ℕ). n + 1) h.lines
-    lines (some t) = ap (λ (n : ℕ). n + 1) h.lines
+    lines None = ap (λ (n : ℕ). n + 1) h.lines
+    lines (Some t) = ap (λ (n : ℕ). n + 1) h.lines
 
     clock : (o : Option ℕ) → (walked_by o w).clock ≡ given o st.clock (λ t. t)
-    clock none = h.clock
-    clock (some t) = refl
+    clock None = h.clock
+    clock (Some t) = refl
 
 -- ---- days counted
 

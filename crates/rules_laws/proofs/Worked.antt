@@ -1,4 +1,6 @@
 -- Lines and files with the answers that document 01 gives, beside its sentences: a table for each subject, computed. Assumes nothing.
+use Rattle.rules.specs.declared.Date.{Date}
+use Rattle.std.specs.Prelude.{None, Option, Some}
 use Prim.Native.Nat.{ℕ}
 use Prim.Native.Char.{code}
 use Prim.Native.String.{String}
@@ -14,8 +16,6 @@ use Rattle.rules.specs.Split.{bounds_of, step_at}
 use Rattle.rules.specs.Reads.{fix_said, event_said, satellites_said, layout_said, head_said, point_said}
 use Rattle.rules.specs.declared.Extra.TheVariants as extra
 use Rattle.rules.specs.declared.Family.TheVariants as family
-use Rattle.rules.specs.declared.Planned.{Planned}
-use Rattle.rules.specs.declared.Planned.TheVariants as planned
 use Rattle.rules.proofs.Computed.{everything, file_of, agree, Example, hold}
 use Rattle.rules.proofs.Damaged.{lines_in, column_in, five_lines}
 use Rattle.rules.proofs.Marked.{pressure, year, b_length}
@@ -29,9 +29,9 @@ unfoldable pub longitude_letter : List ℕ → Said ℤ
 longitude_letter l = and_then (fix_said l empty_layout) λ f. says (pos f.lon.letter)
 
 -- 1 where the flight date is given, else 0
-abbrev is_given : Planned → ℕ
-is_given (planned.On d) = 1
-is_given planned.NotGiven = 0
+abbrev is_given : Option Date → ℕ
+is_given (Some d) = 1
+is_given None = 0
 
 unfoldable pub flight : List ℕ → Said ℤ
 flight l = and_then (head_said l) λ h. says (pos (is_given h.flight))

@@ -22,7 +22,7 @@ use Rattle.rules.specs.declared.Head.{Head}
 use Rattle.rules.specs.declared.Point.{Point}
 use Rattle.rules.specs.declared.Flight.{Flight}
 use Rattle.rules.specs.declared.Seal.{Seal}
-use Rattle.rules_only.proofs.Told.{OneToOne, altitude_one, column_one, date_one, day_one, degrees_one, digits_one, fix_fields_one, fix_reading_one, extra_reading_one, found_one, head_one, length_one, line_one, outcome_one, position_one, point_one, presence_one, time_one, timed_one, value_one, whole_one, wrote_one}
+use Rattle.rules_only.proofs.Told.{OneToOne, result_one, fix_reading_one, extra_reading_one}
 
 -- ---- what is claimed
 
@@ -43,27 +43,21 @@ module _ {T B : Type 0} where
   pub alike : {told : T → B} {x : B} → OneToOne told → Only (λ r. told r ≡ x)
   alike one r r' e e' = one r r' (e ∙ sym e')
 
--- ---- answers with a value beside them
-
-pub layout_only : {s : Said Layout} → Only (LayoutTold s)
-layout_only r r' e e' =
-    let answer : r.outcome ≡ r'.outcome = alike outcome_one r.outcome r'.outcome e.answer e'.answer in
-    let layout : r.layout ≡ r'.layout = same r.layout r'.layout e.layout e'.layout in
-    λ i. record { outcome = answer i; layout = layout i }
+-- ---- an answer with a value beside it
 
 pub checked_only : {s : Said Flight} → Only (CheckedTold s)
 checked_only r r' e e' =
-    let answer : r.outcome ≡ r'.outcome = alike outcome_one r.outcome r'.outcome e.answer e'.answer in
+    let answer : r.outcome ≡ r'.outcome = alike result_one r.outcome r'.outcome e.answer e'.answer in
     let flight : r.flight ≡ r'.flight = same r.flight r'.flight e.flight e'.flight in
     λ i. record { outcome = answer i; flight = flight i }
 
 -- ---- digits and whole numbers
 
 pub only_digits_given : (s : List ℕ) (at n : ℕ) → Only (DigitsGiven s at n)
-only_digits_given s at n = alike digits_one
+only_digits_given s at n = same
 
 pub only_whole_given : (t : List ℕ) → Only (WholeGiven t)
-only_whole_given t = alike whole_one
+only_whole_given t = same
 
 pub only_digits_put : (n v at : ℕ) (out : List ℕ) → Only (DigitsPut n v at out)
 only_digits_put n v at out = same
@@ -80,7 +74,7 @@ pub only_valid_test : (in_h : Bool) (b : ℕ) → Only (ValidTest in_h b)
 only_valid_test in_h b = same
 
 pub only_invalid_found : (in_h : Bool) (l : List ℕ) → Only (InvalidFound in_h l)
-only_invalid_found in_h l = alike found_one
+only_invalid_found in_h l = same
 
 pub only_codes_test : (l : List ℕ) (at n : ℕ) → Only (CodesTest l at n)
 only_codes_test l at n = same
@@ -94,19 +88,19 @@ only_either_test x a b = same
 -- ---- fields, read at a place and put at a place
 
 pub only_time_at : (s : List ℕ) (at : ℕ) → Only (TimeAt s at)
-only_time_at s at = alike time_one
+only_time_at s at = same
 
 pub only_date_at : (s : List ℕ) (at : ℕ) → Only (DateAt s at)
-only_date_at s at = alike day_one
+only_date_at s at = same
 
 pub only_latitude_at : (s : List ℕ) (at : ℕ) → Only (LatitudeAt s at)
-only_latitude_at s at = alike position_one
+only_latitude_at s at = same
 
 pub only_longitude_at : (s : List ℕ) (at : ℕ) → Only (LongitudeAt s at)
-only_longitude_at s at = alike position_one
+only_longitude_at s at = same
 
 pub only_altitude_at : (s : List ℕ) (at : ℕ) → Only (AltitudeAt s at)
-only_altitude_at s at = alike altitude_one
+only_altitude_at s at = same
 
 pub only_time_put : (t at : ℕ) (out : List ℕ) → Only (TimePut t at out)
 only_time_put t at out = same
@@ -124,7 +118,7 @@ pub only_altitude_put : (h : Height) (at : ℕ) (out : List ℕ) → Only (Altit
 only_altitude_put h at out = same
 
 pub only_degrees_given : (lat lon : FinePosition) → Only (DegreesGiven lat lon)
-only_degrees_given lat lon = alike degrees_one
+only_degrees_given lat lon = alike result_one
 
 -- ---- layouts
 
@@ -135,10 +129,10 @@ pub only_allowed_test : (f : Family) (l : Layout) → Only (AllowedTest f l)
 only_allowed_test f l = same
 
 pub only_length_given : (f : Family) (l : Layout) → Only (LengthGiven f l)
-only_length_given f l = alike length_one
+only_length_given f l = alike result_one
 
 pub only_presence_given : (l : Layout) → Only (PresenceGiven l)
-only_presence_given l = alike presence_one
+only_presence_given l = alike result_one
 
 pub only_column_test : (x : ℕ) (t : List ℕ) → Only (ColumnTest x t)
 only_column_test x t = same
@@ -149,46 +143,46 @@ pub only_kind_given : (b : ℕ) → Only (KindGiven b)
 only_kind_given b = same
 
 pub only_shape_checked : (least most : ℕ) (in_h : Bool) (l : List ℕ) → Only (ShapeChecked least most in_h l)
-only_shape_checked least most in_h l = alike outcome_one
+only_shape_checked least most in_h l = alike result_one
 
 pub only_columns_checked : (at : AtLimit) (l : List ℕ) (layout : Layout) → Only (ColumnsChecked at l layout)
-only_columns_checked at l layout = alike outcome_one
+only_columns_checked at l layout = alike result_one
 
 pub only_recorder_checked : (l : List ℕ) → Only (RecorderChecked l)
-only_recorder_checked l = alike outcome_one
+only_recorder_checked l = alike result_one
 
 pub only_date_line_checked : (l : List ℕ) → Only (DateLineChecked l)
-only_date_line_checked l = alike date_one
+only_date_line_checked l = alike result_one
 
 pub only_header_checked : (l : List ℕ) → Only (HeaderChecked l)
-only_header_checked l = alike outcome_one
+only_header_checked l = alike result_one
 
 pub only_layout_checked : (f : Family) (l : List ℕ) → Only (LayoutChecked f l)
-only_layout_checked f l = layout_only
+only_layout_checked f l = alike result_one
 
 pub only_head_checked : (l : List ℕ) → Only (HeadChecked l)
-only_head_checked l = alike head_one
+only_head_checked l = alike result_one
 
 pub only_point_checked : (l : List ℕ) → Only (PointChecked l)
-only_point_checked l = alike point_one
+only_point_checked l = alike result_one
 
 pub only_differential_checked : (l : List ℕ) → Only (DifferentialChecked l)
-only_differential_checked l = alike outcome_one
+only_differential_checked l = alike result_one
 
 pub only_event_checked : (l : List ℕ) → Only (EventChecked l)
-only_event_checked l = alike timed_one
+only_event_checked l = alike result_one
 
 pub only_satellites_checked : (l : List ℕ) → Only (SatellitesChecked l)
-only_satellites_checked l = alike timed_one
+only_satellites_checked l = alike result_one
 
 pub only_fix_checked : (l : List ℕ) (layout : Layout) → Only (FixChecked l layout)
-only_fix_checked l layout = alike fix_fields_one
+only_fix_checked l layout = alike result_one
 
 pub only_extra_checked : (l : List ℕ) (layout : Layout) → Only (ExtraChecked l layout)
-only_extra_checked l layout = alike timed_one
+only_extra_checked l layout = alike result_one
 
 pub only_columned_checked : (f : Family) (l : List ℕ) (layout : Layout) → Only (ColumnedChecked f l layout)
-only_columned_checked f l layout = alike timed_one
+only_columned_checked f l layout = alike result_one
 
 -- ---- lines: the readers
 
@@ -199,25 +193,25 @@ pub only_extra_given : (x : Extra) (l : List ℕ) (layout : Layout) → Only (Ex
 only_extra_given x l layout = alike extra_reading_one
 
 pub only_event_given : (l : List ℕ) → Only (EventGiven l)
-only_event_given l = alike timed_one
+only_event_given l = alike result_one
 
 pub only_satellites_given : (l : List ℕ) → Only (SatellitesGiven l)
-only_satellites_given l = alike timed_one
+only_satellites_given l = alike result_one
 
 pub only_date_given : (l : List ℕ) → Only (DateGiven l)
-only_date_given l = alike date_one
+only_date_given l = alike result_one
 
 pub only_layout_given : (f : Family) (l : List ℕ) → Only (LayoutGiven f l)
-only_layout_given f l = layout_only
+only_layout_given f l = alike result_one
 
 pub only_head_given : (l : List ℕ) → Only (HeadGiven l)
-only_head_given l = alike head_one
+only_head_given l = alike result_one
 
 pub only_head_rest : (l : List ℕ) → Only (HeadRest l)
 only_head_rest l = same
 
 pub only_point_given : (l : List ℕ) → Only (PointGiven l)
-only_point_given l = alike point_one
+only_point_given l = alike result_one
 
 pub only_point_rest : (l : List ℕ) → Only (PointRest l)
 only_point_rest l = same
@@ -225,13 +219,13 @@ only_point_rest l = same
 -- ---- a column
 
 pub only_look_given : (l : List ℕ) (es : Layout) (name : List ℕ) → Only (LookGiven l es name)
-only_look_given l es name = alike column_one
+only_look_given l es name = alike result_one
 
 pub only_look_text_given : (l : List ℕ) (es : Layout) (name : List ℕ) → Only (LookTextGiven l es name)
 only_look_text_given l es name = same
 
 pub only_look_number_given : (l : List ℕ) (es : Layout) (name : List ℕ) → Only (LookNumberGiven l es name)
-only_look_number_given l es name = alike value_one
+only_look_number_given l es name = alike result_one
 
 -- ---- files
 
@@ -242,7 +236,7 @@ pub only_file_judged : (seal : Seal) (file : List ℕ) → Only (FileJudged seal
 only_file_judged seal file = checked_only
 
 pub only_line_given : (file table : List ℕ) (n : ℕ) → Only (LineGiven file table n)
-only_line_given file table n = alike line_one
+only_line_given file table n = alike result_one
 
 pub only_line_text_given : (file table : List ℕ) (n : ℕ) → Only (LineTextGiven file table n)
 only_line_text_given file table n = same
@@ -250,7 +244,7 @@ only_line_text_given file table n = same
 -- ---- writers
 
 pub only_written : (good : Bool) (text : List ℕ) (place : ℕ) (out : List ℕ) → OnlyBoth (Written good text place out)
-only_written good text place out r r' after after' e e' = (alike wrote_one r r' e.told e'.told, same after after' e.bytes e'.bytes)
+only_written good text place out r r' after after' e e' = (alike result_one r r' e.told e'.told, same after after' e.bytes e'.bytes)
 
 pub only_fix_written : (f : Fix) (tail : List ℕ) (layout : Layout) (place : ℕ) (out : List ℕ) → OnlyBoth (FixWritten f tail layout place out)
 only_fix_written f tail layout place out = only_written (is_fix f tail layout) (fix_text f tail) place out

@@ -1,5 +1,6 @@
 -- A line and its value, both written out by hand, for each kind that has a writer: the line reads as the value, and the text of the value is the line. Each of the two is computed apart, so that
 -- a slip made alike in a reader and in a text is caught: no two fields of one form are the same in a line. Computed. Assumes nothing.
+use Rattle.std.specs.Prelude.{None, Some}
 use Prim.Native.Nat.{ℕ}
 use Prim.Native.Char.{code}
 use mathlib.Core.List.{List, [], ◌∷◌}
@@ -17,7 +18,6 @@ use Rattle.rules.specs.declared.Family.TheVariants as family
 use Rattle.rules.specs.declared.Fix.{Fix}
 use Rattle.rules.specs.declared.Head.{Head}
 use Rattle.rules.specs.declared.Layout.{Layout}
-use Rattle.rules.specs.declared.Planned.TheVariants as planned
 use Rattle.rules.specs.declared.Point.{Point}
 use Rattle.rules.proofs.Computed.{everything}
 
@@ -156,7 +156,7 @@ unfolding bytes
 head_line = bytes "C280299061507010300041712TRIANGLE"
 
 abbrev pub head : Head
-head = record { declared = record { day = 28; month = 2; year = 1999 }; time = 22507; flight = planned.On (record { day = 1; month = 3; year = 2000 }); task = 417; turns = 12 }
+head = record { declared = record { day = 28; month = 2; year = 1999 }; time = 22507; flight = Some (record { day = 1; month = 3; year = 2000 }); task = 417; turns = 12 }
 
 pub head_read : (head_said head_line ≡ says head) × (head_rest head_line (says head) ≡ bytes "TRIANGLE")
 unfolding everything
@@ -172,7 +172,7 @@ unfolding bytes
 dateless = bytes "C311279235960000000000302"
 
 abbrev pub dateless_head : Head
-dateless_head = record { declared = record { day = 31; month = 12; year = 2079 }; time = 86400; flight = planned.NotGiven; task = 3; turns = 2 }
+dateless_head = record { declared = record { day = 31; month = 12; year = 2079 }; time = 86400; flight = None; task = 3; turns = 2 }
 
 pub dateless_read : (head_said dateless ≡ says dateless_head) × (head_rest dateless (says dateless_head) ≡ [])
 unfolding everything

@@ -1,9 +1,9 @@
 -- The columns of a layout that a line tells: each is found by its code, they keep their rules exactly where the line passes, and they cover the line from the first start
 -- to its end. Assumes nothing.
+use Rattle.std.specs.Prelude.{None, Option, Some}
 use Prim.Native.Nat.{ℕ, suc, ◌+◌, ◌-◌, ◌≤◌}
 use mathlib.Core.Bool.{true, false, not}
 use mathlib.Core.List.{List, [], ◌∷◌, ◌++◌, append_assoc}
-use mathlib.Core.Option.{Option, none, some}
 use mathlib.Core.Path.{◌≡◌, refl, ap, subst, ◌∙◌}
 use native.Mathlib.Omega.{arith}
 use borrow.Author.Tests.{eqb-true, eq-eqb, ne_eqb, not-false}
@@ -13,7 +13,8 @@ use Rattle.rules.specs.Choice.{given, first_of, byte, Each}
 use Rattle.rules.specs.Refusals.{says, no}
 use Rattle.rules.specs.Listed.{keeps_limit}
 use Rattle.rules.specs.declared.Reason.TheVariants.{Column}
-use Rattle.rules.specs.Layouts.{unused, empty_layout, with_entry, entries_of, Span, span_of, look, carries, line_length, column_text, bad_column, columns}
+use Rattle.rules.specs.declared.Span.{Span}
+use Rattle.rules.specs.Layouts.{unused, empty_layout, with_entry, entries_of, span_of, look, carries, line_length, column_text, bad_column, columns}
 use Rattle.rules.specs.declared.AtLimit.{AtLimit}
 use Rattle.rules.specs.declared.Entry.{Entry}
 use Rattle.rules.specs.declared.Layout.{Layout}
@@ -27,12 +28,12 @@ use Rattle.rules_sound.proofs.Placed.{laid, with_laid, Coded, carries_none, Soun
 -- ---- each column is found by its code
 
 -- a code that is carried has one
-pub carried_there : (layout : Layout) (x : ℕ) → carries layout x ≡ true → (s : Span) × (look layout x ≡ some s)
+pub carried_there : (layout : Layout) (x : ℕ) → carries layout x ≡ true → (s : Span) × (look layout x ≡ Some s)
 unfolding carries
 carried_there layout x h = let g = given_inv (look layout x) false true _ false_true h in (g.0, g.1)
 
 -- what is so of each code and its place is so of a code that was looked for, and the place that was found
-pub each_at : (P : ℕ → Span → Type 0) (layout : Layout) (x : ℕ) (s : Span) → Each (λ (e : Entry). P e.code (span_of e)) (entries_of layout) → look layout x ≡ some s → P x s
+pub each_at : (P : ℕ → Span → Type 0) (layout : Layout) (x : ℕ) (s : Span) → Each (λ (e : Entry). P e.code (span_of e)) (entries_of layout) → look layout x ≡ Some s → P x s
 unfolding look
 each_at P layout x s h e =
     let f = found_one (Coded x) (λ (k : ℕ) (d : Entry). span_of d) _ (entries_of layout) 0 s h e in
@@ -49,17 +50,17 @@ past_others x (e ∷ pre) es n h =
 
 -- each entry is the first of its code
 pub looked : (start : ℕ) (pre es : List Entry) → length pre + length es ≤ 13 → Tiled es start (laid pre)
-    → Each (λ e. first_of (Coded e.code) (λ k e. span_of e) (pre ++ es) 0 ≡ some (span_of e)) es
+    → Each (λ e. first_of (Coded e.code) (λ k e. span_of e) (pre ++ es) 0 ≡ Some (span_of e)) es
 unfolding first_of
 looked start pre [] n w = tt
 looked start pre (e ∷ es) n w =
     let f : Fits start (laid pre) e = w.1 in
     let r = looked (e.last + 1) (pre ++ (e ∷ [])) es (omega (arith, length-append pre (e ∷ []))) (subst (Tiled es (e.last + 1)) (with_laid pre e (omega arith)) w.2) in (
       past_others e.code pre (e ∷ es) 0 (each_map pre (λ x. ne_eqb x.code e.code) (carries_none pre e.code f.once)) ∙ rw (eq-eqb e.code e.code refl),
-      each_map es (λ x h. subst (λ l. first_of (Coded x.code) (λ k e. span_of e) l 0 ≡ some (span_of x)) (append_assoc pre (e ∷ []) es) h) r,
+      each_map es (λ x h. subst (λ l. first_of (Coded x.code) (λ k e. span_of e) l 0 ≡ Some (span_of x)) (append_assoc pre (e ∷ []) es) h) r,
     )
 
-pub each_looked : (start : ℕ) (layout : Layout) → Sound start layout → Each (λ (e : Entry). look layout e.code ≡ some (span_of e)) (entries_of layout)
+pub each_looked : (start : ℕ) (layout : Layout) → Sound start layout → Each (λ (e : Entry). look layout e.code ≡ Some (span_of e)) (entries_of layout)
 unfolding look
 each_looked start layout s =
     let a = (allowed_there start layout s.right s.full).0 in
@@ -75,9 +76,9 @@ module _ (at : AtLimit) (l : List ℕ) (layout : Layout) where
   unfolding columns bad_column
   ruled_there h = each_map (entries_of layout) (λ e. not-false _) (nothing_found _ (λ k e. e.first) (entries_of layout) 0 (none_there _ h))
     where
-      none_there : (o : Option ℕ) → given o (says tt) (λ first. no Column first) ≡ says (tt {0}) → o ≡ none
-      none_there none h = refl
-      none_there (some i) h = absurd (refuses_says h)
+      none_there : (o : Option ℕ) → given o (says tt) (λ first. no Column first) ≡ says (tt {0}) → o ≡ None
+      none_there None h = refl
+      none_there (Some i) h = absurd (refuses_says h)
 
   pub ruled_here : Kept → columns at l layout ≡ says tt
   unfolding columns bad_column

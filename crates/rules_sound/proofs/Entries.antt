@@ -1,8 +1,8 @@
 -- The entries of a layout line both ways: three code characters, one entry, and entries one behind the other, which each keep to the rules. Assumes nothing.
+use Rattle.std.specs.Prelude.{None, Some}
 use Prim.Native.Nat.{ℕ, zero, suc, ◌+◌, ◌*◌, ◌/◌, ◌%◌, ◌≤◌, ◌<◌}
 use mathlib.Core.Bool.{Bool, true, false, ◌&&◌, ◌||◌}
 use mathlib.Core.List.{List, [], ◌∷◌, ◌++◌, append_assoc}
-use mathlib.Core.Option.{none, some}
 use mathlib.Core.Path.{◌≡◌, refl, sym, ap, ◌∙◌}
 use native.Mathlib.Omega.{arith}
 use borrow.Author.Tests.{le-leb, leb-true}
@@ -66,10 +66,10 @@ unpacked a b c q r =
 pub packed_back : (x : ℕ) → packed (x / 65536) (x / 256 % 256) (x % 256) ≡ x
 packed_back x = omega arith
 
-pub code_there : (s : List ℕ) (at to x : ℕ) → at + 3 ≡ to → code_at s at ≡ some x → (drop at s ≡ code_text x ++ drop to s) × (is_code_word x ≡ true)
+pub code_there : (s : List ℕ) (at to x : ℕ) → at + 3 ≡ to → code_at s at ≡ Some x → (drop at s ≡ code_text x ++ drop to s) × (is_code_word x ≡ true)
 unfolding code_at codes_at is_code_word
 code_there s at to x t e =
-    let n = need_inv (leads is_code 3 (drop at s)) none (some x) _ none_some e in
+    let n = need_inv (leads is_code 3 (drop at s)) None (Some x) _ none_some e in
     let w = three (drop at s) n.0 in
     let a = byte_here s at w.a _ w.is in
     let d₁ = past s at 1 (at + 1) (w.a ∷ []) _ refl refl w.is in
@@ -84,7 +84,7 @@ code_there s at to x t e =
     let c₂ : x % 256 ≡ w.c = ap (λ l. get_or l 2 0) (sym (ap code_text i) ∙ u) in
     (w.is ∙ sym (simp (a₂, b₂, c₂, d₃)), simp (a₂, b₂, c₂, w.is_a, w.is_b, w.is_c))
 
-pub code_here : (s : List ℕ) (at x : ℕ) (r : List ℕ) → is_code_word x ≡ true → drop at s ≡ code_text x ++ r → code_at s at ≡ some x
+pub code_here : (s : List ℕ) (at x : ℕ) (r : List ℕ) → is_code_word x ≡ true → drop at s ≡ code_text x ++ r → code_at s at ≡ Some x
 unfolding code_at codes_at is_code_word leads
 code_here s at x r h e =
     let p = and_inv (is_code (x / 65536) && is_code (x / 256 % 256)) (is_code (x % 256)) h in
@@ -98,9 +98,9 @@ code_here s at x r h e =
 
 -- what an entry that was read says of the line
 pub record EntryThere (l : List ℕ) (at to start : ℕ) (before : Layout) (e : Entry) : Type 0 where
-  pub at_first : number_at l at 2 ≡ some e.first
-  pub at_last : number_at l (at + 2) 2 ≡ some e.last
-  pub at_code : code_at l (at + 4) ≡ some e.code
+  pub at_first : number_at l at 2 ≡ Some e.first
+  pub at_last : number_at l (at + 2) 2 ≡ Some e.last
+  pub at_code : code_at l (at + 4) ≡ Some e.code
   pub text : drop at l ≡ entry_text e ++ drop to l
   pub spelt : is_spelt e ≡ true
   pub fits : Fits start before e

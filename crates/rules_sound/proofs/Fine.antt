@@ -1,9 +1,9 @@
 -- A fix that was read is within the limits of its finer counts, so that the map takes its position. Assumes nothing.
+use Rattle.std.specs.Prelude.{None, Option, Some}
 use Prim.Native.Nat.{ℕ, ◌≤◌}
 use Prim.Native.Char.{code}
 use mathlib.Core.Bool.{true, false}
 use mathlib.Core.List.{List}
-use mathlib.Core.Option.{Option, none, some}
 use mathlib.Core.Path.{◌≡◌, refl}
 use borrow.Author.Tests.{le-leb, leb-true, eq-eqb}
 use lib.Dec.{leb}
@@ -13,7 +13,8 @@ use Rattle.rules.specs.Refusals.{says}
 use Rattle.rules.specs.Fields.{most_latitude, most_longitude}
 use Rattle.rules.specs.Degrees.{is_position, is_fine_position, is_latitude, is_longitude, is_fine_latitude, is_fine_longitude}
 use Rattle.rules.specs.Listed.{keeps_limit, is_zeros, lad, lod}
-use Rattle.rules.specs.Layouts.{Span, look, column_text}
+use Rattle.rules.specs.declared.Span.{Span}
+use Rattle.rules.specs.Layouts.{look, column_text}
 use Rattle.rules.specs.Lines.{at_limit}
 use Rattle.rules.specs.Limits.{is_time, good_fix_fields}
 use Rattle.rules.specs.Fixes.{no_reach, reach_of, finer_of, decimals_of, digits_at, fine_position, fix_of}
@@ -30,17 +31,17 @@ use Rattle.rules_trips.proofs.AtLimits.{limits_exactly, zero_digits, refined_wit
 use Rattle.rules_sound.proofs.Columns.{each_at, ruled_there}
 
 -- digits that are zeros wherever their column stands spell 0; without the column there are none
-no_digits : (l : List ℕ) (layout : Layout) (x : ℕ) → ((s : Span) → look layout x ≡ some s → is_zeros (column_text l s) ≡ true) → digits_at l (reach_of layout x) ≡ 0
+no_digits : (l : List ℕ) (layout : Layout) (x : ℕ) → ((s : Span) → look layout x ≡ Some s → is_zeros (column_text l s) ≡ true) → digits_at l (reach_of layout x) ≡ 0
 unfolding reach_of digits_at decimals_of number_at spell
 no_digits l layout x h = go (look layout x) refl
   where
     go : (o : Option Span) → look layout x ≡ o → digits_at l (given o no_reach λ s. record { first = s.first; last = s.last }) ≡ 0
-    go none e = refl
-    go (some s) e = zero_digits l (record { first = s.first; last = s.last }) (h s e)
+    go None e = refl
+    go (Some s) e = zero_digits l (record { first = s.first; last = s.last }) (h s e)
 
 -- one coordinate
 fine_within : (most a b : ℕ) (p : Position) (l : List ℕ) (layout : Layout) (x : ℕ) → is_position most a b p ≡ true → decimals_of (reach_of layout x) ≤ 4
-    → (p.count ≡ most → (s : Span) → look layout x ≡ some s → is_zeros (column_text l s) ≡ true)
+    → (p.count ≡ most → (s : Span) → look layout x ≡ Some s → is_zeros (column_text l s) ≡ true)
     → is_fine_position most a b (fine_position p l (reach_of layout x)) ≡ true
 unfolding is_position is_fine_position fine_position
 fine_within most a b p l layout x g d h =
@@ -59,7 +60,7 @@ fine_there l layout f e =
     let a = need_inv (is_latitude f.lat) false true _ false_true t.1 in
     let o = need_inv (is_longitude f.lon) false true _ false_true a.1 in
     let k = ruled_there (at_limit f) l layout p.ruled in
-    let c : (x : ℕ) (s : Span) → look layout x ≡ some s → keeps_limit (at_limit f) x (column_text l s) ≡ true = λ x s. each_at (λ x s. keeps_limit (at_limit f) x (column_text l s) ≡ true) layout x s k in (
+    let c : (x : ℕ) (s : Span) → look layout x ≡ Some s → keeps_limit (at_limit f) x (column_text l s) ≡ true = λ x s. each_at (λ x s. keeps_limit (at_limit f) x (column_text l s) ≡ true) layout x s k in (
       fine_within most_latitude (code "N") (code "S") f.lat l layout lad a.0 m.1 (λ i s h. ((limits_exactly (at_limit f) lad (column_text l s)).0 (c lad s h)).lat (eq-eqb _ _ i) refl),
       fine_within most_longitude (code "E") (code "W") f.lon l layout lod o.0 m.2 (λ i s h. ((limits_exactly (at_limit f) lod (column_text l s)).0 (c lod s h)).lon (eq-eqb _ _ i) refl),
     )

@@ -1,8 +1,8 @@
 -- A layout is its entries and nothing behind them; one that an I, a J or an M line tells is allowed, over the first start, and so is the empty one. Assumes nothing.
+use Rattle.std.specs.Prelude.{None, Option, Some}
 use Prim.Native.Nat.{ℕ, zero, suc, ◌+◌, ◌-◌, ◌*◌, ◌≤◌, ◌<◌}
 use mathlib.Core.Bool.{Bool, true, false, ◌&&◌}
 use mathlib.Core.List.{List, [], ◌∷◌, ◌++◌, append-nil, append_assoc}
-use mathlib.Core.Option.{Option, none, some}
 use mathlib.Core.Path.{◌≡◌, refl, sym, ap, ◌∙◌}
 use native.Mathlib.Omega.{arith}
 use borrow.Author.Tests.{le-leb, leb-true, eqb-true, eqb-false, ne_eqb}
@@ -13,7 +13,8 @@ use Rattle.rules.specs.Families.{first_start, layout_letter}
 use Rattle.rules.specs.Choice.{given, leads, first_of, Each}
 use Rattle.rules.specs.Refusals.{says}
 use Rattle.rules.specs.Numbers.{number_at}
-use Rattle.rules.specs.Layouts.{unused, empty_layout, with_entry, entries_of, Span, span_of, look, carries, entries_from, layout_fields, all_placed, is_unused, allowed}
+use Rattle.rules.specs.declared.Span.{Span}
+use Rattle.rules.specs.Layouts.{unused, empty_layout, with_entry, entries_of, span_of, look, carries, entries_from, layout_fields, all_placed, is_unused, allowed}
 use Rattle.rules.specs.Lines.{shaped, layout_line}
 use Rattle.rules.specs.Reads.{layout_said}
 use Rattle.rules.specs.declared.Entry.{Entry}
@@ -90,9 +91,9 @@ carries_none es x h =
     each_map es (λ e. eqb-false e.code x) (nothing_found (Coded x) (λ k e. span_of e) es 0
     (ap (λ y. first_of (Coded x) (λ k e. span_of e) y 0) (sym (entries_laid es)) ∙ none_there (first_of (Coded x) (λ k e. span_of e) (entries_of (laid es)) 0) h))
   where
-    none_there : (o : Option Span) → given o false (λ s. true) ≡ false → o ≡ none
-    none_there none e = refl
-    none_there (some s) e = let z : ◌≡◌ {A = ℕ} 0 1 = cc in absurd (omega arith)
+    none_there : (o : Option Span) → given o false (λ s. true) ≡ false → o ≡ None
+    none_there None e = refl
+    none_there (Some s) e = let z : ◌≡◌ {A = ℕ} 0 1 = cc in absurd (omega arith)
 
 pub none_carries : (es : List Entry) (x : ℕ) → Each (λ e. e.code ≡ x → ⊥) es → carries (laid es) x ≡ false
 unfolding carries look

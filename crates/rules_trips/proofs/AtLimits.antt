@@ -1,10 +1,10 @@
 -- A column at a limit, in parts: it keeps its rule, and holds zeros where its coordinate is at its limit. Zeros spell 0, so a finer count stays within the limit times its power
 -- of ten. Assumes nothing.
+use Rattle.std.specs.Prelude.{None, Option, Some}
 use Prim.Native.Nat.{ℕ, zero, suc, ◌+◌, ◌*◌, ◌^◌, ◌≤◌, ◌<◌}
 use mathlib.Core.Bool.{Bool, true, false, not, ◌&&◌, cond}
 use mathlib.Core.List.{List, [], ◌∷◌}
 use mathlib.Core.Logic.{◌↔◌, ◌⊎◌, inl, inr}
-use mathlib.Core.Option.{Option, none, some}
 use mathlib.Core.Path.{◌≡◌, refl}
 use native.Mathlib.Nat.{eq-or-lt_of_le, mul-le-mul_right}
 use native.Mathlib.Omega.{arith}
@@ -59,7 +59,7 @@ limits_exactly at x t = (there (is_past at x t) refl, here)
 
 -- ---- zeros spell 0
 
-zeros_spell : (n v : ℕ) (l : List ℕ) → leads (λ b. eqb b 48) (length l) l ≡ true → spell n 0 l ≡ some v → v ≡ 0
+zeros_spell : (n v : ℕ) (l : List ℕ) → leads (λ b. eqb b 48) (length l) l ≡ true → spell n 0 l ≡ Some v → v ≡ 0
 unfolding spell leads is_digit
 zeros_spell zero v l h e = let i : 0 ≡ v = cc in omega arith
 zeros_spell (suc n) v [] h e = absurd (none_some e)
@@ -73,8 +73,8 @@ unfolding digits_at number_at is_zeros
 zero_digits l r h = go (number_at (part (byte r.first) r.last l) 0 (decimals_of r)) refl
   where
     go : (o : Option ℕ) → number_at (part (byte r.first) r.last l) 0 (decimals_of r) ≡ o → given o 0 (λ v. v) ≡ 0
-    go none e = refl
-    go (some v) e = zeros_spell (decimals_of r) v (part (byte r.first) r.last l) h (need_inv (leb (decimals_of r) 18) none (some v) _ none_some e).1
+    go None e = refl
+    go (Some v) e = zeros_spell (decimals_of r) v (part (byte r.first) r.last l) h (need_inv (leb (decimals_of r) 18) None (Some v) _ none_some e).1
 
 -- a count within its limit, whose digits are 0 where it is at the limit
 pub refined_within : (most count : ℕ) (l : List ℕ) (r : Reach) → count ≤ most → (count ≡ most → digits_at l r ≡ 0) → refined count l r ≤ most * 10 ^ decimals_of r

@@ -1,8 +1,8 @@
 -- A date both ways: DDMMYY reads as a day that exists, of 1980 to 2079, exactly where that day's text stands. Assumes nothing.
+use Rattle.std.specs.Prelude.{None, Some}
 use Prim.Native.Nat.{ℕ, zero, suc, ◌+◌, ◌%◌, ◌≤◌, ◌<◌}
 use mathlib.Core.Bool.{Bool, true, false, cond}
 use mathlib.Core.List.{List, [], ◌∷◌, ◌++◌}
-use mathlib.Core.Option.{none, some}
 use mathlib.Core.Path.{◌≡◌, refl}
 use native.Mathlib.Omega.{arith}
 use borrow.Author.Tests.{le-leb, leb-true, leb-false, ne_eqb}
@@ -68,21 +68,21 @@ year_back y p q = go (leb 80 (y % 100)) refl
 -- what a date that was read says of the line
 pub record DateThere (s : List ℕ) (at : ℕ) (d : Date) : Type 0 where
   pub yy : ℕ
-  pub at_day : number_at s at 2 ≡ some d.day
-  pub at_month : number_at s (at + 2) 2 ≡ some d.month
-  pub at_year : number_at s (at + 4) 2 ≡ some yy
+  pub at_day : number_at s at 2 ≡ Some d.day
+  pub at_month : number_at s (at + 2) 2 ≡ Some d.month
+  pub at_year : number_at s (at + 4) 2 ≡ Some yy
   pub year : year_of yy ≡ d.year
   pub low : 1 ≤ d.day
   pub high : d.day ≤ days_of d.year d.month
 
-pub date_there : (s : List ℕ) (at : ℕ) (d : Date) → date_at s at ≡ some d → DateThere s at d
+pub date_there : (s : List ℕ) (at : ℕ) (d : Date) → date_at s at ≡ Some d → DateThere s at d
 unfolding date_at on
 date_there s at d e =
-    let a = given_inv (number_at s at 2) none (some d) _ none_some e in
-    let b = given_inv (number_at s (at + 2) 2) none (some d) _ none_some a.2 in
-    let c = given_inv (number_at s (at + 4) 2) none (some d) _ none_some b.2 in
-    let p = need_inv (leb 1 a.0) none (some d) _ none_some c.2 in
-    let q = need_inv (leb a.0 (days_of (year_of c.0) b.0)) none (some d) _ none_some p.1 in
+    let a = given_inv (number_at s at 2) None (Some d) _ none_some e in
+    let b = given_inv (number_at s (at + 2) 2) None (Some d) _ none_some a.2 in
+    let c = given_inv (number_at s (at + 4) 2) None (Some d) _ none_some b.2 in
+    let p = need_inv (leb 1 a.0) None (Some d) _ none_some c.2 in
+    let q = need_inv (leb a.0 (days_of (year_of c.0) b.0)) None (Some d) _ none_some p.1 in
     let i : record { day = a.0; month = b.0; year = year_of c.0 } ≡ d = cc in
     rw (← i) record {
       yy = c.0;
@@ -136,7 +136,7 @@ date_within d e =
       months = days_month d.year d.month (omega arith);
     }
 
-text_here : (s : List ℕ) (at : ℕ) (d : Date) (r : List ℕ) → DateWithin d → drop at s ≡ date_text d ++ r → date_at s at ≡ some d
+text_here : (s : List ℕ) (at : ℕ) (d : Date) (r : List ℕ) → DateWithin d → drop at s ≡ date_text d ++ r → date_at s at ≡ Some d
 unfolding date_at date_text on
 text_here s at d r w e =
     let n = pairs_here s at d.day d.month (d.year % 100) r (omega arith) (omega arith) (omega arith) e in

@@ -1,8 +1,8 @@
 -- Digits both ways: what is spelt is the text of its number, and the digits of a number read as it, or as its remainder where they are too few. Assumes nothing.
+use Rattle.std.specs.Prelude.{None, Option, Some}
 use Prim.Native.Nat.{ℕ, zero, suc, ◌+◌, ◌-◌, ◌*◌, ◌/◌, ◌%◌, ◌^◌, ◌≤◌, ◌<◌}
 use mathlib.Core.Bool.{Bool, true, false, cond}
 use mathlib.Core.List.{List, [], ◌∷◌, ◌++◌, append_assoc, append-nil}
-use mathlib.Core.Option.{Option, none, some}
 use mathlib.Core.Path.{◌≡◌, refl, sym, ◌∙◌, ap}
 use native.Mathlib.Nat.{add-zero, pow-suc, pow-succ', one-le-pow, div-div-eq-div-mul, div-add-mod', mod-lt, mod-eq_of_lt, mul-add-mod_self_left, mul-le-mul_right, div-lt_iff_lt-mul}
 use native.Mathlib.Omega.{arith}
@@ -51,7 +51,7 @@ mod_more v p h =
     let e : 10 * p * (q / 10) + (q % 10 * p + v % p) ≡ v = omega (arith, div-add-mod' v p, ap (λ x. x * p) (div-add-mod' q 10)) in
     sym (ap (λ x. x % (10 * p)) (sym e) ∙ mul-add-mod_self_left (10 * p) (q / 10) (q % 10 * p + v % p) ∙ mod-eq_of_lt (omega arith))
 
-spell_digits : (n v w : ℕ) (l : List ℕ) → spell n w (digits_of n v ++ l) ≡ some (w * 10 ^ n + v % 10 ^ n)
+spell_digits : (n v w : ℕ) (l : List ℕ) → spell n w (digits_of n v ++ l) ≡ Some (w * 10 ^ n + v % 10 ^ n)
 unfolding spell digits_of
 spell_digits zero v w l = let e : w * 1 + v % 1 ≡ w = omega arith in rw e
 spell_digits (suc n) v w l =
@@ -61,12 +61,12 @@ spell_digits (suc n) v w l =
     rw (digits_front n v, digit_is d (omega arith), e, spell_digits n v (w * 10 + d) l, p)
 
 -- digits that stand at a place read as their number, or as its remainder where they are too few
-pub number_rest : (s : List ℕ) (at n v : ℕ) (r : List ℕ) → n ≤ 18 → drop at s ≡ digits_of n v ++ r → number_at s at n ≡ some (v % 10 ^ n)
+pub number_rest : (s : List ℕ) (at n v : ℕ) (r : List ℕ) → n ≤ 18 → drop at s ≡ digits_of n v ++ r → number_at s at n ≡ Some (v % 10 ^ n)
 unfolding number_at
-number_rest s at n v r h e = rw (le-leb n 18 h, e, spell_digits n v 0 r) (ap some (omega arith))
+number_rest s at n v r h e = rw (le-leb n 18 h, e, spell_digits n v 0 r) (ap Some (omega arith))
 
-pub number_here : (s : List ℕ) (at n v : ℕ) (r : List ℕ) → n ≤ 18 → v < 10 ^ n → drop at s ≡ digits_of n v ++ r → number_at s at n ≡ some v
-number_here s at n v r h g e = number_rest s at n v r h e ∙ ap some (mod-eq_of_lt g)
+pub number_here : (s : List ℕ) (at n v : ℕ) (r : List ℕ) → n ≤ 18 → v < 10 ^ n → drop at s ≡ digits_of n v ++ r → number_at s at n ≡ Some v
+number_here s at n v r h g e = number_rest s at n v r h e ∙ ap Some (mod-eq_of_lt g)
 
 -- ---- read, then written
 
@@ -74,7 +74,7 @@ digits_none : (v : ℕ) → digits_of 0 v ≡ []
 unfolding digits_of
 digits_none v = refl
 
-spelt : (n w v : ℕ) (l : List ℕ) → spell n w l ≡ some v → (l ≡ digits_of n v ++ drop n l) × (v / 10 ^ n ≡ w)
+spelt : (n w v : ℕ) (l : List ℕ) → spell n w l ≡ Some v → (l ≡ digits_of n v ++ drop n l) × (v / 10 ^ n ≡ w)
 unfolding spell
 spelt zero w v l e = let g : w ≡ v = cc in (rw digits_none, omega arith)
 spelt (suc n) w v [] e = absurd (none_some e)
@@ -85,15 +85,15 @@ spelt (suc n) w v (b ∷ l) e =
     let f : 48 + v / 10 ^ n % 10 ≡ b = omega (arith, ih.1) in
     (rw (digits_front n v, f) (ap (λ x. b ∷ x) ih.0), rw (pow-suc, ← div-div-eq-div-mul) (omega (arith, ih.1)))
   where
-    cond_inv : (t : Bool) (a : Option ℕ) (v : ℕ) → cond t a none ≡ some v → (t ≡ true) × (a ≡ some v)
+    cond_inv : (t : Bool) (a : Option ℕ) (v : ℕ) → cond t a None ≡ Some v → (t ≡ true) × (a ≡ Some v)
     cond_inv true a v e = (refl, e)
     cond_inv false a v e = absurd (none_some e)
 
 -- a number that was read: its digits stand there
-pub number_there : (s : List ℕ) (at n to v : ℕ) → at + n ≡ to → number_at s at n ≡ some v → (drop at s ≡ digits_of n v ++ drop to s) × (v < 10 ^ n) × (n ≤ 18)
+pub number_there : (s : List ℕ) (at n to v : ℕ) → at + n ≡ to → number_at s at n ≡ Some v → (drop at s ≡ digits_of n v ++ drop to s) × (v < 10 ^ n) × (n ≤ 18)
 unfolding number_at
 number_there s at n to v t e =
-    let b = need_inv (leb n 18) none (some v) _ none_some e in
+    let b = need_inv (leb n 18) None (Some v) _ none_some e in
     let r = spelt n 0 v (drop at s) b.1 in
     let low : v < 1 * 10 ^ n = (div-lt_iff_lt-mul (one-le-pow n 10 (omega arith))).0 (omega (arith, r.1)) in
     (r.0 ∙ ap (λ l. digits_of n v ++ l) (drop-drop n at s ∙ ap (λ i. drop i s) t), omega arith, leb-true n 18 b.0)
@@ -127,14 +127,14 @@ pub pairs_clean : (a b c : ℕ) → are_valid (pairs_text a b c) ≡ true
 pairs_clean a b c = both_valid (digits_of 2 a) _ (digits_clean 2 a) (both_valid (digits_of 2 b) _ (digits_clean 2 b) (digits_clean 2 c))
 
 module _ (s : List ℕ) (at a b c : ℕ) where
-  pub pairs_there : (to : ℕ) → at + 6 ≡ to → number_at s at 2 ≡ some a → number_at s (at + 2) 2 ≡ some b → number_at s (at + 4) 2 ≡ some c
+  pub pairs_there : (to : ℕ) → at + 6 ≡ to → number_at s at 2 ≡ Some a → number_at s (at + 2) 2 ≡ Some b → number_at s (at + 4) 2 ≡ Some c
       → drop at s ≡ pairs_text a b c ++ drop to s
   pairs_there to t p q r =
       (number_there s at 2 (at + 2) a refl p).0
       ∙ rw ((number_there s (at + 2) 2 (at + 4) b (omega arith) q).0, (number_there s (at + 4) 2 to c (omega arith) r).0) (simp append_assoc)
 
   pub pairs_here : (r : List ℕ) → a ≤ 99 → b ≤ 99 → c ≤ 99 → drop at s ≡ pairs_text a b c ++ r
-      → (number_at s at 2 ≡ some a) × (number_at s (at + 2) 2 ≡ some b) × (number_at s (at + 4) 2 ≡ some c)
+      → (number_at s at 2 ≡ Some a) × (number_at s (at + 2) 2 ≡ Some b) × (number_at s (at + 4) 2 ≡ Some c)
   pairs_here r ha hb hc e =
       let e₁ : drop at s ≡ digits_of 2 a ++ (digits_of 2 b ++ (digits_of 2 c ++ r)) = simp append_assoc at e in
       let e₂ = past s at 2 (at + 2) (digits_of 2 a) _ (digits_length 2 a) refl e₁ in

@@ -1,8 +1,8 @@
 -- What is so of each element of a list, and what a first finding says of the elements. Assumes nothing.
+use Rattle.std.specs.Prelude.{None, Some}
 use Prim.Native.Nat.{ℕ, suc}
 use mathlib.Core.Bool.{Bool, true, false, cond}
 use mathlib.Core.List.{List, [], ◌∷◌, ◌++◌}
-use mathlib.Core.Option.{none, some}
 use mathlib.Core.Path.{◌≡◌, refl, sym}
 use Rattle.rules.specs.Choice.{first_of, Each}
 use Rattle.rules.proofs.Inverse.{none_some}
@@ -28,29 +28,29 @@ module _ {A : Type 0} where
 
 module _ {A B : Type 0} (test : A → Bool) (found : ℕ → A → B) where
   -- nothing was found exactly where each element fails the test
-  pub nothing_found : (l : List A) (n : ℕ) → first_of test found l n ≡ none → Each (λ a. test a ≡ false) l
+  pub nothing_found : (l : List A) (n : ℕ) → first_of test found l n ≡ None → Each (λ a. test a ≡ false) l
   unfolding first_of
   nothing_found [] n e = tt
   nothing_found (a ∷ l) n e = by (test a) refl (nothing_found l (suc n)) e
     where
-      by : (t : Bool) → test a ≡ t → (first_of test found l (suc n) ≡ none → Each (λ a. test a ≡ false) l) → cond t (some (found n a)) (first_of test found l (suc n)) ≡ none
+      by : (t : Bool) → test a ≡ t → (first_of test found l (suc n) ≡ None → Each (λ a. test a ≡ false) l) → cond t (Some (found n a)) (first_of test found l (suc n)) ≡ None
           → (test a ≡ false) × Each (λ a. test a ≡ false) l
       by true p r q = absurd (none_some (sym q))
       by false p r q = (p, r q)
 
-  pub none_found : (l : List A) (n : ℕ) → Each (λ a. test a ≡ false) l → first_of test found l n ≡ none
+  pub none_found : (l : List A) (n : ℕ) → Each (λ a. test a ≡ false) l → first_of test found l n ≡ None
   unfolding first_of
   none_found [] n h = refl
   none_found (a ∷ l) n h = rw h.0 (none_found l (suc n) h.1)
 
   -- what is so of each is so of the one that was found
-  pub found_one : (P : A → Type 0) (l : List A) (n : ℕ) (v : B) → Each P l → first_of test found l n ≡ some v → (a : A) × (m : ℕ) × P a × (test a ≡ true) × (found m a ≡ v)
+  pub found_one : (P : A → Type 0) (l : List A) (n : ℕ) (v : B) → Each P l → first_of test found l n ≡ Some v → (a : A) × (m : ℕ) × P a × (test a ≡ true) × (found m a ≡ v)
   unfolding first_of
   found_one P [] n v h e = absurd (none_some e)
   found_one P (a ∷ l) n v h e = by (test a) refl (found_one P l (suc n) v h.1) e
     where
-      by : (t : Bool) → test a ≡ t → (first_of test found l (suc n) ≡ some v → (a : A) × (m : ℕ) × P a × (test a ≡ true) × (found m a ≡ v))
-          → cond t (some (found n a)) (first_of test found l (suc n)) ≡ some v → (a : A) × (m : ℕ) × P a × (test a ≡ true) × (found m a ≡ v)
+      by : (t : Bool) → test a ≡ t → (first_of test found l (suc n) ≡ Some v → (a : A) × (m : ℕ) × P a × (test a ≡ true) × (found m a ≡ v))
+          → cond t (Some (found n a)) (first_of test found l (suc n)) ≡ Some v → (a : A) × (m : ℕ) × P a × (test a ≡ true) × (found m a ≡ v)
       by true p r q = (a, n, h.0, p, cc)
       by false p r q = r q
 

@@ -1,8 +1,8 @@
 -- A K or an N line both ways: with its layout it reads as a time exactly when it is that time's own line, and its tail is what the layout gives. Assumes nothing.
+use Rattle.std.specs.Prelude.{Some}
 use Prim.Native.Nat.{ℕ, ◌<◌}
 use mathlib.Core.Bool.{true}
 use mathlib.Core.List.{List, [], ◌∷◌, append-nil}
-use mathlib.Core.Option.{some}
 use mathlib.Core.Path.{◌≡◌, refl, ◌∙◌, ap}
 use native.Mathlib.Omega.{arith}
 use lib.Dec.{eqb}
@@ -41,7 +41,7 @@ letter_there extra.K = omega arith
 letter_there extra.N = omega arith
 
 abbrev TimeThere : List ℕ → ℕ → Type 0
-TimeThere l t = time_at l 1 ≡ some t
+TimeThere l t = time_at l 1 ≡ Some t
 
 module _ (x : Extra) where
   passed_there : (layout : Layout) (l : List ℕ) (t : ℕ) → extra_line layout l ≡ says t → Passed (family.Extra x) TimeThere layout l t
@@ -51,7 +51,7 @@ module _ (x : Extra) where
       let y = given_inv (time_at l 1) _ (says t) _ refuses_says s.2 in
       let c = then_inv (columns off_limit l layout) t _ y.2 in
       let i : y.0 ≡ t = cc in
-      record { shape = s.1; fields = y.1 ∙ ap some i; ruled = c.1 }
+      record { shape = s.1; fields = y.1 ∙ ap Some i; ruled = c.1 }
 
   passed_said : (layout : Layout) (l : List ℕ) (t : ℕ) → Passed (family.Extra x) TimeThere layout l t → extra_line layout l ≡ says t
   unfolding extra_line

@@ -1,10 +1,10 @@
 -- A B line both ways: with its layout it reads as a fix exactly when it is that fix's own line, the fix's fields within their limits, its tail what the layout gives, and its counts
 -- split as the columns of finer digits have them. Assumes nothing.
+use Rattle.std.specs.Prelude.{Some}
 use Prim.Native.Nat.{ℕ}
 use Prim.Native.Char.{code}
 use mathlib.Core.Bool.{Bool, true, false}
 use mathlib.Core.List.{List, [], ◌∷◌, ◌++◌, append_assoc, append-nil}
-use mathlib.Core.Option.{some}
 use mathlib.Core.Path.{◌≡◌, refl, sym, ◌∙◌, ap, subst}
 use native.Mathlib.Omega.{arith}
 use lib.ListN.{get_or, drop, length-append}
@@ -38,13 +38,13 @@ use Rattle.rules_trips.proofs.Refined.{AreSplit, fields_of_fix, fix_of_fields, f
 
 -- what fields that were read say of the line
 pub record FieldsThere (l : List ℕ) (f : FixFields) : Type 0 where
-  pub at_time : time_at l 1 ≡ some f.time
-  pub at_lat : latitude_at l 7 ≡ some f.lat
-  pub at_lon : longitude_at l 15 ≡ some f.lon
+  pub at_time : time_at l 1 ≡ Some f.time
+  pub at_lat : latitude_at l 7 ≡ Some f.lat
+  pub at_lon : longitude_at l 15 ≡ Some f.lon
   pub at_validity : get_or l 24 0 ≡ f.validity
   pub valid : is_either f.validity (code "A") (code "V") ≡ true
-  pub at_pressure : altitude_at l 25 ≡ some f.pressure
-  pub at_gnss : altitude_at l 30 ≡ some f.gnss
+  pub at_pressure : altitude_at l 25 ≡ Some f.pressure
+  pub at_gnss : altitude_at l 30 ≡ Some f.gnss
 
 pub fields_there : (l : List ℕ) (f : FixFields) → fix_fields l ≡ says f → FieldsThere l f
 unfolding fix_fields on

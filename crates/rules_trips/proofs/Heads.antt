@@ -1,10 +1,10 @@
 -- A C head line both ways: it reads as a head exactly when it is that head's own line, the head within its limits and the text clean and not too long.
 -- Assumes nothing.
+use Rattle.std.specs.Prelude.{Some}
 use Prim.Native.Nat.{ℕ, ◌+◌, ◌≤◌}
 use Prim.Native.Char.{code}
 use mathlib.Core.Bool.{true, false}
 use mathlib.Core.List.{List, ◌∷◌, ◌++◌, append_assoc}
-use mathlib.Core.Option.{some}
 use mathlib.Core.Path.{◌≡◌, refl, ◌∙◌, ap}
 use mathlib.Core.Logic.{◌↔◌}
 use native.Mathlib.Omega.{arith}
@@ -42,11 +42,11 @@ turns_trip = number_trip 2 99 (omega arith) refl
 pub record HeadThere (l : List ℕ) (h : Head) : Type 0 where
   pub kind : get_or l 0 0 ≡ code "C"
   pub shape : shaped 25 255 false l ≡ says tt
-  pub at_declared : date_at l 1 ≡ some h.declared
-  pub at_time : time_at l 7 ≡ some h.time
-  pub at_flight : planned_at l 13 ≡ some h.flight
-  pub at_task : number_at l 19 4 ≡ some h.task
-  pub at_turns : number_at l 23 2 ≡ some h.turns
+  pub at_declared : date_at l 1 ≡ Some h.declared
+  pub at_time : time_at l 7 ≡ Some h.time
+  pub at_flight : planned_at l 13 ≡ Some h.flight
+  pub at_task : number_at l 19 4 ≡ Some h.task
+  pub at_turns : number_at l 23 2 ≡ Some h.turns
 
 pub head_there : (l : List ℕ) (h : Head) → head_said l ≡ says h → HeadThere l h
 unfolding head_said head_line head_fields

@@ -1,10 +1,10 @@
 -- A C point line both ways: it reads as a point exactly when it is that point's own line, the point within its limits and the text clean and not too long.
 -- Assumes nothing.
+use Rattle.std.specs.Prelude.{Some}
 use Prim.Native.Nat.{ℕ, ◌+◌, ◌≤◌}
 use Prim.Native.Char.{code}
 use mathlib.Core.Bool.{true, false}
 use mathlib.Core.List.{List, ◌∷◌, ◌++◌, append_assoc}
-use mathlib.Core.Option.{some}
 use mathlib.Core.Path.{◌≡◌, refl, sym, ◌∙◌, ap}
 use mathlib.Core.Logic.{◌↔◌}
 use native.Mathlib.Omega.{arith}
@@ -32,8 +32,8 @@ use Rattle.rules_trips.proofs.LineTrip.{LineTrip, is_good}
 pub record PointThere (l : List ℕ) (p : Point) : Type 0 where
   pub kind : get_or l 0 0 ≡ code "C"
   pub shape : shaped 18 255 false l ≡ says tt
-  pub at_lat : latitude_at l 1 ≡ some p.lat
-  pub at_lon : longitude_at l 9 ≡ some p.lon
+  pub at_lat : latitude_at l 1 ≡ Some p.lat
+  pub at_lon : longitude_at l 9 ≡ Some p.lon
 
 pub point_there : (l : List ℕ) (p : Point) → point_said l ≡ says p → PointThere l p
 unfolding point_said point_line

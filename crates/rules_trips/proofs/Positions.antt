@@ -1,9 +1,9 @@
 -- A position both ways, over the digits of its degrees, the most that it counts and its two letters; so a latitude and a longitude. Assumes nothing.
+use Rattle.std.specs.Prelude.{None, Some}
 use Prim.Native.Nat.{ℕ, ◌+◌, ◌*◌, ◌/◌, ◌%◌, ◌^◌, ◌≤◌, ◌<◌}
 use Prim.Native.Char.{code}
 use mathlib.Core.Bool.{Bool, true, false, ◌||◌}
 use mathlib.Core.List.{List, ◌∷◌, ◌++◌, append_assoc}
-use mathlib.Core.Option.{none, some}
 use mathlib.Core.Path.{◌≡◌, refl}
 use native.Mathlib.Omega.{arith}
 use borrow.Author.Tests.{le-leb, leb-true, eqb-true}
@@ -35,22 +35,22 @@ either_valid x a b p q e = go (eqb x a) refl e
 pub record PositionThere (s : List ℕ) (at width most a b : ℕ) (p : Position) : Type 0 where
   pub d : ℕ
   pub m : ℕ
-  pub at_d : number_at s at width ≡ some d
-  pub at_m : number_at s (at + width) 5 ≡ some m
+  pub at_d : number_at s at width ≡ Some d
+  pub at_m : number_at s (at + width) 5 ≡ Some m
   pub at_letter : get_or s (at + width + 5) 0 ≡ p.letter
   pub minutes : m ≤ 59999
   pub is : d * 60000 + m ≡ p.count
   pub within : p.count ≤ most
   pub lettered : is_either p.letter a b ≡ true
 
-pub position_there : (s : List ℕ) (at width most a b : ℕ) (p : Position) → position_at s at width most a b ≡ some p → PositionThere s at width most a b p
+pub position_there : (s : List ℕ) (at width most a b : ℕ) (p : Position) → position_at s at width most a b ≡ Some p → PositionThere s at width most a b p
 unfolding position_at on
 position_there s at width most a b p e =
-    let d = given_inv (number_at s at width) none (some p) _ none_some e in
-    let m = given_inv (number_at s (at + width) 5) none (some p) _ none_some d.2 in
-    let x = need_inv (leb m.0 59999) none (some p) _ none_some m.2 in
-    let y = need_inv (leb (d.0 * 60000 + m.0) most) none (some p) _ none_some x.1 in
-    let z = need_inv (is_either (get_or s (at + width + 5) 0) a b) none (some p) _ none_some y.1 in
+    let d = given_inv (number_at s at width) None (Some p) _ none_some e in
+    let m = given_inv (number_at s (at + width) 5) None (Some p) _ none_some d.2 in
+    let x = need_inv (leb m.0 59999) None (Some p) _ none_some m.2 in
+    let y = need_inv (leb (d.0 * 60000 + m.0) most) None (Some p) _ none_some x.1 in
+    let z = need_inv (is_either (get_or s (at + width + 5) 0) a b) None (Some p) _ none_some y.1 in
     let i : record { count = d.0 * 60000 + m.0; letter = get_or s (at + width + 5) 0 } ≡ p = cc in
     rw (← i) record {
       d = d.0;
@@ -76,7 +76,7 @@ module _ (width most a b : ℕ) (narrow : width ≤ 18) (fits : most < 60000 * 1
       (simp append_assoc)
 
   text_here : (s : List ℕ) (at : ℕ) (p : Position) (r : List ℕ) → p.count ≤ most → is_either p.letter a b ≡ true → drop at s ≡ position_text width p ++ r
-      → position_at s at width most a b ≡ some p
+      → position_at s at width most a b ≡ Some p
   unfolding position_text position_at on
   text_here s at p r h g e =
       let d = p.count / 60000 in

@@ -1,9 +1,9 @@
 -- A fix and its fields: of any line and any columns the fix gives the fields back, and where its decimals and its last digits are the columns', the fields give the fix back. An
 -- allowed layout has few decimals, and its columns stand in the tail of a line. Assumes nothing.
+use Rattle.std.specs.Prelude.{None, Option, Some}
 use Prim.Native.Nat.{ℕ, suc, ◌+◌, ◌-◌, ◌^◌, ◌≤◌, ◌<◌}
 use mathlib.Core.Bool.{true, ◌&&◌}
 use mathlib.Core.List.{List, ◌++◌}
-use mathlib.Core.Option.{Option, none, some}
 use mathlib.Core.Path.{◌≡◌, refl, sym, subst, ◌∙◌}
 use mathlib.Core.Logic.{◌↔◌}
 use native.Mathlib.Nat.{one-le-pow, mul-add-div_right, mul-add-mod_self_right, mod-eq_of_lt, div-eq_of_lt, div-add-mod'}
@@ -14,7 +14,8 @@ use lib.ListN.{length, get_or}
 use Rattle.rules.specs.Choice.{given, part, byte, first_of, bytes}
 use Rattle.rules.specs.Numbers.{spell, number_at}
 use Rattle.rules.specs.Listed.{listed, unlisted, listed_number, width_fits, tds, lad, lod}
-use Rattle.rules.specs.Layouts.{Span, entries_of, span_of, look, allowed}
+use Rattle.rules.specs.declared.Span.{Span}
+use Rattle.rules.specs.Layouts.{entries_of, span_of, look, allowed}
 use Rattle.rules.specs.Fixes.{no_reach, reach_of, finer_of, decimals_of, digits_at, refined, fine_position, fix_of, plain, plain_position, fields_of, extra_digits}
 use Rattle.rules.specs.Limits.{is_fine, tail_digits, is_split, are_split}
 use Rattle.rules.specs.declared.Entry.{Entry}
@@ -36,8 +37,8 @@ power_low d = one-le-pow d 10 (omega arith)
 
 -- a number that was read has no more digits than it was read from, and 0 has none
 below : (s : List ℕ) (n : ℕ) (o : Option ℕ) → number_at s 0 n ≡ o → given o 0 (λ v. v) < 10 ^ n
-below s n none e = power_low n
-below s n (some v) e = (number_there s 0 n n v (omega arith) e).1
+below s n None e = power_low n
+below s n (Some v) e = (number_there s 0 n n v (omega arith) e).1
 
 -- a count is split as the column of a line has it
 pub record Split (l : List ℕ) (count decimals : ℕ) (r : Reach) : Type 0 where
@@ -123,8 +124,8 @@ unfolding reach_of look
 reached start layout x g = by (look layout x) refl
   where
     by : (o : Option Span) → look layout x ≡ o → Reached start x (given o no_reach λ s. record { first = s.first; last = s.last })
-    by none e = missing
-    by (some s) e =
+    by None e = missing
+    by (Some s) e =
         let f = found_one (λ (e : Entry). eqb e.code x) (λ (k : ℕ) (e : Entry). span_of e) _ (entries_of layout) 0 s (all_stand start layout g) e in
         let w : Stands start f.0 = f.2 in
         let i : f.0.code ≡ x = eqb-true _ _ f.3 in
@@ -132,11 +133,11 @@ reached start layout x g = by (look layout x) refl
         subst (λ (s : Span). Reached start x (record { first = s.first; last = s.last })) f.4 at
 
 -- a listed column is no wider than its row has it
-wide_most : (x w n : ℕ) → listed_number x ≡ some n → width_fits x w ≡ true → w ≤ (get_or listed n unlisted).most
+wide_most : (x w n : ℕ) → listed_number x ≡ Some n → width_fits x w ≡ true → w ≤ (get_or listed n unlisted).most
 unfolding width_fits
 wide_most x w n e h = leb-true _ _ (and_inv (leb (get_or listed n unlisted).least w) _ (rw e at h)).1
 
-decimals_most : (start x n : ℕ) (r : Reach) → 1 ≤ start → listed_number x ≡ some n → Reached start x r → decimals_of r ≤ (get_or listed n unlisted).most
+decimals_most : (start x n : ℕ) (r : Reach) → 1 ≤ start → listed_number x ≡ Some n → Reached start x r → decimals_of r ≤ (get_or listed n unlisted).most
 unfolding decimals_of
 decimals_most start x n no_reach h e missing = omega arith
 decimals_most start x n r h e (standing a b w) = rw (ne_eqb r.first 0 (λ z. omega arith)) (omega (arith, wide_most x _ n e w))

@@ -1,4 +1,6 @@
 -- The tests of equal values: each holds of two values exactly when they are one. Assumes nothing.
+use Rattle.rules.specs.declared.Date.{Date}
+use Rattle.std.specs.Prelude.{None, Option, Some}
 use mathlib.Core.Bool.{Bool, true, ◌&&◌}
 use mathlib.Core.Path.{◌≡◌, refl, ap}
 use mathlib.Core.Logic.{◌↔◌}
@@ -7,8 +9,6 @@ use lib.Dec.{eqb}
 use lib.IntN.{ℤ, pos, negsuc}
 use Rattle.rules.specs.Refusals.{Said, says, refuses}
 use Rattle.rules.specs.Writes.{same_integer, same_position, same_fine_position, same_fix, same_date, same_planned, same_head, same_point, reads}
-use Rattle.rules.specs.declared.Planned.{Planned}
-use Rattle.rules.specs.declared.Planned.TheVariants as planned
 use Rattle.rules.proofs.Inverse.{false_true, and_inv}
 
 -- `same` tells equality
@@ -68,15 +68,15 @@ date_tells = record {
 pub planned_tells : Tells same_planned
 planned_tells = record { itself = itself; one = one }
   where
-    itself : (f : Planned) → same_planned f f ≡ true
-    itself (planned.On d) = date_tells.itself d
-    itself planned.NotGiven = refl
+    itself : (f : Option Date) → same_planned f f ≡ true
+    itself (Some d) = date_tells.itself d
+    itself None = refl
 
-    one : (f g : Planned) → same_planned f g ≡ true → f ≡ g
-    one (planned.On d) (planned.On e) t = ap planned.On (date_tells.one d e t)
-    one (planned.On d) planned.NotGiven t = absurd (false_true t)
-    one planned.NotGiven (planned.On e) t = absurd (false_true t)
-    one planned.NotGiven planned.NotGiven t = refl
+    one : (f g : Option Date) → same_planned f g ≡ true → f ≡ g
+    one (Some d) (Some e) t = ap Some (date_tells.one d e t)
+    one (Some d) None t = absurd (false_true t)
+    one None (Some e) t = absurd (false_true t)
+    one None None t = refl
 
 pub head_tells : Tells same_head
 unfolding same_head

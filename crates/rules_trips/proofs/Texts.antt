@@ -1,8 +1,8 @@
 -- The characters and the length of a line: a text is clean where each byte is valid, so the parts of a line are clean where the line is. Assumes nothing.
+use Rattle.std.specs.Prelude.{None, Option, Some}
 use Prim.Native.Nat.{ℕ, zero, suc, ◌+◌, ◌≤◌, ◌<◌}
 use mathlib.Core.Bool.{Bool, true, false, not, ◌&&◌, cond, and_assoc}
 use mathlib.Core.List.{List, [], ◌∷◌, ◌++◌}
-use mathlib.Core.Option.{Option, none, some}
 use mathlib.Core.Path.{◌≡◌, refl, sym, ◌∙◌, ap}
 use native.Mathlib.Omega.{arith}
 use borrow.Author.Tests.{le-leb, leb-true, ne_eqb}
@@ -24,7 +24,7 @@ pub clean_valid : (l : List ℕ) → is_clean l ≡ are_valid l
 unfolding is_clean first_invalid are_valid first_of
 clean_valid l = go l 0
   where
-    step : (t : Bool) (n : ℕ) (o : Option ℕ) (v : Bool) → given o true (λ i. false) ≡ v → given (cond (not t) (some n) o) true (λ i. false) ≡ (t && v)
+    step : (t : Bool) (n : ℕ) (o : Option ℕ) (v : Bool) → given o true (λ i. false) ≡ v → given (cond (not t) (Some n) o) true (λ i. false) ≡ (t && v)
     step true n o v e = e
     step false n o v e = refl
 
@@ -60,12 +60,12 @@ valid_low (suc b) e = omega arith
 
 pub nothing_there : {A : Type 0} (o : Option A) (k : ℕ) (byte : A → ℕ) (u : Unit {0}) → given o (says tt) (λ i. refuses k 0 (byte i)) ≡ says u
     → given o true (λ i. false) ≡ true
-nothing_there none k byte u e = refl
-nothing_there (some i) k byte u e = absurd (refuses_says e)
+nothing_there None k byte u e = refl
+nothing_there (Some i) k byte u e = absurd (refuses_says e)
 
 pub nothing_here : {A : Type 0} (o : Option A) (k : ℕ) (byte : A → ℕ) → given o true (λ i. false) ≡ true → given o (says tt) (λ i. refuses k 0 (byte i)) ≡ says (tt {0})
-nothing_here none k byte e = refl
-nothing_here (some i) k byte e = absurd (false_true e)
+nothing_here None k byte e = refl
+nothing_here (Some i) k byte e = absurd (false_true e)
 
 -- ---- 'shaped'
 

@@ -1,9 +1,9 @@
 -- A time both ways: HHMMSS reads as a second of the day, or as the leap second behind its last, exactly where that second's text stands. Assumes nothing.
+use Rattle.std.specs.Prelude.{None, Some}
 use Prim.Native.Nat.{ℕ, ◌+◌, ◌*◌, ◌/◌, ◌%◌, ◌≤◌}
 use mathlib.Core.Bool.{Bool, true, false}
 use mathlib.Core.List.{List, ◌++◌}
 use mathlib.Core.Logic.{inl, inr}
-use mathlib.Core.Option.{none, some}
 use mathlib.Core.Path.{◌≡◌, refl}
 use native.Mathlib.Omega.{arith}
 use borrow.Author.Tests.{le-leb, leb-true, ne_eqb, eqb-true, eqb-false}
@@ -24,23 +24,23 @@ pub record TimeThere (s : List ℕ) (at v : ℕ) : Type 0 where
   pub h : ℕ
   pub m : ℕ
   pub x : ℕ
-  pub at_h : number_at s at 2 ≡ some h
-  pub at_m : number_at s (at + 2) 2 ≡ some m
-  pub at_x : number_at s (at + 4) 2 ≡ some x
+  pub at_h : number_at s at 2 ≡ Some h
+  pub at_m : number_at s (at + 2) 2 ≡ Some m
+  pub at_x : number_at s (at + 4) 2 ≡ Some x
   pub hours : h ≤ 23
   pub minutes : m ≤ 59
   pub seconds : SecondIn h m x
   pub is : h * 3600 + m * 60 + x ≡ v
 
-pub time_there : (s : List ℕ) (at v : ℕ) → time_at s at ≡ some v → TimeThere s at v
+pub time_there : (s : List ℕ) (at v : ℕ) → time_at s at ≡ Some v → TimeThere s at v
 unfolding time_at
 time_there s at v e =
-    let h = given_inv (number_at s at 2) none (some v) _ none_some e in
-    let m = given_inv (number_at s (at + 2) 2) none (some v) _ none_some h.2 in
-    let x = given_inv (number_at s (at + 4) 2) none (some v) _ none_some m.2 in
-    let p = need_inv (leb h.0 23) none (some v) _ none_some x.2 in
-    let q = need_inv (leb m.0 59) none (some v) _ none_some p.1 in
-    let r = need_inv (is_second h.0 m.0 x.0) none (some v) _ none_some q.1 in
+    let h = given_inv (number_at s at 2) None (Some v) _ none_some e in
+    let m = given_inv (number_at s (at + 2) 2) None (Some v) _ none_some h.2 in
+    let x = given_inv (number_at s (at + 4) 2) None (Some v) _ none_some m.2 in
+    let p = need_inv (leb h.0 23) None (Some v) _ none_some x.2 in
+    let q = need_inv (leb m.0 59) None (Some v) _ none_some p.1 in
+    let r = need_inv (is_second h.0 m.0 x.0) None (Some v) _ none_some q.1 in
     record {
       h = h.0;
       m = m.0;
@@ -84,11 +84,11 @@ text_there s at to v t w = by w.seconds
         let i : v ≡ 86400 = omega (arith, a.0, a.1, a.2) in
         rw (i, text_leap, ← a.0, ← a.1, ← a.2) (pairs_there s at w.h w.m w.x to t w.at_h w.at_m w.at_x)
 
-text_here : (s : List ℕ) (at v : ℕ) (r : List ℕ) → v ≤ 86400 → drop at s ≡ time_text v ++ r → time_at s at ≡ some v
+text_here : (s : List ℕ) (at v : ℕ) (r : List ℕ) → v ≤ 86400 → drop at s ≡ time_text v ++ r → time_at s at ≡ Some v
 unfolding time_at is_second
 text_here s at v r g e = by (eqb v 86400) refl
   where
-    by : (t : Bool) → eqb v 86400 ≡ t → time_at s at ≡ some v
+    by : (t : Bool) → eqb v 86400 ≡ t → time_at s at ≡ Some v
     by true q =
         let i : v ≡ 86400 = eqb-true v 86400 q in
         let n = pairs_here s at 23 59 60 r (omega arith) (omega arith) (omega arith) (rw (i, text_leap) at e) in

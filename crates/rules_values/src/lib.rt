@@ -24,17 +24,12 @@ pub fn empty_layout() -> Layout
 pub fn has_no_minus(h: Height) -> bool
     ensures { NoMinus h result }
 {
-    let z = h.metres;
-    0 <= z
+    0 <= h.metres
 }
 
 // How many metres an altitude is from zero.
 pub fn magnitude(h: Height) -> u64
     ensures { MagnitudeGiven h result }
 {
-    let z = h.metres;
-    if 0 <= z {
-        return z as u64;
-    }
-    ((-1 - z) as u64) + 1
+    u64::from(h.metres.unsigned_abs())
 }
