@@ -1,10 +1,10 @@
 -- A file is accepted exactly when it meets the grammar and its lines fit the table, and then the answer is what the grammar says of it. Assumes nothing.
+use Rattle.std.specs.Prelude.{None, Option}
 use Prim.Native.Nat.{ℕ, ◌+◌, ◌-◌, ◌≤◌}
 use Prim.Native.Char.{code}
 use mathlib.Core.Bool.{Bool, true, false, ◌||◌, cond, or-true, or-false}
 use mathlib.Core.List.{List, [], ◌∷◌, ◌++◌, append-nil, append_assoc}
 use mathlib.Core.Logic.{inl, ◌↔◌}
-use mathlib.Core.Option.{Option, none}
 use mathlib.Core.Path.{◌≡◌, refl, sym, ◌∙◌, ap, subst}
 use native.Mathlib.Nat.{zero-add}
 use native.Mathlib.Omega.{arith}
@@ -365,6 +365,6 @@ accepted_exactly needs file room = (there, here)
 -- and a file has one reading by the grammar: the same lines, date, layouts and counts, and whether it is signed
 pub one_reading : (needs : Seal) (file : List ℕ) (m n : Meets needs file) → flight_of m ≡ flight_of n
 one_reading needs file m n =
-    let a = (accepted_as needs file none (flight_of m)).1 (m, refl, refl) in
-    let b = (accepted_as needs file none (flight_of n)).1 (n, refl, refl) in
+    let a = (accepted_as needs file None (flight_of m)).1 (m, refl, refl) in
+    let b = (accepted_as needs file None (flight_of n)).1 (n, refl, refl) in
     cc

@@ -1,12 +1,12 @@
 -- The columns of a line: by an allowed layout its tail is good exactly when it is the columns one behind the other; a code of the layout leads to its entry's bytes, as many
 -- as it is wide, and to the number that they spell, every other code to none, and together they are the tail. Assumes nothing.
+use Rattle.std.specs.Prelude.{None, Option, Some}
 use Prim.Native.Nat.{ℕ, suc, ◌+◌, ◌-◌, ◌≤◌, zero, ◌^◌, ◌/◌, ◌%◌, ◌<◌}
 use Prim.Native.Char.{code}
 use mathlib.Core.Bool.{true, false, Bool, cond}
 use mathlib.Core.List.{List, [], ◌∷◌, ◌++◌, append-nil}
 use mathlib.Core.Logic.{◌↔◌}
 use mathlib.Core.Path.{◌≡◌, refl, sym, ◌∙◌, ap, subst}
-use mathlib.Core.Option.{Option, none, some}
 use native.Mathlib.Omega.{arith}
 use borrow.Author.Tests.{eqb-true, eq-eqb, ne_eqb, not-false, le-leb, leb-true}
 use lib.Dec.{eqb, leb}
@@ -15,7 +15,8 @@ use lib.Seq.{drop-drop, drop_at, take_at, length-take-le, drop-length}
 use lib.IntN.{pos, neg_ℤ}
 use Rattle.rules.specs.Choice.{part, Each, given, need, on}
 use Rattle.rules.specs.Listed.{keeps_limit, packed_of, code_text}
-use Rattle.rules.specs.Layouts.{entries_of, allowed, line_length, Span, span_of, look, column_text}
+use Rattle.rules.specs.declared.Span.{Span}
+use Rattle.rules.specs.Layouts.{entries_of, allowed, line_length, span_of, look, column_text}
 use Rattle.rules.specs.declared.AtLimit.{AtLimit}
 use Rattle.rules.specs.declared.Entry.{Entry}
 use Rattle.rules.specs.declared.Layout.{Layout}
@@ -160,17 +161,17 @@ tail_exactly at AtLat AtLon meant start tail layout low s = (there, here)
 
 -- ---- the number that a text spells
 
-pub whole_there : (t : List ℕ) (z : Signed) → whole_of t ≡ some z → Spells t z
+pub whole_there : (t : List ℕ) (z : Signed) → whole_of t ≡ Some z → Spells t z
 unfolding whole_of on
 whole_there t z e = go (eqb (get_or t 0 0) 45) refl e
   where
     go : (b : Bool) → eqb (get_or t 0 0) 45 ≡ b
-        → cond b (need (leb 2 (length t)) none λ u. given (number_at t 1 (length t - 1)) none λ v. some (record { value = neg_ℤ (pos v) }))
-        (need (leb 1 (length t)) none λ u. given (number_at t 0 (length t)) none λ v. some (record { value = pos v })) ≡ some z
+        → cond b (need (leb 2 (length t)) None λ u. given (number_at t 1 (length t - 1)) None λ v. Some (record { value = neg_ℤ (pos v) }))
+        (need (leb 1 (length t)) None λ u. given (number_at t 0 (length t)) None λ v. Some (record { value = pos v })) ≡ Some z
         → Spells t z
     go true q e =
-        let n = need_inv (leb 2 (length t)) none (some z) _ none_some e in
-        let v = given_inv (number_at t 1 (length t - 1)) none (some z) _ none_some n.1 in
+        let n = need_inv (leb 2 (length t)) None (Some z) _ none_some e in
+        let v = given_inv (number_at t 1 (length t - 1)) None (Some z) _ none_some n.1 in
         let h = leb-true 2 (length t) n.0 in
         let d = number_there t 1 (length t - 1) (length t) v.0 (omega arith) v.1 in
         let i : record { value = neg_ℤ (pos v.0) } ≡ z = cc in
@@ -178,14 +179,14 @@ whole_there t z e = go (eqb (get_or t 0 0) 45) refl e
         byte_there t 0 1 45 refl (omega arith) (eqb-true _ _ q)
         ∙ ap (λ x. 45 ∷ x) (d.0 ∙ ap (λ x. digits_of (length t - 1) v.0 ++ x) (drop-length t) ∙ append-nil (digits_of (length t - 1) v.0))))
     go false q e =
-        let n = need_inv (leb 1 (length t)) none (some z) _ none_some e in
-        let v = given_inv (number_at t 0 (length t)) none (some z) _ none_some n.1 in
+        let n = need_inv (leb 1 (length t)) None (Some z) _ none_some e in
+        let v = given_inv (number_at t 0 (length t)) None (Some z) _ none_some n.1 in
         let d = number_there t 0 (length t) (length t) v.0 (omega arith) v.1 in
         let i : record { value = pos v.0 } ≡ z = cc in
         subst (Spells t) i (plain (length t) v.0 (leb-true 1 (length t) n.0) d.2 d.1 (
         d.0 ∙ ap (λ x. digits_of (length t) v.0 ++ x) (drop-length t) ∙ append-nil (digits_of (length t) v.0)))
 
-plain_here : (n v : ℕ) → 1 ≤ n → n ≤ 18 → v < 10 ^ n → whole_of (digits_of n v) ≡ some (record { value = pos v })
+plain_here : (n v : ℕ) → 1 ≤ n → n ≤ 18 → v < 10 ^ n → whole_of (digits_of n v) ≡ Some (record { value = pos v })
 unfolding whole_of on
 plain_here zero v a b c = absurd (omega arith)
 plain_here (suc m) v a b c =
@@ -195,7 +196,7 @@ plain_here (suc m) v a b c =
     let d = number_here t 0 (suc m) v [] b c (sym (append-nil t)) in
     simp (ne_eqb (get_or t 0 0) 45 (λ z. omega arith), k, le-leb 1 (suc m) a, d)
 
-minus_here : (n v : ℕ) → 1 ≤ n → n ≤ 18 → v < 10 ^ n → whole_of (code "-" ∷ digits_of n v) ≡ some (record { value = neg_ℤ (pos v) })
+minus_here : (n v : ℕ) → 1 ≤ n → n ≤ 18 → v < 10 ^ n → whole_of (code "-" ∷ digits_of n v) ≡ Some (record { value = neg_ℤ (pos v) })
 unfolding whole_of on
 minus_here n v a b c =
     let t : List ℕ = code "-" ∷ digits_of n v in
@@ -204,14 +205,14 @@ minus_here n v a b c =
     let d = number_here t 1 n v [] b c (sym (append-nil (digits_of n v))) in
     rw (k, le-leb 2 (n + 1) (omega arith), i, d)
 
-pub whole_here : (t : List ℕ) {z : Signed} → Spells t z → whole_of t ≡ some z
+pub whole_here : (t : List ℕ) {z : Signed} → Spells t z → whole_of t ≡ Some z
 whole_here t (plain n v a b c e) = ap whole_of e ∙ plain_here n v a b c
 whole_here t (minus n v a b c e) = ap whole_of e ∙ minus_here n v a b c
 
 number_of : (t : List ℕ) (o : Option Signed) → whole_of t ≡ o → NumberOf t (given o (refuses 20 0 0) λ z. says z)
 unfolding number
-number_of t (some z) e = whole_there t z e
-number_of t none e = (refl, λ z s. none_some (sym e ∙ whole_here t s))
+number_of t (Some z) e = whole_there t z e
+number_of t None e = (refl, λ z s. none_some (sym e ∙ whole_here t s))
 
 -- ---- the columns stand one behind the other, each as wide as its entry says, up to the line's end
 
@@ -239,21 +240,21 @@ name_back (a ∷ b ∷ c ∷ []) w = unpacked a b c w.bytes.1.0 w.bytes.1.1.0
 name_back (a ∷ b ∷ c ∷ d ∷ l) w = absurd (omega (arith, w.three))
 
 -- a name that no entry has
-pub none_looked : (layout : Layout) (name : List ℕ) → IsName name → Each (λ e. code_text e.code ≡ name → ⊥) (entries_of layout) → look layout (packed_of name) ≡ none
+pub none_looked : (layout : Layout) (name : List ℕ) → IsName name → Each (λ e. code_text e.code ≡ name → ⊥) (entries_of layout) → look layout (packed_of name) ≡ None
 unfolding look
 none_looked layout name w h =
     none_found (Coded (packed_of name)) (λ k e. span_of e) (entries_of layout) 0
     (each_map (entries_of layout) (λ e n. ne_eqb e.code (packed_of name) (λ i. n (ap code_text i ∙ name_back name w))) h)
 
 module _ (layout : Layout) (l : List ℕ) (fits : fits_line l layout ≡ true) where
-  column_said : (name : List ℕ) (s : Span) → look layout (packed_of name) ≡ some s → look_said l layout name ≡ says s
+  column_said : (name : List ℕ) (s : Span) → look layout (packed_of name) ≡ Some s → look_said l layout name ≡ says s
   column_said name s e = look_there l layout name fits ∙ rw e
 
-  column_absent : (name : List ℕ) → look layout (packed_of name) ≡ none → look_said l layout name ≡ refuses 19 0 0
+  column_absent : (name : List ℕ) → look layout (packed_of name) ≡ None → look_said l layout name ≡ refuses 19 0 0
   unfolding number
   column_absent name e = look_there l layout name fits ∙ rw e
 
-  column_read : (e : Entry) → look layout e.code ≡ some (span_of e) → length (column_text l (span_of e)) ≡ width_of e → ReadsColumn layout l e
+  column_read : (e : Entry) → look layout e.code ≡ Some (span_of e) → length (column_text l (span_of e)) ≡ width_of e → ReadsColumn layout l e
   unfolding look_number look_text number
   column_read e h n =
       let s = column_said (code_text e.code) (span_of e) (ap (look layout) (packed_back e.code) ∙ h) in
@@ -268,7 +269,7 @@ columns_read f layout l tail low s cut is fits =
     let r = texts_are l es (first_start f) tail t low cut is in
     record {
       carried = each_map es (λ e h. column_read layout l fits e h.0 h.1)
-          (each_both es (λ e. look layout e.code ≡ some (span_of e)) (λ e. length (column_text l (span_of e)) ≡ width_of e) (each_looked (first_start f) layout s) r.1);
+          (each_both es (λ e. look layout e.code ≡ Some (span_of e)) (λ e. length (column_text l (span_of e)) ≡ width_of e) (each_looked (first_start f) layout s) r.1);
       absent = λ name w h. column_absent layout l fits name (none_looked layout name w h);
       tail = r.0 ∙ sym cut;
     }

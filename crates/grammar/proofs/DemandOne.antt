@@ -4,14 +4,14 @@
 -- That a function of the library comes back with an answer at all, for every input, is proved with its contract: none has a `requires`. The claims below are about every answer
 -- that the contracts allow: of `check_file::check` (promise FileChecked), of each writer in `write_line` (FixWritten .., which are `Written` of the line's text), and of what hands out
 -- a part or puts a value beside its answer. What a reader refuses first stands with demand 2 (`readers_refuse_first` of Demands).
+use Rattle.rules.specs.declared.Refusal.{Refusal}
+use Rattle.std.specs.Prelude.{Option, Result}
 use Prim.Native.Nat.{ℕ}
 use mathlib.Core.Bool.{Bool}
 use mathlib.Core.List.{List}
-use mathlib.Core.Option.{Option}
 use Rattle.rules.specs.Promises.{FileChecked, Written}
 use Rattle.rules.specs.declared.Seal.{Seal}
 use Rattle.rules.specs.declared.Checked.{Checked}
-use Rattle.rules.specs.declared.Wrote.{Wrote}
 use Rattle.grammar.specs.Left.{OneAnswer, FileLeaves, WriteLeaves, NoValue}
 use Rattle.grammar.proofs.Left as left
 
@@ -24,7 +24,7 @@ pub file_leaves : (seal : Seal) (file table : List ℕ) (r : Checked) (after : L
 file_leaves = left.file_leaves
 
 -- a refused write, 17 or 18, leaves the output as it was lent
-pub write_leaves : (good : Bool) (text : List ℕ) (place : ℕ) (out : List ℕ) (r : Wrote) (after : List ℕ) → Written good text place out r after → WriteLeaves r out after
+pub write_leaves : (good : Bool) (text : List ℕ) (place : ℕ) (out : List ℕ) (r : Result ℕ Refusal) (after : List ℕ) → Written good text place out r after → WriteLeaves r out after
 write_leaves = left.write_leaves
 
 -- a refused reading gives no value

@@ -5,12 +5,12 @@
 -- `check_file::check_untabled` answers `verdict seal file none` (FileJudged); `file_lines::bounds` answers `bounds_of` (LineGiven), `Cursor::step` answers `step_at` (LineStepped), the readers
 -- in `line_read` answer `reading` (FixGiven, ExtraGiven) and so on, the look in `layout_look` answers `look_said` (LookGiven ..), `field_degrees::degrees` answers `degrees_of` (DegreesGiven); the writers in `write_line` keep `Written` (FixWritten ..),
 -- from which `BothWays` tells what they write (proofs/Promised). By the laws `only_..` of crate rules_only, nothing else would keep these promises.
+use Rattle.std.specs.Prelude.{None, Option, Some}
 use Prim.Native.Nat.{ℕ, ◌+◌, ◌*◌, ◌≤◌}
 use Prim.Native.Char.{code}
 use mathlib.Core.Bool.{Bool, true, false}
 use mathlib.Core.List.{List, [], ◌∷◌, ◌++◌}
 use mathlib.Core.Logic.{◌⊎◌, ◌↔◌}
-use mathlib.Core.Option.{Option, none, some}
 use mathlib.Core.Path.{◌≡◌, refl, sym, ◌∙◌, ap}
 use lib.ListN.{length, get_or}
 use Rattle.rules.specs.Choice.{byte, Each}
@@ -22,7 +22,8 @@ use Rattle.rules.specs.Listed.{code_text, width_fits, keeps_limit}
 use Rattle.rules.specs.Fields.{latitude_at, longitude_at}
 use Rattle.rules.specs.Degrees.{degrees_of}
 use Rattle.rules.specs.Layouts.{is_said, allowed}
-use Rattle.rules.specs.Split.{Bounds, Stepped, bounds_of, step_at}
+use Rattle.rules.specs.declared.Bounds.{Bounds}
+use Rattle.rules.specs.Split.{Stepped, bounds_of, step_at}
 use Rattle.rules.specs.Reads.{ValueOf, said_of, Reading, reading, fix_said, extra_said, date_said, event_said, satellites_said, head_said, point_said, layout_said}
 use Rattle.rules.specs.Writes.{fix_text, extra_text, head_text, point_text, layout_text, is_fix, is_extra, is_head, is_point}
 use Rattle.rules.specs.declared.Date.{Date}
@@ -122,7 +123,7 @@ module _ (file : List ℕ) (room : Option ℕ) where
   strict_refuses_besides = signed.strict_refuses file room
 
 -- with a table only 15 is added
-pub table_adds : (seal : Seal) (file : List ℕ) (entries : ℕ) → verdict seal file (some entries) ≡ tabled entries (verdict seal file none)
+pub table_adds : (seal : Seal) (file : List ℕ) (entries : ℕ) → verdict seal file (Some entries) ≡ tabled entries (verdict seal file None)
 table_adds = counted.table_adds
 
 -- ---- what the checks of a refusal read and test, apart from how
@@ -154,8 +155,8 @@ texts_meant at = limit_exactly at (at.lat ≡ true) (at.lon ≡ true) (λ h. h, 
 
 -- which coordinates of a B line are at their limits: 90 degrees of latitude, 180 degrees of longitude
 pub limits_meant : (l : List ℕ)
-    → (((limits_in family.B l).lat ≡ true) ↔ ((p : Position) × (latitude_at l (byte 8) ≡ some p) × (p.count ≡ 90 * 60 * 1000)))
-    × (((limits_in family.B l).lon ≡ true) ↔ ((p : Position) × (longitude_at l (byte 16) ≡ some p) × (p.count ≡ 180 * 60 * 1000)))
+    → (((limits_in family.B l).lat ≡ true) ↔ ((p : Position) × (latitude_at l (byte 8) ≡ Some p) × (p.count ≡ 90 * 60 * 1000)))
+    × (((limits_in family.B l).lon ≡ true) ↔ ((p : Position) × (longitude_at l (byte 16) ≡ Some p) × (p.count ≡ 180 * 60 * 1000)))
 limits_meant l = (at_most (latitude_at l (byte 8)) 5400000, at_most (longitude_at l (byte 16)) 10800000)
 
 -- ---- the grammar by itself
@@ -196,7 +197,7 @@ no_b_after_g = worked.no_b_after_g
 -- ---- what can be read from an accepted file, with the table that it was checked with: its lines by number and step by step; the date from line 2, the layouts from the I, the J and
 -- the M line, and of them the lengths, columns and listed codes; each B, K and N line column by column, each E and F line; and the declaration with its texts
 
-pub readable : (seal : Seal) (file table : List ℕ) (f : Flight) → verdict seal file (some (length table)) ≡ says f → Readable seal file table f
+pub readable : (seal : Seal) (file table : List ℕ) (f : Flight) → verdict seal file (Some (length table)) ≡ says f → Readable seal file table f
 readable = readings.readable
 
 -- ---- a reader says a value of a line exactly when the line is, by the grammar, a line of that value

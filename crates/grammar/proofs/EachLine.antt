@@ -1,10 +1,10 @@
 -- A line of each kind both ways: it passes its checks exactly when it is what the grammar calls a line of that kind, with the values that it says; B, K, N and C lines from the
 -- laws of each line both ways. Assumes nothing.
+use Rattle.std.specs.Prelude.{None, Some}
 use Prim.Native.Nat.{ℕ, ◌+◌, ◌-◌, ◌%◌, ◌≤◌, ◌<◌}
 use Prim.Native.Char.{code}
 use mathlib.Core.Bool.{Bool, true, false, ◌&&◌, cond}
 use mathlib.Core.List.{List, [], ◌∷◌, ◌++◌, append-nil}
-use mathlib.Core.Option.{none, some}
 use mathlib.Core.Path.{◌≡◌, refl, sym, ◌∙◌, ap, subst}
 use mathlib.Core.Logic.{◌↔◌}
 use native.Mathlib.Omega.{arith}
@@ -103,10 +103,10 @@ date_there l d k e =
     let h = shape_there 11 11 true l tt s.1 in
     let n : length l ≡ 11 = omega arith in
     let i : a.0 ≡ d = cc in
-    let r : drop 5 l ≡ date_text d = date_trip.there l 5 11 d refl (a.1 ∙ ap some i) ∙ ap (λ x. date_text d ++ drop x l) (sym n) ∙ ap (λ x. date_text d ++ x) (drop-length l) ∙ append-nil (date_text d) in
+    let r : drop 5 l ≡ date_text d = date_trip.there l 5 11 d refl (a.1 ∙ ap Some i) ∙ ap (λ x. date_text d ++ drop x l) (sym n) ∙ ap (λ x. date_text d ++ x) (drop-length l) ∙ append-nil (date_text d) in
     record {
       text = byte_there l 0 1 72 refl (omega arith) k ∙ ap (λ x. 72 ∷ x) (mark_there l m.0 ∙ ap (λ x. 70 ∷ 68 ∷ 84 ∷ 69 ∷ x) r);
-      day = (day_exactly d).0 (date_trip.limits l 5 d (a.1 ∙ ap some i));
+      day = (day_exactly d).0 (date_trip.limits l 5 d (a.1 ∙ ap Some i));
     }
 
 date_text_lem : Date → List ℕ
@@ -162,20 +162,20 @@ d_said l w = simp (shape_said 6 6 false l w.shape, (either_exactly _ _ _).1 w.qu
 -- ---- E
 
 -- a line that begins with a letter and a time
-time_text_lem : (l : List ℕ) (x t : ℕ) → 0 < x → get_or l 0 0 ≡ x → time_at l 1 ≡ some t → l ≡ x ∷ (time_text t ++ drop 7 l)
+time_text_lem : (l : List ℕ) (x t : ℕ) → 0 < x → get_or l 0 0 ≡ x → time_at l 1 ≡ Some t → l ≡ x ∷ (time_text t ++ drop 7 l)
 time_text_lem l x t p k e = byte_there l 0 1 x refl p k ∙ ap (λ y. x ∷ y) (time_trip.there l 1 7 t refl e)
 
-text_time : (l : List ℕ) (x t : ℕ) (rest : List ℕ) → is_time t ≡ true → l ≡ x ∷ (time_text t ++ rest) → time_at l 1 ≡ some t
+text_time : (l : List ℕ) (x t : ℕ) (rest : List ℕ) → is_time t ≡ true → l ≡ x ∷ (time_text t ++ rest) → time_at l 1 ≡ Some t
 text_time l x t rest g e = time_trip.here l 1 t rest g (ap (drop 1) e)
 
-e_inv : (l : List ℕ) (t : ℕ) → e_line l ≡ says t → Shaped 10 255 false l × (time_at l 1 ≡ some t) × (codes_at l 7 3 ≡ true)
+e_inv : (l : List ℕ) (t : ℕ) → e_line l ≡ says t → Shaped 10 255 false l × (time_at l 1 ≡ Some t) × (codes_at l 7 3 ≡ true)
 unfolding e_line
 e_inv l t e =
     let s = then_inv (shaped 10 255 false l) t _ e in
     let a = given_inv (time_at l 1) _ (says t) _ refuses_says s.2 in
     let n = need_inv (codes_at l 7 3) _ (says t) _ refuses_says a.2 in
     let i : a.0 ≡ t = cc in
-    (shape_there 10 255 false l tt s.1, a.1 ∙ ap some i, n.0)
+    (shape_there 10 255 false l tt s.1, a.1 ∙ ap Some i, n.0)
 
 pub e_there : (l : List ℕ) (t : ℕ) → get_or l 0 0 ≡ code "E" → e_line l ≡ says t → IsELine t l
 e_there l t k e =
@@ -191,25 +191,25 @@ e_said l t w =
 -- ---- F
 
 -- pairs of code characters, none odd, are code characters
-pairs_there : (l : List ℕ) (at : ℕ) → length l % 2 ≡ 0 → bad_pair at l ≡ none → Each IsCode l
+pairs_there : (l : List ℕ) (at : ℕ) → length l % 2 ≡ 0 → bad_pair at l ≡ None → Each IsCode l
 unfolding bad_pair
 pairs_there [] at n e = tt
 pairs_there (a ∷ []) at n e = absurd (omega arith)
 pairs_there (a ∷ b ∷ l) at n e = go (is_code a) (is_code b) refl refl e (pairs_there l (at + 2) (omega arith))
   where
-    go : (x y : Bool) → is_code a ≡ x → is_code b ≡ y → cond (x && y) (bad_pair (at + 2) l) (some at) ≡ none
-        → (bad_pair (at + 2) l ≡ none → Each IsCode l) → Each IsCode (a ∷ b ∷ l)
+    go : (x y : Bool) → is_code a ≡ x → is_code b ≡ y → cond (x && y) (bad_pair (at + 2) l) (Some at) ≡ None
+        → (bad_pair (at + 2) l ≡ None → Each IsCode l) → Each IsCode (a ∷ b ∷ l)
     go true true p q e f = ((code_exactly a).0 p, ((code_exactly b).0 q, f e))
     go true false p q e f = absurd (none_some (sym e))
     go false y p q e f = absurd (none_some (sym e))
 
-pairs_here : (l : List ℕ) (at : ℕ) → Each IsCode l → bad_pair at l ≡ none
+pairs_here : (l : List ℕ) (at : ℕ) → Each IsCode l → bad_pair at l ≡ None
 unfolding bad_pair
 pairs_here [] at h = refl
 pairs_here (a ∷ []) at h = refl
 pairs_here (a ∷ b ∷ l) at h = rw ((code_exactly a).1 h.0, (code_exactly b).1 h.1.0) (pairs_here l (at + 2) h.1.1)
 
-f_inv : (l : List ℕ) (t : ℕ) → f_line l ≡ says t → Shaped 7 255 false l × (time_at l 1 ≡ some t) × ((length l - 7) % 2 ≡ 0) × (bad_pair 7 (drop 7 l) ≡ none)
+f_inv : (l : List ℕ) (t : ℕ) → f_line l ≡ says t → Shaped 7 255 false l × (time_at l 1 ≡ Some t) × ((length l - 7) % 2 ≡ 0) × (bad_pair 7 (drop 7 l) ≡ None)
 unfolding f_line
 f_inv l t e =
     let s = then_inv (shaped 7 255 false l) t _ e in
@@ -217,7 +217,7 @@ f_inv l t e =
     let n = need_inv (eqb ((length l - 7) % 2) 0) _ (says t) _ refuses_says a.2 in
     let p = given_none (bad_pair 7 (drop 7 l)) (says a.0) (says t) _ (λ v. refuses_says) n.1 in
     let i : a.0 ≡ t = cc in
-    (shape_there 7 255 false l tt s.1, a.1 ∙ ap some i, eqb-true _ _ n.0, p.0)
+    (shape_there 7 255 false l tt s.1, a.1 ∙ ap Some i, eqb-true _ _ n.0, p.0)
 
 pub f_there : (l : List ℕ) (t : ℕ) → get_or l 0 0 ≡ code "F" → f_line l ≡ says t → IsFLine t l
 f_there l t k e =
@@ -238,7 +238,7 @@ f_said l t w =
     let h = text_time l 70 t w.pairs ((time_exactly t).1 w.time) w.text in
     let d : drop 7 l ≡ w.pairs = past l 1 6 7 (time_text t) w.pairs (time_trip.long t) refl (ap (drop 1) w.text) in
     let n : (length l - 7) % 2 ≡ 0 = ap (λ x. x % 2) (sym (length-drop 7 l) ∙ ap length d) ∙ w.even in
-    let p : bad_pair 7 (drop 7 l) ≡ none = ap (bad_pair 7) d ∙ pairs_here w.pairs 7 w.codes in
+    let p : bad_pair 7 (drop 7 l) ≡ None = ap (bad_pair 7) d ∙ pairs_here w.pairs 7 w.codes in
     (ap (λ x. get_or x 0 0) w.text, simp (shape_said 7 255 false l w.shape, h, eq-eqb _ _ n, p))
 
 -- ---- L, G and other

@@ -1,10 +1,10 @@
 -- Where CR LF stands: the rules' tests are those of specs/Endings, which mean what they say; and a line by its number and a step come back with the line that stands there,
 -- of any file, table and place. Assumes nothing.
+use Rattle.std.specs.Prelude.{None, Some}
 use Prim.Native.Nat.{ℕ, zero, suc, ◌+◌, ◌-◌, ◌≤◌}
 use mathlib.Core.Bool.{Bool, true, false, ◌&&◌, ◌||◌, cond, or-true}
 use mathlib.Core.List.{List, [], ◌∷◌, ◌++◌}
 use mathlib.Core.Logic.{◌↔◌, ◌⊎◌, inl, inr}
-use mathlib.Core.Option.{none, some}
 use mathlib.Core.Path.{◌≡◌, refl, sym, ◌∙◌, ap, ap₂, subst}
 use native.Mathlib.Omega.{arith}
 use borrow.Author.Tests.{le-leb, leb-true, eqb-true, eq-eqb, eqb-false, ne_eqb}
@@ -12,7 +12,8 @@ use lib.Dec.{eqb, leb}
 use lib.ListN.{length, get_or, drop}
 use Rattle.rules.specs.Choice.{given, on}
 use Rattle.rules.specs.Refusals.{number, says, refuses}
-use Rattle.rules.specs.Split.{Bounds, Stepped, begins_crlf, first_crlf, is_start, bounds_of, step_at}
+use Rattle.rules.specs.declared.Bounds.{Bounds}
+use Rattle.rules.specs.Split.{Stepped, begins_crlf, first_crlf, is_start, bounds_of, step_at}
 use Rattle.rules.proofs.Inverse.{refuses_says, none_some, false_true, and_inv, given_inv, need_inv}
 use Rattle.grammar.specs.Checks.{is_there}
 use Rattle.grammar.specs.Endings.{is_ending, has_ending, Ending, EndingsMeant, FirstLine, IsLineAt, IsNumbered, IsStep, none_left, next_line}
@@ -31,7 +32,7 @@ unfolding first_crlf has_ending
 ending_first [] at = refl
 ending_first (b ∷ l) at = rw (ending_behind 0 (b ∷ l)) (go (is_ending 0 (b ∷ l)) (ending_first l (at + 1)))
   where
-    go : (t : Bool) → is_there (first_crlf (at + 1) l) ≡ has_ending l → is_there (cond t (some at) (first_crlf (at + 1) l)) ≡ (t || has_ending l)
+    go : (t : Bool) → is_there (first_crlf (at + 1) l) ≡ has_ending l → is_there (cond t (Some at) (first_crlf (at + 1) l)) ≡ (t || has_ending l)
     go true h = refl
     go false h = h
 
@@ -83,13 +84,13 @@ nearer b l i w = go w.before refl w.order
     go [] e o = absurd (false_true (sym i ∙ ap (is_ending 0) o ∙ (stands [] w.after).0))
     go (c ∷ before) e o = (record { before = before; after = w.after; order = ap (drop 1) o }, sym (ap length e))
 
-first_there : (l : List ℕ) (at e : ℕ) → first_crlf at l ≡ some e → (text : List ℕ) × FirstLine l text × (e ≡ at + length text)
+first_there : (l : List ℕ) (at e : ℕ) → first_crlf at l ≡ Some e → (text : List ℕ) × FirstLine l text × (e ≡ at + length text)
 unfolding first_crlf
 first_there [] at e h = absurd (none_some h)
-first_there (b ∷ l) at e h = go (is_ending 0 (b ∷ l)) refl (subst (λ t. cond t (some at) (first_crlf (at + 1) l) ≡ some e) (ending_behind 0 (b ∷ l)) h) (first_there l (at + 1) e)
+first_there (b ∷ l) at e h = go (is_ending 0 (b ∷ l)) refl (subst (λ t. cond t (Some at) (first_crlf (at + 1) l) ≡ Some e) (ending_behind 0 (b ∷ l)) h) (first_there l (at + 1) e)
   where
-    go : (t : Bool) → is_ending 0 (b ∷ l) ≡ t → cond t (some at) (first_crlf (at + 1) l) ≡ some e
-        → (first_crlf (at + 1) l ≡ some e → (text : List ℕ) × FirstLine l text × (e ≡ at + 1 + length text)) → (text : List ℕ) × FirstLine (b ∷ l) text × (e ≡ at + length text)
+    go : (t : Bool) → is_ending 0 (b ∷ l) ≡ t → cond t (Some at) (first_crlf (at + 1) l) ≡ Some e
+        → (first_crlf (at + 1) l ≡ Some e → (text : List ℕ) × FirstLine l text × (e ≡ at + 1 + length text)) → (text : List ℕ) × FirstLine (b ∷ l) text × (e ≡ at + length text)
     go true i h more = let a = leading b l i in ([], record { after = a.0; order = a.1; none_earlier = λ w. omega arith }, let k : at ≡ e = cc in omega (arith, k))
     go false i h more =
         let r = more h in
@@ -103,29 +104,29 @@ first_there (b ∷ l) at e h = go (is_ending 0 (b ∷ l)) refl (subst (λ t. con
           omega (arith, r.2),
         )
 
-at_once : (after : List ℕ) (at : ℕ) → first_crlf at (13 ∷ 10 ∷ after) ≡ some at
+at_once : (after : List ℕ) (at : ℕ) → first_crlf at (13 ∷ 10 ∷ after) ≡ Some at
 unfolding first_crlf begins_crlf
 at_once after at = refl
 
-first_here : (l text : List ℕ) (at : ℕ) → FirstLine l text → first_crlf at l ≡ some (at + length text)
+first_here : (l text : List ℕ) (at : ℕ) → FirstLine l text → first_crlf at l ≡ Some (at + length text)
 unfolding first_crlf further
-first_here l [] at w = ap (first_crlf at) w.order ∙ at_once w.after at ∙ ap some (omega arith)
+first_here l [] at w = ap (first_crlf at) w.order ∙ at_once w.after at ∙ ap Some (omega arith)
 first_here [] (c ∷ text) at w = absurd (omega (arith, ap length w.order))
 first_here (b ∷ l) (c ∷ text) at w = go (is_ending 0 (b ∷ l)) refl (first_here l text (at + 1))
   where
-    go : (t : Bool) → is_ending 0 (b ∷ l) ≡ t → (FirstLine l text → first_crlf (at + 1) l ≡ some (at + 1 + length text)) → cond (begins_crlf (b ∷ l)) (some at) (first_crlf (at + 1) l) ≡ some (at + suc (length text))
+    go : (t : Bool) → is_ending 0 (b ∷ l) ≡ t → (FirstLine l text → first_crlf (at + 1) l ≡ Some (at + 1 + length text)) → cond (begins_crlf (b ∷ l)) (Some at) (first_crlf (at + 1) l) ≡ Some (at + suc (length text))
     go true i more = let a = leading b l i in absurd (let h = w.none_earlier (record { before = []; after = a.0; order = a.1 }) in omega (arith, h))
     go false i more =
         let v : FirstLine l text = record { after = w.after; order = ap (drop 1) w.order; none_earlier = λ z. let h = w.none_earlier (further b z) in omega (arith, h) } in
-        rw (ending_behind 0 (b ∷ l), i) (more v ∙ ap some (omega arith))
+        rw (ending_behind 0 (b ∷ l), i) (more v ∙ ap Some (omega arith))
 
 -- ---- a line by its number, and a step
 
-line_there : (file : List ℕ) (o e : ℕ) → first_crlf o (drop o file) ≡ some e → IsLineAt file (record { from = o; to = e })
+line_there : (file : List ℕ) (o e : ℕ) → first_crlf o (drop o file) ≡ Some e → IsLineAt file (record { from = o; to = e })
 line_there file o e h = let r = first_there (drop o file) o e h in record { text = r.0; is = r.1; ends = r.2 }
 
-line_here : (file : List ℕ) (b : Bounds) → IsLineAt file b → first_crlf b.from (drop b.from file) ≡ some b.to
-line_here file b w = first_here (drop b.from file) w.text b.from w.is ∙ ap some (sym w.ends)
+line_here : (file : List ℕ) (b : Bounds) → IsLineAt file b → first_crlf b.from (drop b.from file) ≡ Some b.to
+line_here file b w = first_here (drop b.from file) w.text b.from w.is ∙ ap Some (sym w.ends)
 
 -- "neither 0 nor just past a CR LF"
 abbrev Starts : List ℕ → ℕ → Type 0
@@ -181,14 +182,14 @@ step_exactly file at s = (out, back)
     out e = let x = need_inv (leb at (length file)) _ (says s) _ refuses_says e in go (leb-true at (length file) x.0) (eqb at (length file)) refl x.1
       where
         go : at ≤ length file → (t : Bool) → eqb at (length file) ≡ t
-            → cond t (says (record { found = none; next = at })) (given (first_crlf at (drop at file)) (refuses 17 0 0) λ e. says (record { found = some (record { from = at; to = e }); next = e + 2 })) ≡ says s
+            → cond t (says (record { found = None; next = at })) (given (first_crlf at (drop at file)) (refuses 17 0 0) λ e. says (record { found = Some (record { from = at; to = e }); next = e + 2 })) ≡ says s
             → IsStep file at s
-        go m true i h = let k : ◌≡◌ {A = Stepped} (record { found = none; next = at }) s = cc in subst (IsStep file at) k (none_left (eqb-true at (length file) i))
+        go m true i h = let k : ◌≡◌ {A = Stepped} (record { found = None; next = at }) s = cc in subst (IsStep file at) k (none_left (eqb-true at (length file) i))
         go m false i h =
             let g = given_inv (first_crlf at (drop at file)) _ (says s) _ refuses_says h in
             let j = g.2 in
             let n = eqb-false at (length file) i in
-            let k : ◌≡◌ {A = Stepped} (record { found = some (record { from = at; to = g.0 }); next = g.0 + 2 }) s = cc in
+            let k : ◌≡◌ {A = Stepped} (record { found = Some (record { from = at; to = g.0 }); next = g.0 + 2 }) s = cc in
             subst (IsStep file at) k (next_line g.0 (omega (arith, m, n)) (line_there file at g.0 g.1))
 
     back : {s : Stepped} → IsStep file at s → step_at file at ≡ says s

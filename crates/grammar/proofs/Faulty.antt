@@ -1,10 +1,10 @@
 -- The check of a line, where it stands behind the lines before, against the list of the line's checks: it may come exactly where they tell that it may; a state is said
 -- exactly where all pass, and else the check refuses with the number and byte of the first that fails. Assumes nothing.
+use Rattle.std.specs.Prelude.{None, Option, Some}
 use Prim.Native.Nat.{ℕ, zero, suc, ◌-◌, ◌+◌, ◌*◌, ◌≤◌}
 use Prim.Native.Char.{code}
 use mathlib.Core.Bool.{Bool, true, false, not, ◌&&◌, ◌||◌, cond, and-true, and-false, not-not}
 use mathlib.Core.List.{List, [], ◌∷◌, ◌++◌}
-use mathlib.Core.Option.{Option, none, some}
 use mathlib.Core.Path.{◌≡◌, refl, sym, ◌∙◌, ap, subst}
 use mathlib.Core.Logic.{◌↔◌, ◌⊎◌, inl, inr}
 use native.Mathlib.Omega.{arith}
@@ -57,14 +57,14 @@ implied true true false f = refl
 implied true false false f = refl
 implied false x false f = refl
 
-there_need : (t : Bool) (o : Option ℕ) → is_there (need t none λ u. o) ≡ (t && is_there o)
+there_need : (t : Bool) (o : Option ℕ) → is_there (need t None λ u. o) ≡ (t && is_there o)
 there_need true o = refl
 there_need false o = refl
 
 there_leading : (low high next stage : ℕ) → is_there (leading low high next stage) ≡ (leb low stage && leb stage high)
 there_leading low high next stage = go (leb low stage && leb stage high)
   where
-    go : (t : Bool) → is_there (need t none λ u. some next) ≡ t
+    go : (t : Bool) → is_there (need t None λ u. Some next) ≡ t
     go true = refl
     go false = refl
 
@@ -211,10 +211,10 @@ module _ {A : Type 0} where
   agree_need n b true f cs h = one_more (f tt) (check n b true) cs refl (h refl)
   agree_need n b false f cs h = (refl, inl (refl, refl, refl))
 
-  pub agree_given : {B : Type 0} (n b : ℕ) (o : Option B) (f : B → Said A) (cs : List Check) → ((v : B) → o ≡ some v → Agrees (f v) cs)
+  pub agree_given : {B : Type 0} (n b : ℕ) (o : Option B) (f : B → Said A) (cs : List Check) → ((v : B) → o ≡ Some v → Agrees (f v) cs)
       → Agrees (given o (refuses n 0 b) f) (check n b (is_there o) ∷ cs)
-  agree_given n b (some v) f cs h = one_more (f v) (check n b true) cs refl (h v refl)
-  agree_given n b none f cs h = (refl, inl (refl, refl, refl))
+  agree_given n b (Some v) f cs h = one_more (f v) (check n b true) cs refl (h v refl)
+  agree_given n b None f cs h = (refl, inl (refl, refl, refl))
 
   pub agree_then : {B : Type 0} (s : Said B) (f : B → Said A) (cs ds : List Check) → Agrees s cs → ((v : B) → s ≡ says v → Agrees (f v) ds) → Agrees (and_then s f) (cs ++ ds)
   agree_then (says v) f cs ds h g = go (f v) (g v refl)
@@ -238,7 +238,7 @@ module _ {A : Type 0} (num : ℕ) (at_byte : ℕ → A → ℕ) (test : A → Bo
   each_agrees found place same v (a ∷ l) n = go (test a) refl (each_agrees found place same v l (suc n))
     where
       go : (t : Bool) → test a ≡ t → Agrees (given (first_of (λ a. not (test a)) found l (suc n)) (says v) λ i. refuses num 0 (place i)) (one_each num at_byte test l (suc n))
-          → Agrees (given (cond (not t) (some (found n a)) (first_of (λ a. not (test a)) found l (suc n))) (says v) λ i. refuses num 0 (place i))
+          → Agrees (given (cond (not t) (Some (found n a)) (first_of (λ a. not (test a)) found l (suc n))) (says v) λ i. refuses num 0 (place i))
           (check num (at_byte n a) t ∷ one_each num at_byte test l (suc n))
       go true e h = one_more (given (first_of (λ a. not (test a)) found l (suc n)) (says v) λ i. refuses num 0 (place i)) (check num (at_byte n a) true) (one_each num at_byte test l (suc n)) refl h
       go false e h = (refl, inl (refl, refl, sym (same n a)))
@@ -260,8 +260,8 @@ columns_agree at l es =
 -- no time falls from where none was
 in_time : (before : Option ℕ) (now : ℕ) → not (is_back (passing (or_zero before) now)) ≡ is_in_time before now
 unfolding passing is_in_time
-in_time none now = rw (le-leb 0 now (omega arith))
-in_time (some t) now = go (leb t now) (ltb 43200 (t - now))
+in_time None now = rw (le-leb 0 now (omega arith))
+in_time (Some t) now = go (leb t now) (ltb 43200 (t - now))
   where
     go : (a b : Bool) → not (is_back (cond a onward (cond b next_day back))) ≡ (a || b)
     go true b = refl
@@ -270,7 +270,7 @@ in_time (some t) now = go (leb t now) (ltb 43200 (t - now))
 
 -- the checks of a line, and then of its time
 module _ (ls : List (List ℕ)) (l : List ℕ) where
-  then_time_lem : (s : Said ℕ) (st : State) (cs : List Check) → st.clock ≡ or_zero (last_time ls) → ((t : ℕ) → s ≡ says t → time_at l 1 ≡ some t) → Agrees s cs
+  then_time_lem : (s : Said ℕ) (st : State) (cs : List Check) → st.clock ≡ or_zero (last_time ls) → ((t : ℕ) → s ≡ says t → time_at l 1 ≡ Some t) → Agrees s cs
       → Agrees (and_then s (λ t. timed t st)) (then_time cs ls l)
   unfolding timed number
   then_time_lem s st cs c at_time h =
@@ -298,7 +298,7 @@ pairs_agree v (a ∷ []) at = tt
 pairs_agree v (a ∷ b ∷ l) at = go (is_code a && is_code b) (pairs_agree v l (at + 2))
   where
     go : (t : Bool) → Agrees (given (bad_pair (at + 2) l) (says v) λ i. refuses 9 0 (i + 1)) (pair_checks (at + 2) l)
-        → Agrees (given (cond t (bad_pair (at + 2) l) (some at)) (says v) λ i. refuses 9 0 (i + 1)) (check 9 (at + 1) t ∷ pair_checks (at + 2) l)
+        → Agrees (given (cond t (bad_pair (at + 2) l) (Some at)) (says v) λ i. refuses 9 0 (i + 1)) (check 9 (at + 1) t ∷ pair_checks (at + 2) l)
     go true h = one_more (given (bad_pair (at + 2) l) (says v) λ i. refuses 9 0 (i + 1)) (check 9 (at + 1) true) (pair_checks (at + 2) l) refl h
     go false h = (refl, inl (refl, refl, refl))
 
@@ -310,7 +310,7 @@ unfolding fix_fields on number
 fields_agree l = search agreeing depth 20
 
 -- a coordinate that is at its limit
-pub at_most : (o : Option Position) (most : ℕ) → ((given o false λ p. eqb p.count most) ≡ true) ↔ ((p : Position) × (o ≡ some p) × (p.count ≡ most))
+pub at_most : (o : Option Position) (most : ℕ) → ((given o false λ p. eqb p.count most) ≡ true) ↔ ((p : Position) × (o ≡ Some p) × (p.count ≡ most))
 at_most o most = (λ e. let g = given_inv o false true _ false_true e in (g.0, g.1, eqb-true _ _ g.2), λ h. rw (h.1, eq-eqb _ _ h.2))
 
 -- the coordinates that are at their limits, by the line and by its fields
@@ -368,7 +368,7 @@ found_has x [] n = refl
 found_has x (e ∷ es) n = go (eqb e.code x) (found_has x es (suc n))
   where
     go : (b : Bool) → is_there (first_of (λ (e : Entry). eqb e.code x) (λ (k : ℕ) (e : Entry). span_of e) es (suc n)) ≡ has_code es x
-        → is_there (cond b (some (span_of e)) (first_of (λ (e : Entry). eqb e.code x) (λ (k : ℕ) (e : Entry). span_of e) es (suc n))) ≡ (b || has_code es x)
+        → is_there (cond b (Some (span_of e)) (first_of (λ (e : Entry). eqb e.code x) (λ (k : ℕ) (e : Entry). span_of e) es (suc n))) ≡ (b || has_code es x)
     go true r = refl
     go false r = r
 

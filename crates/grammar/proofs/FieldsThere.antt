@@ -1,10 +1,12 @@
 -- Each field could be read exactly where the text of a value within its limits stands. From the laws of each field both ways. Assumes nothing.
+use Rattle.rules.specs.declared.Position.{Position}
+use Rattle.rules.specs.declared.Date.{Date}
+use Rattle.std.specs.Prelude.{None, Option, Some}
 use Prim.Native.Nat.{ℕ, ◌+◌, ◌≤◌, ◌<◌, ◌^◌}
 use Prim.Native.Char.{code}
 use mathlib.Core.Bool.{Bool, true}
 use mathlib.Core.List.{List, [], ◌∷◌}
 use mathlib.Core.Logic.{◌↔◌}
-use mathlib.Core.Option.{Option, none, some}
 use mathlib.Core.Path.{◌≡◌, refl, ap}
 use native.Mathlib.Omega.{arith}
 use lib.ListN.{length, drop}
@@ -36,8 +38,8 @@ use Rattle.grammar.proofs.Leading.{letter}
 -- ---- a field that reads both ways
 
 module _ {A : Type 0} (read : List ℕ → ℕ → Option A) (text : A → List ℕ) (Within : A → Type 0) where
-  is_field : ((l : List ℕ) (at : ℕ) (v : A) → read l at ≡ some v → Within v × Stood l at (text v))
-      → ((l : List ℕ) (at : ℕ) (v : A) → Within v × Stood l at (text v) → read l at ≡ some v)
+  is_field : ((l : List ℕ) (at : ℕ) (v : A) → read l at ≡ Some v → Within v × Stood l at (text v))
+      → ((l : List ℕ) (at : ℕ) (v : A) → Within v × Stood l at (text v) → read l at ≡ Some v)
       → Field read text Within
   is_field out in_again = record {
     reads = λ l at v. (out l at v, in_again l at v);
@@ -45,8 +47,8 @@ module _ {A : Type 0} (read : List ℕ → ℕ → Option A) (text : A → List 
   }
     where
       read_there : (l : List ℕ) (at : ℕ) (o : Option A) → read l at ≡ o → is_there o ≡ true → (v : A) × Within v × Stood l at (text v)
-      read_there l at (some v) q h = let r = out l at v q in (v, r.0, r.1)
-      read_there l at none q h = absurd (false_true h)
+      read_there l at (Some v) q h = let r = out l at v q in (v, r.0, r.1)
+      read_there l at None q h = absurd (false_true h)
 
   -- the test of the limits says what they are
   trip_field : (width : ℕ) (within : A → Bool) → Trip read text width within → ((v : A) → (within v ≡ true) ↔ Within v) → Field read text Within

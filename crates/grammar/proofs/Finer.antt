@@ -1,8 +1,8 @@
 -- The counts of a fix are what the columns of finer digits of its line make of the plain ones: by the definitions exactly as by the grammar. Assumes nothing.
+use Rattle.std.specs.Prelude.{None, Option, Some}
 use Prim.Native.Nat.{ℕ, suc, ◌+◌, ◌-◌, ◌*◌, ◌^◌, ◌≤◌, ◌<◌}
 use mathlib.Core.Bool.{Bool, true, false, cond, or-false}
 use mathlib.Core.List.{List, [], ◌∷◌, ◌++◌, append-nil}
-use mathlib.Core.Option.{Option, none, some}
 use mathlib.Core.Path.{◌≡◌, refl, sym, ◌∙◌, ap, subst}
 use native.Mathlib.Omega.{arith}
 use borrow.Author.Tests.{eqb-true, eqb-false, ne_eqb, le-leb}
@@ -13,7 +13,8 @@ use Rattle.rules.specs.Choice.{first_of, leads, bytes, Each}
 use Rattle.rules.specs.Chars.{is_digit}
 use Rattle.rules.specs.Numbers.{spell, number_at, digits_of}
 use Rattle.rules.specs.Listed.{code_text, packed_of, listed, unlisted, listed_number, is_digits, keeps_sign, keeps_rule, tds, lad, lod}
-use Rattle.rules.specs.Layouts.{Span, span_of, entries_of, look, column_text}
+use Rattle.rules.specs.declared.Span.{Span}
+use Rattle.rules.specs.Layouts.{span_of, entries_of, look, column_text}
 use Rattle.rules.specs.Fixes.{reach_of, finer_of, decimals_of, digits_at, refined, fine_position, fix_of}
 use Rattle.rules.specs.declared.Entry.{Entry}
 use Rattle.rules.specs.declared.Layout.{Layout}
@@ -36,13 +37,13 @@ use Rattle.grammar.proofs.LayoutLines.{IsTold}
 -- ---- entries by their codes
 
 -- a code that is found is that of an entry
-pub found_in : (x : ℕ) (es : List Entry) (n : ℕ) (s : Span) → first_of (Coded x) (λ k e. span_of e) es n ≡ some s → Carries es (code_text x)
+pub found_in : (x : ℕ) (es : List Entry) (n : ℕ) (s : Span) → first_of (Coded x) (λ k e. span_of e) es n ≡ Some s → Carries es (code_text x)
 unfolding first_of
 found_in x [] n s h = absurd (none_some h)
 found_in x (e ∷ es) n s h = by (eqb e.code x) refl h (found_in x es (suc n) s)
   where
-    by : (t : Bool) → eqb e.code x ≡ t → cond t (some (span_of e)) (first_of (Coded x) (λ k e. span_of e) es (suc n)) ≡ some s
-        → (first_of (Coded x) (λ k e. span_of e) es (suc n) ≡ some s → Carries es (code_text x)) → Carries (e ∷ es) (code_text x)
+    by : (t : Bool) → eqb e.code x ≡ t → cond t (Some (span_of e)) (first_of (Coded x) (λ k e. span_of e) es (suc n)) ≡ Some s
+        → (first_of (Coded x) (λ k e. span_of e) es (suc n) ≡ Some s → Carries es (code_text x)) → Carries (e ∷ es) (code_text x)
     by true q h r = record { before = []; entry = e; after = es; order = refl; coded = ap code_text (eqb-true _ _ q) }
     by false q h r =
         let c = r h in
@@ -57,20 +58,20 @@ one_code x y e = sym (packed_back x) ∙ ap packed_of e ∙ packed_back y
 
 -- ---- a text of digits
 
-spelt_digits : (l : List ℕ) (w : ℕ) → leads is_digit (length l) l ≡ true → (v : ℕ) × (spell (length l) w l ≡ some v)
+spelt_digits : (l : List ℕ) (w : ℕ) → leads is_digit (length l) l ≡ true → (v : ℕ) × (spell (length l) w l ≡ Some v)
 unfolding leads spell
 spelt_digits [] w h = (w, refl)
 spelt_digits (b ∷ l) w h =
     let d = and_inv (is_digit b) _ h in
     let r = spelt_digits l (w * 10 + (b - 48)) d.1 in
-    (r.0, ap (λ t. cond t (spell (length l) (w * 10 + (b - 48)) l) none) d.0 ∙ r.1)
+    (r.0, ap (λ t. cond t (spell (length l) (w * 10 + (b - 48)) l) None) d.0 ∙ r.1)
 
 -- up to 18 digits are those of a number
-digits_there : (t : List ℕ) → is_digits t ≡ true → length t ≤ 18 → (v : ℕ) × (number_at t 0 (length t) ≡ some v) × (t ≡ digits_of (length t) v) × (v < 10 ^ length t)
+digits_there : (t : List ℕ) → is_digits t ≡ true → length t ≤ 18 → (v : ℕ) × (number_at t 0 (length t) ≡ Some v) × (t ≡ digits_of (length t) v) × (v < 10 ^ length t)
 unfolding is_digits number_at
 digits_there t h m =
     let r = spelt_digits t 0 h in
-    let e : number_at t 0 (length t) ≡ some r.0 = rw (le-leb _ _ m) r.1 in
+    let e : number_at t 0 (length t) ≡ Some r.0 = rw (le-leb _ _ m) r.1 in
     let n = number_there t 0 (length t) (length t) r.0 (omega arith) e in
     (r.0, e, n.0 ∙ ap (λ x. digits_of (length t) r.0 ++ x) (drop-length t) ∙ append-nil (digits_of (length t) r.0), n.1)
 
@@ -79,7 +80,7 @@ digits_there t h m =
 module _ (layout : Layout) (told : IsTold family.B layout) (l : List ℕ) (wide : Each (λ e. length (column_text l (span_of e)) ≡ width_of e) (entries_of layout)) where
   -- an entry of the layout: it is found by its code, stands from byte 36 on, and its text is as wide as it says
   record At (e : Entry) : Type 0 where
-    looked : look layout e.code ≡ some (span_of e)
+    looked : look layout e.code ≡ Some (span_of e)
     stands : Stands 36 e
     long : length (column_text l (span_of e)) ≡ width_of e
 
@@ -87,7 +88,7 @@ module _ (layout : Layout) (told : IsTold family.B layout) (l : List ℕ) (wide 
   each_at =
       let es = entries_of layout in
       each_map es (λ e h. record { looked = h.0; stands = h.1.0; long = h.1.1 })
-      (each_both es (λ e. look layout e.code ≡ some (span_of e)) (λ e. Stands 36 e × (length (column_text l (span_of e)) ≡ width_of e)) (each_looked 36 layout told)
+      (each_both es (λ e. look layout e.code ≡ Some (span_of e)) (λ e. Stands 36 e × (length (column_text l (span_of e)) ≡ width_of e)) (each_looked 36 layout told)
       (each_both es (Stands 36) (λ e. length (column_text l (span_of e)) ≡ width_of e) (all_stand 36 layout told.right) wide))
 
   -- where a code's column stands, and how wide it is
@@ -99,12 +100,12 @@ module _ (layout : Layout) (told : IsTold family.B layout) (l : List ℕ) (wide 
   unfolding decimals_of
   wide_is x e w i = rw (reach_is x e w i, ne_eqb e.first 0 (λ z. omega (arith, w.stands.starts))) (omega (arith, w.stands.ends))
 
-  digits_are : (x : ℕ) (e : Entry) (v : ℕ) → At e → e.code ≡ x → number_at (column_text l (span_of e)) 0 (width_of e) ≡ some v → digits_at l (reach_of layout x) ≡ v
+  digits_are : (x : ℕ) (e : Entry) (v : ℕ) → At e → e.code ≡ x → number_at (column_text l (span_of e)) 0 (width_of e) ≡ Some v → digits_at l (reach_of layout x) ≡ v
   unfolding digits_at
   digits_are x e v w i n = rw (wide_is x e w i, reach_is x e w i, n)
 
   -- without the column
-  without_is : (x old : ℕ) → look layout x ≡ none → (refined old l (reach_of layout x) ≡ old) × (decimals_of (reach_of layout x) ≡ 0)
+  without_is : (x old : ℕ) → look layout x ≡ None → (refined old l (reach_of layout x) ≡ old) × (decimals_of (reach_of layout x) ≡ 0)
   unfolding reach_of refined decimals_of digits_at number_at spell
   without_is x old e = (rw e (omega arith), rw e)
 
@@ -115,10 +116,10 @@ module _ (layout : Layout) (told : IsTold family.B layout) (l : List ℕ) (wide 
     finer_there h = by (look layout x) refl
       where
         by : (o : Option Span) → look layout x ≡ o → Finer (code_text x) (entries_of layout) l old (refined old l (reach_of layout x)) (decimals_of (reach_of layout x))
-        by none e =
+        by None e =
             let r = without_is x old e in
             without (each_map (entries_of layout) (λ e n i. eqb-false _ _ n (one_code _ _ i)) (nothing_found (Coded x) (λ k e. span_of e) (entries_of layout) 0 e)) r.0 r.1
-        by (some s) e =
+        by (Some s) e =
             let c = found_in x (entries_of layout) 0 s e in
             let i = one_code _ _ c.coded in
             let w = carried_so At each_at c in
@@ -144,7 +145,7 @@ module _ (layout : Layout) (told : IsTold family.B layout) (l : List ℕ) (wide 
 -- ---- the fix
 
 -- a listed column that may have no minus holds digits
-unsigned : (x n : ℕ) (t : List ℕ) → listed_number x ≡ some n → (get_or listed n unlisted).sign ≡ false → keeps_rule x t ≡ true → is_digits t ≡ true
+unsigned : (x n : ℕ) (t : List ℕ) → listed_number x ≡ Some n → (get_or listed n unlisted).sign ≡ false → keeps_rule x t ≡ true → is_digits t ≡ true
 unfolding keeps_rule keeps_sign
 unsigned x n t e s h = sym (or-false (is_digits t)) ∙ (rw (e, s) at h)
 
@@ -157,7 +158,7 @@ module _ (layout : Layout) (told : IsTold family.B layout) (l : List ℕ) (wide 
   unfolding fix_of finer_of fine_position listed bytes
   refines_there h =
       let m = fine_most layout told.right in
-      let held : (x n : ℕ) → listed_number x ≡ some n → (get_or listed n unlisted).sign ≡ false → Each (λ e. e.code ≡ x → is_digits (column_text l (span_of e)) ≡ true) (entries_of layout) =
+      let held : (x n : ℕ) → listed_number x ≡ Some n → (get_or listed n unlisted).sign ≡ false → Each (λ e. e.code ≡ x → is_digits (column_text l (span_of e)) ≡ true) (entries_of layout) =
       λ x n e s. each_map (entries_of layout) (λ c k i. unsigned x n _ e s (rw i at k)) h in
       record {
         time = renamed finer_exactly.0 (finer_there layout told l wide tds plain.time (omega (arith, m.0)) (held tds 10 finer_numbered.0 refl));

@@ -1,8 +1,8 @@
 -- Laws that every room uses: what a chain's answer says of its links, a line's shape, and that a date's day exists, in the grammar's words. Assumes nothing.
+use Rattle.std.specs.Prelude.{None, Option, Some}
 use Prim.Native.Nat.{ℕ, suc, zero, ◌%◌, ◌≤◌}
 use mathlib.Core.Bool.{Bool, true, false, not, ◌&&◌, cond}
 use mathlib.Core.List.{List, [], ◌∷◌}
-use mathlib.Core.Option.{Option, none, some}
 use mathlib.Core.Path.{◌≡◌, refl, sym, ◌∙◌, subst}
 use mathlib.Core.Logic.{◌↔◌}
 use native.Mathlib.Omega.{arith}
@@ -15,8 +15,6 @@ use Rattle.rules.specs.Chars.{is_valid, first_invalid, characters}
 use Rattle.rules.specs.Lines.{is_sized, shaped}
 use Rattle.rules.specs.Fields.{is_leap, days_of}
 use Rattle.rules.specs.declared.Date.{Date}
-use Rattle.rules.specs.declared.Planned.{Planned}
-use Rattle.rules.specs.declared.Planned.TheVariants as planned
 use Rattle.rules.specs.Limits.{is_date, is_planned}
 use Rattle.rules.proofs.Inverse.{false_true, refuses_says, need_inv, and_inv, given_none}
 use Rattle.rules_trips.proofs.Texts.{are_valid}
@@ -33,9 +31,9 @@ cond_false true a b x n e = absurd (n e)
 cond_false false a b x n e = (refl, e)
 
 -- nothing was found
-pub nothing_given : {A : Type 0} (o : Option A) → given o true (λ i. false) ≡ true → o ≡ none
-nothing_given none e = refl
-nothing_given (some i) e = absurd (false_true e)
+pub nothing_given : {A : Type 0} (o : Option A) → given o true (λ i. false) ≡ true → o ≡ None
+nothing_given None e = refl
+nothing_given (Some i) e = absurd (false_true e)
 
 -- ---- a line's length and characters
 
@@ -145,7 +143,7 @@ day_exactly d = (there, here)
         let n = month_here d.year w.from w.to w.month in
         simp (le-leb _ _ w.from, le-leb _ _ w.to, le-leb _ _ w.low, n, le-leb _ _ w.high)
 
-pub planned_exactly : (p : Planned) → (is_planned p ≡ true) ↔ IsPlanned p
+pub planned_exactly : (p : Option Date) → (is_planned p ≡ true) ↔ IsPlanned p
 unfolding is_planned
-planned_exactly (planned.On d) = day_exactly d
-planned_exactly planned.NotGiven = (λ e. tt, λ u. refl)
+planned_exactly (Some d) = day_exactly d
+planned_exactly None = (λ e. tt, λ u. refl)

@@ -1,9 +1,9 @@
 -- I, J and M lines both ways: the entries that a line is read as are those that it has, and they tile in the grammar's words; such a line reads as a layout exactly when it is
 -- the text of entries that tile, and the layout is theirs; and so exactly when the layout is allowed and has 13 slots. Assumes nothing.
+use Rattle.std.specs.Prelude.{Option, Some}
 use Prim.Native.Nat.{ℕ, zero, suc, ◌+◌, ◌*◌, ◌/◌, ◌%◌, ◌≤◌}
 use mathlib.Core.Bool.{true, false, ◌&&◌}
 use mathlib.Core.List.{List, [], ◌∷◌, ◌++◌, append_assoc, append-nil}
-use mathlib.Core.Option.{Option, some}
 use mathlib.Core.Path.{◌≡◌, refl, sym, ◌∙◌, ap, subst}
 use mathlib.Core.Logic.{◌↔◌}
 use native.Mathlib.Omega.{arith}
@@ -45,7 +45,7 @@ use Rattle.grammar.proofs.Laws.{shape_there}
 -- ---- the entries that a line has
 
 -- what was read of a field is its value
-pub there : {v : ℕ} (o : Option ℕ) → o ≡ some v → or_zero o ≡ v
+pub there : {v : ℕ} (o : Option ℕ) → o ≡ Some v → or_zero o ≡ v
 there o e = rw e
 
 pub entry_of_lem : (l : List ℕ) (at start : ℕ) (before : Layout) (e : Entry) → entry_at l at start before ≡ says e → entry_of l at ≡ e
@@ -133,7 +133,7 @@ letter_is (family.Extra extra.N) = (omega arith, refl)
 
 module _ (f : Family) (layout : Layout) (l : List ℕ) (h : layout_line (first_start f) l ≡ says layout) where
   -- NN, and NN entries
-  read : (nn : ℕ) × (number_at l 1 2 ≡ some nn) × (length l ≤ 99) × (nn ≤ 13) × (layout ≡ laid (entries_in nn l 3))
+  read : (nn : ℕ) × (number_at l 1 2 ≡ Some nn) × (length l ≤ 99) × (nn ≤ 13) × (layout ≡ laid (entries_in nn l 3))
       × Tiled (entries_in nn l 3) (first_start f) empty_layout × (drop 3 l ≡ entry_texts (entries_in nn l 3))
   unfolding layout_line layout_fields
   read =

@@ -1,12 +1,12 @@
 -- One line after those before it: the check of a line says a state exactly when the line is one that may come there, and leads to that state. First its letter: which
 -- role it tells, and what the tests of a first byte say of that role. Assumes nothing.
+use Rattle.std.specs.Prelude.{None, Option, Some}
 use Prim.Native.Nat.{ℕ, suc, ◌+◌, ◌-◌, ◌≤◌}
 use Prim.Native.Char.{code}
 use mathlib.Core.Bool.{Bool, true, false, ◌&&◌, cond, not}
 use mathlib.Core.List.{List, []}
 use mathlib.Core.Logic.{inl, inr}
 use mathlib.Core.Path.{◌≡◌, refl, sym}
-use mathlib.Core.Option.{Option, none, some}
 use native.Mathlib.Omega.{arith}
 use borrow.Author.Tests.{le-leb, lt-leb, leb-true, leb-false, eqb-true, eqb-false, ne_eqb, ltb-true, ltb-false, le-ltb, lt-ltb, not-true}
 use lib.Dec.{leb, eqb, ltb}
@@ -47,12 +47,12 @@ use Rattle.grammar.proofs.LayoutLines.{IsTold, layout_there, layout_said_lem, la
 -- ---- room in a table, as the rules test it and as the grammar says it
 
 pub fits_there : (room : Option ℕ) (n : ℕ) → has_room room n ≡ true → Fits room n
-fits_there none n h = tt
-fits_there (some most) n h = leb-true n most h
+fits_there None n h = tt
+fits_there (Some most) n h = leb-true n most h
 
 pub fits_so : (room : Option ℕ) (n : ℕ) → Fits room n → has_room room n ≡ true
-fits_so none n h = refl
-fits_so (some most) n h = le-leb n most h
+fits_so None n h = refl
+fits_so (Some most) n h = le-leb n most h
 
 -- ---- the role of a letter
 
@@ -236,9 +236,9 @@ fits_head : (st : State) → st.points ≡ 0 → st.declared ≡ false → count
 unfolding fits_declaration
 fits_head st p d b = rw (p, d, b)
 
-pub order_inv : (r : Role) (st : State) (stage : ℕ) → order_of r st ≡ some stage → (fits_declaration (is_declaring r) st ≡ true) × (stage_after r st.stage ≡ some stage)
+pub order_inv : (r : Role) (st : State) (stage : ℕ) → order_of r st ≡ Some stage → (fits_declaration (is_declaring r) st ≡ true) × (stage_after r st.stage ≡ Some stage)
 unfolding order_of
-order_inv r st stage e = need_inv (fits_declaration (is_declaring r) st) none (some stage) _ none_some e
+order_inv r st stage e = need_inv (fits_declaration (is_declaring r) st) None (Some stage) _ none_some e
 
 -- ---- the time order
 
@@ -266,16 +266,16 @@ module _ (l : List ℕ) (st : State) where
   Led m = (p : Part) × Leads st l p m
 
   -- an L line, before the first G and after it
-  l_led : (stage : ℕ) (b : Bool) → st.points ≡ 0 → IsLLine l → cond b (leading after_h in_body in_body st.stage) (leading after_g after_last_g after_last_g st.stage) ≡ some stage
+  l_led : (stage : ℕ) (b : Bool) → st.points ≡ 0 → IsLLine l → cond b (leading after_h in_body in_body st.stage) (leading after_g after_last_g after_last_g st.stage) ≡ Some stage
       → Led (moved stage st)
   l_led stage true p w o = let s = leading_inv after_h in_body in_body st.stage stage o in rw (← s.2) (body, body_line s.0 s.1 (quiet p (remark w)))
   l_led stage false p w o = let s = leading_inv after_g after_last_g after_last_g st.stage stage o in rw (← s.2) (remarks, l_line s.0 s.1 p w)
 
   -- and C, D, E, F, B, K, N and other lines, which are of the body
-  to_body : (F : ℕ → State) (stage : ℕ) → leading after_h in_body in_body st.stage ≡ some stage → InBody st l (F in_body) → Led (F stage)
+  to_body : (F : ℕ → State) (stage : ℕ) → leading after_h in_body in_body st.stage ≡ Some stage → InBody st l (F in_body) → Led (F stage)
   to_body F stage o w = let s = leading_inv after_h in_body in_body st.stage stage o in rw (← s.2) (body, body_line s.0 s.1 w)
 
-  by_role : (stage : ℕ) {r : Role} {m : State} → Sound st → Letter r (get_or l 0 0) → fits_declaration (is_declaring r) st ≡ true → stage_after r st.stage ≡ some stage
+  by_role : (stage : ℕ) {r : Role} {m : State} → Sound st → Letter r (get_or l 0 0) → fits_declaration (is_declaring r) st ≡ true → stage_after r st.stage ≡ Some stage
       → Leaves l (moved stage st) r m → Led m
   unfolding stage_after
   by_role stage g k f o (passes.opens e) =
@@ -315,7 +315,7 @@ module _ (l : List ℕ) (st : State) where
 -- ---- a line that leads on is judged good
 
 module _ (l : List ℕ) (st : State) where
-  role_judged : (r : Role) (stage : ℕ) {m : State} → role_in l ≡ r → is_role r ≡ true → fits_declaration (is_declaring r) st ≡ true → stage_after r st.stage ≡ some stage
+  role_judged : (r : Role) (stage : ℕ) {m : State} → role_in l ≡ r → is_role r ≡ true → fits_declaration (is_declaring r) st ≡ true → stage_after r st.stage ≡ Some stage
       → Leaves l (moved stage st) r m → judge l st ≡ says m
   unfolding order_of
   role_judged r stage {m} k i f o w = judged_so l st m (record { long = not_empty l (rw k i); known = rw k i; stage = stage; order = rw (k, f) o; left = rw k w })

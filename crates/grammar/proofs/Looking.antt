@@ -1,10 +1,10 @@
 -- A look says 17 exactly of a bad answer, 19 exactly where no entry has the code, else the bytes of the entry that has it, and as a number 20 exactly where they spell none,
 -- else the number that they spell; whatever line and entries it is given. Assumes nothing.
+use Rattle.std.specs.Prelude.{None, Option, Some}
 use Prim.Native.Nat.{ℕ, suc, ◌-◌, ◌≤◌, ◌<◌}
 use mathlib.Core.Bool.{Bool, true, false, not, ◌&&◌}
 use mathlib.Core.List.{List, [], ◌∷◌, ◌++◌}
 use mathlib.Core.Logic.{◌⊎◌, inl, inr}
-use mathlib.Core.Option.{Option, none, some}
 use mathlib.Core.Path.{◌≡◌, refl, sym, ◌∙◌, ap, subst}
 use native.Mathlib.Omega.{arith}
 use borrow.Author.Tests.{eq-eqb, ne_eqb, le-leb, leb-true, leb-false}
@@ -15,7 +15,8 @@ use Rattle.rules.specs.Choice.{first_of, given, Each}
 use Rattle.rules.specs.Refusals.{number, Said, says, refuses}
 use Rattle.rules.specs.Numbers.{whole_of}
 use Rattle.rules.specs.Listed.{packed_of, code_text}
-use Rattle.rules.specs.Layouts.{Span, span_of, entries_of, look_in, look}
+use Rattle.rules.specs.declared.Span.{Span}
+use Rattle.rules.specs.Layouts.{span_of, entries_of, look_in, look}
 use Rattle.rules.specs.Looks.{are_inside, fits_line, look_said, look_text, look_number}
 use Rattle.rules.specs.declared.Signed.{Signed}
 use Rattle.rules.specs.declared.Entry.{Entry}
@@ -50,8 +51,8 @@ has_there : (x : ℕ) (es : List Entry) → has_code es x ≡ true → Carries e
 has_there x es h = go (look_in es x) refl (found_has x es 0 ∙ h)
   where
     go : (o : Option Span) → look_in es x ≡ o → given o false (λ s. true) ≡ true → Carries es (code_text x)
-    go (some s) e t = found_in x es 0 s e
-    go none e t = absurd (false_true t)
+    go (Some s) e t = found_in x es 0 s e
+    go None e t = absurd (false_true t)
 
 again_there : (es : List Entry) → are_once es ≡ false → Again es
 unfolding are_once
@@ -136,14 +137,14 @@ module _ (l : List ℕ) (es : Layout) where
 
 -- no code comes twice, so the first entry that is found is the one that has the code
 first_there : (x : ℕ) (before after : List Entry) (e : Entry) (n : ℕ) → Once (before ++ (e ∷ after)) → e.code ≡ x
-    → first_of (Coded x) (λ (k : ℕ) (e : Entry). span_of e) (before ++ (e ∷ after)) n ≡ some (span_of e)
+    → first_of (Coded x) (λ (k : ℕ) (e : Entry). span_of e) (before ++ (e ∷ after)) n ≡ Some (span_of e)
 unfolding first_of
 first_there x [] after e n o h = rw (eq-eqb _ _ h)
 first_there x (b ∷ before) after e n o h =
     rw (ne_eqb b.code x (λ i. (each_cut _ before (e ∷ after) o.0).1.0 (h ∙ sym i))) (first_there x before after e (suc n) o.1 h)
 
 module _ (l : List ℕ) (es : Layout) (name : List ℕ) (named : IsName name) where
-  carried_found : GoodAnswer l es → (c : Carries (entries_of es) name) → look es (packed_of name) ≡ some (span_of c.entry)
+  carried_found : GoodAnswer l es → (c : Carries (entries_of es) name) → look es (packed_of name) ≡ Some (span_of c.entry)
   unfolding look
   carried_found w c =
       ap (λ y. look_in y (packed_of name)) c.order
@@ -173,10 +174,10 @@ module _ (l : List ℕ) (es : Layout) (name : List ℕ) (named : IsName name) wh
   some_says = by (fits_line l es) refl
     where
       found : GoodAnswer l es → (o : Option Span) → look_in (entries_of es) (packed_of name) ≡ o → LookSays l es name (look_said l es name)
-      found w none e =
+      found w None e =
           let h = (names_meant.absent (entries_of es) name named).0 (sym (found_has (packed_of name) (entries_of es) 0) ∙ ap (λ o. given o false (λ s. true)) e) in
           subst (LookSays l es name) (sym (said_absent w h)) (absent w h)
-      found w (some s) e =
+      found w (Some s) e =
           let c = subst (Carries (entries_of es)) (name_back name named) (found_in (packed_of name) (entries_of es) 0 s e) in
           subst (LookSays l es name) (sym (said_there w c)) (there w c)
 
@@ -207,16 +208,16 @@ module _ (l : List ℕ) (es : Layout) (name : List ℕ) (named : IsName name) wh
   number_here (unspelt w c h) = rw (said_there w c) (go (whole_of (bytes_of c.entry l)) refl)
     where
       go : (o : Option Signed) → whole_of (bytes_of c.entry l) ≡ o → given o (refuses 20 0 0) (λ z. says z) ≡ refuses 20 0 0
-      go none e = refl
-      go (some z) e = absurd (h z (whole_there _ z e))
+      go None e = refl
+      go (Some z) e = absurd (h z (whole_there _ z e))
   number_here (spelt w c z h) = rw (said_there w c, whole_here (bytes_of c.entry l) h)
 
   some_number : NumberSays l es name (look_number l es name)
   some_number = by some_says refl
     where
       counted : GoodAnswer l es → (c : Carries (entries_of es) name) → (o : Option Signed) → whole_of (bytes_of c.entry l) ≡ o → NumberSays l es name (look_number l es name)
-      counted w c none e = let n = unspelt w c (λ z h. none_some (sym e ∙ whole_here _ h)) in subst (NumberSays l es name) (sym (number_here n)) n
-      counted w c (some z) e = let n = spelt w c z (whole_there _ z e) in subst (NumberSays l es name) (sym (number_here n)) n
+      counted w c None e = let n = unspelt w c (λ z h. none_some (sym e ∙ whole_here _ h)) in subst (NumberSays l es name) (sym (number_here n)) n
+      counted w c (Some z) e = let n = spelt w c z (whole_there _ z e) in subst (NumberSays l es name) (sym (number_here n)) n
 
       by : {s : Said Span} → LookSays l es name s → look_said l es name ≡ s → NumberSays l es name (look_number l es name)
       by (there w c) e = counted w c (whole_of (bytes_of c.entry l)) refl

@@ -1,4 +1,6 @@
 -- What `BothWays` of the face says, of every answer r and output afterwards that a writer's promise allows. Assumes nothing.
+use Rattle.rules.specs.declared.Refusal.{Refusal}
+use Rattle.std.specs.Prelude.{Result}
 use Prim.Native.Nat.{ℕ}
 use mathlib.Core.List.{List}
 use mathlib.Core.Path.{◌≡◌}
@@ -11,11 +13,10 @@ use Rattle.rules.specs.declared.Family.{Family}
 use Rattle.rules.specs.declared.Fix.{Fix}
 use Rattle.rules.specs.declared.Head.{Head}
 use Rattle.rules.specs.declared.Point.{Point}
-use Rattle.rules.specs.declared.Wrote.{Wrote}
 use Rattle.grammar.specs.BothWays.{Slotted, ReadsAs, Ways}
 use Rattle.grammar.proofs.Demands.{fixes_both_ways, extras_both_ways, heads_both_ways, points_both_ways, layouts_both_ways}
 
-module _ (place : ℕ) (out : List ℕ) (r : Wrote) (after : List ℕ) where
+module _ (place : ℕ) (out : List ℕ) (r : Result ℕ Refusal) (after : List ℕ) where
   pub fix_writer : (f : Fix) (tail : List ℕ) (layout : Layout) → FixWritten f tail layout place out r after → Ways (ReadsAs (λ l. fix_said l layout) 35) (f, tail) place out r after
   fix_writer f tail layout = (fixes_both_ways layout).writes (f, tail) place out r after
 

@@ -1,10 +1,10 @@
 -- Each reader refuses with the number and byte of the first of its checks that fails, 17, then 7 to 13, then 19, then 20, with line 0, and says a value exactly where all pass.
 -- Assumes nothing.
+use Rattle.std.specs.Prelude.{None, Option, Some}
 use Prim.Native.Nat.{ℕ, suc, ◌+◌, ◌-◌, ◌*◌, ◌^◌, ◌≤◌}
 use Prim.Native.Char.{code}
 use mathlib.Core.Bool.{Bool, true, false, not, ◌&&◌, ◌||◌, cond}
 use mathlib.Core.List.{List, [], ◌∷◌}
-use mathlib.Core.Option.{Option, none, some}
 use mathlib.Core.Path.{◌≡◌, refl, sym, ◌∙◌, ap, subst}
 use borrow.Author.Tests.{le-leb, leb-true, not-true}
 use lib.Dec.{eqb, leb}
@@ -14,10 +14,12 @@ use Rattle.rules.specs.Families.{first_start, line_letter, layout_letter}
 use Rattle.rules.specs.Refusals.{number, Said, says, refuses}
 use Rattle.rules.specs.Numbers.{whole_of}
 use Rattle.rules.specs.Listed.{packed_of, code_text}
-use Rattle.rules.specs.Layouts.{Span, span_of, entries_of, allowed, look_in, look, column_text, length_said, presence_said}
+use Rattle.rules.specs.declared.Span.{Span}
+use Rattle.rules.specs.Layouts.{span_of, entries_of, allowed, look_in, look, column_text, length_said, presence_said}
 use Rattle.rules.specs.Degrees.{is_fine_position, is_fine_latitude, is_fine_longitude, degrees_of}
 use Rattle.rules.specs.Fields.{is_either}
-use Rattle.rules.specs.Split.{Bounds, Stepped, first_crlf, is_start, bounds_of, step_at}
+use Rattle.rules.specs.declared.Bounds.{Bounds}
+use Rattle.rules.specs.Split.{Stepped, first_crlf, is_start, bounds_of, step_at}
 use Rattle.rules.specs.Lines.{b_line, extra_line}
 use Rattle.rules.specs.Fixes.{finer_of, fix_of}
 use Rattle.rules.specs.Reads.{fields_said, said_of, fix_said, extra_said, reading, event_said, satellites_said, date_said, layout_said, head_said, point_said}
@@ -61,13 +63,13 @@ named name xs =
     (agree_given 19 0 (look_in xs (packed_of name)) _ [] λ s e. tt)
 
 -- the column of a code that was found
-span_found : (x : ℕ) (xs : List Entry) (n : ℕ) (s : Span) → first_of (λ (e : Entry). eqb e.code x) (λ (k : ℕ) (e : Entry). span_of e) xs n ≡ some s → span_in xs x ≡ s
+span_found : (x : ℕ) (xs : List Entry) (n : ℕ) (s : Span) → first_of (λ (e : Entry). eqb e.code x) (λ (k : ℕ) (e : Entry). span_of e) xs n ≡ Some s → span_in xs x ≡ s
 unfolding first_of span_in
 span_found x [] n s h = absurd (none_some h)
 span_found x (e ∷ xs) n s h = go (eqb e.code x) h (span_found x xs (suc n) s)
   where
-    go : (b : Bool) → cond b (some (span_of e)) (first_of (λ (e : Entry). eqb e.code x) (λ (k : ℕ) (e : Entry). span_of e) xs (suc n)) ≡ some s
-        → (first_of (λ (e : Entry). eqb e.code x) (λ (k : ℕ) (e : Entry). span_of e) xs (suc n) ≡ some s → span_in xs x ≡ s)
+    go : (b : Bool) → cond b (Some (span_of e)) (first_of (λ (e : Entry). eqb e.code x) (λ (k : ℕ) (e : Entry). span_of e) xs (suc n)) ≡ Some s
+        → (first_of (λ (e : Entry). eqb e.code x) (λ (k : ℕ) (e : Entry). span_of e) xs (suc n) ≡ Some s → span_in xs x ≡ s)
         → cond b (span_of e) (span_in xs x) ≡ s
     go true h r = cc
     go false h r = r h
@@ -113,8 +115,8 @@ once_same (e ∷ es) = not_or (carried_in es e.code) (twice es) ∙ ap (λ b. no
     not_or false b = refl
 
     there : (o : Option Span) → given o false (λ s. true) ≡ is_there o
-    there none = refl
-    there (some s) = refl
+    there None = refl
+    there (Some s) = refl
 
 pub within_same : (n : ℕ) (es : List Entry) (k : ℕ) → given (first_of (λ (e : Entry). not (is_inside n e)) (λ (k : ℕ) (e : Entry). k) es k) true (λ k. false) ≡ are_within n es
 unfolding is_inside are_within first_of
@@ -122,7 +124,7 @@ within_same n [] k = refl
 within_same n (e ∷ es) k = go (leb 1 e.first) (leb e.first e.last) (leb e.last n) (within_same n es (suc k))
   where
     go : (a b c : Bool) → given (first_of (λ (e : Entry). not (is_inside n e)) (λ (k : ℕ) (e : Entry). k) es (suc k)) true (λ k. false) ≡ are_within n es
-        → given (cond (not (a && b && c)) (some k) (first_of (λ (e : Entry). not (is_inside n e)) (λ (k : ℕ) (e : Entry). k) es (suc k))) true (λ k. false) ≡ (a && b && c && are_within n es)
+        → given (cond (not (a && b && c)) (Some k) (first_of (λ (e : Entry). not (is_inside n e)) (λ (k : ℕ) (e : Entry). k) es (suc k))) true (λ k. false) ≡ (a && b && c && are_within n es)
     go true true true r = r
     go true true false r = refl
     go true false c r = refl
@@ -187,7 +189,7 @@ numbered_first file table n = agree_need 17 0 (leb 1 n) _ _ λ a. agree_need 17 
 
 step_first : (file : List ℕ) (at : ℕ) → Agrees (step_at file at) (step_reader file at)
 unfolding step_at number
-step_first file at = agree_need 17 0 (leb at (length file)) _ _ λ a. go (eqb at (length file)) _ _ (to_ending file at (λ e. record { found = some (record { from = at; to = e }); next = e + 2 }))
+step_first file at = agree_need 17 0 (leb at (length file)) _ _ λ a. go (eqb at (length file)) _ _ (to_ending file at (λ e. record { found = Some (record { from = at; to = e }); next = e + 2 }))
   where
     go : (t : Bool) (s : Said Stepped) (v : Stepped) → Agrees s (check 17 0 (has_ending (drop at file)) ∷ []) → Agrees (cond t (says v) s) (check 17 0 (t || has_ending (drop at file)) ∷ [])
     go true s v h = (refl, tt)
@@ -275,5 +277,5 @@ names_meant = record {
 }
   where
     spelt_there : (t : List ℕ) (o : Option Signed) → whole_of t ≡ o → is_there o ≡ true → (z : Signed) × Spells t z
-    spelt_there t (some z) e h = (z, whole_there t z e)
-    spelt_there t none e h = absurd (false_true h)
+    spelt_there t (Some z) e h = (z, whole_there t z e)
+    spelt_there t None e h = absurd (false_true h)

@@ -1,11 +1,11 @@
 -- What can be read from an accepted file: its lines by number and step by step; its date and its layouts, from the lines that tell them; each B line, K line and N line, by these
 -- layouts, as the value whose line it is, column by column; each E and F line; and its declaration, a head with its points. Assumes nothing.
+use Rattle.std.specs.Prelude.{Some}
 use Prim.Native.Nat.{ℕ, zero, suc, ◌+◌, ◌-◌, ◌≤◌, ◌<◌}
 use Prim.Native.Char.{code}
 use mathlib.Core.Bool.{Bool, true, false, ◌&&◌}
 use mathlib.Core.List.{List, [], ◌∷◌, ◌++◌, append_assoc}
 use mathlib.Core.Logic.{◌↔◌}
-use mathlib.Core.Option.{some}
 use mathlib.Core.Path.{◌≡◌, refl, sym, ◌∙◌, ap, ap₂, subst}
 use native.Mathlib.Nat.{zero-add}
 use native.Mathlib.Omega.{arith}
@@ -427,10 +427,10 @@ entered seal file table ls k e g h = record {
 }
 
 -- what can be read from an accepted file, by the layouts of the answer
-pub readable : (seal : Seal) (file table : List ℕ) (f : Flight) → verdict seal file (some (length table)) ≡ says f → Readable seal file table f
+pub readable : (seal : Seal) (file table : List ℕ) (f : Flight) → verdict seal file (Some (length table)) ≡ says f → Readable seal file table f
 unfolding good_lines
 readable seal file table f e =
-    let w = (accepted_as seal file (some (length table)) f).0 e in
+    let w = (accepted_as seal file (Some (length table)) f).0 e in
     let m = w.0 in
     let ls : List (List ℕ) = lines_in m.parts in
     let c = lines_cut file m in
@@ -446,7 +446,7 @@ readable seal file table f e =
       lines = ls;
       bytes = m.bytes;
       texts = m.texts;
-      lengths = sym (total_is ls) ∙ ap splitting.total (sym c) ∙ lengths_total file (accepted_whole seal file (some (length table)) f e);
+      lengths = sym (total_is ls) ∙ ap splitting.total (sym c) ∙ lengths_total file (accepted_whole seal file (Some (length table)) f e);
       counted = n;
       counts = λ g. sym (ap (λ (x : Flight). count_of g x.counts) w.2) ∙ every (λ f. count_of f (flight_of m).counts ≡ beginning (line_letter f) ls) refl refl refl g;
       entered = entered seal file table ls end c (g ∙ n) (leb-true _ _ w.1);

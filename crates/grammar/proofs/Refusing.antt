@@ -1,11 +1,11 @@
 -- A file is refused with a number, line and byte exactly when that refusal's meaning holds of it; and what lines that pass tell, in the grammar's words: a declaration that
 -- is open is a head and its first points, and at most one I, one J and one M line tell the columns. Assumes nothing.
+use Rattle.std.specs.Prelude.{None, Option, Some}
 use Prim.Native.Nat.{ℕ, ◌+◌, ◌-◌, ◌≤◌, suc, ◌<◌}
 use Prim.Native.Char.{code}
 use mathlib.Core.Bool.{Bool, true, false, ◌||◌, cond, or-true}
 use mathlib.Core.List.{List, [], ◌∷◌, ◌++◌, append_assoc, append-nil}
 use mathlib.Core.Logic.{◌⊎◌, inl, inr, ◌↔◌}
-use mathlib.Core.Option.{Option, none, some}
 use mathlib.Core.Path.{◌≡◌, refl, sym, ◌∙◌, ap, subst}
 use native.Mathlib.Omega.{arith}
 use borrow.Author.Tests.{le-leb, leb-true, leb-false, eqb-true, eqb-false, ne_eqb, eq-eqb, ltb-true, lt-ltb, lt-leb}
@@ -86,17 +86,17 @@ follows t now = (out (leb t now) (ltb 43200 (t - now)) refl refl, back)
 
 -- the last time is that of the last timed line
 abbrev Timing : List (List ℕ) → Option ℕ → Type 0
-Timing ls (some t) = Latest ls t
-Timing ls none = Each NoTime ls
+Timing ls (Some t) = Latest ls t
+Timing ls None = Each NoTime ls
 
 -- one line in front of lines whose last time is o
 timing_more : (l : List ℕ) (ls : List (List ℕ)) (o : Option ℕ) (b : Bool) (u : Option ℕ) → is_among timed_letters (get_or l 0 0) ≡ b → time_at l (byte 2) ≡ u → Timing ls o
-    → Timing (l ∷ ls) (choice.given o (cond b u none) λ t. some t)
-timing_more l ls (some t) b u p q w =
+    → Timing (l ∷ ls) (choice.given o (cond b u None) λ t. Some t)
+timing_more l ls (Some t) b u p q w =
     record { before = l ∷ w.before; line = w.line; after = w.after; order = ap (λ x. l ∷ x) w.order; timed = w.timed; time = w.time; no_later = w.no_later }
-timing_more l ls none true (some t) p q w = record { before = []; line = l; after = ls; order = refl; timed = p; time = q; no_later = w }
-timing_more l ls none true none p q w = (λ h. q, w)
-timing_more l ls none false u p q w = (λ h. absurd (false_true (sym p ∙ h)), w)
+timing_more l ls None true (Some t) p q w = record { before = []; line = l; after = ls; order = refl; timed = p; time = q; no_later = w }
+timing_more l ls None true None p q w = (λ h. q, w)
+timing_more l ls None false u p q w = (λ h. absurd (false_true (sym p ∙ h)), w)
 
 timing : (ls : List (List ℕ)) → Timing ls (last_time ls)
 unfolding last_time bytes
@@ -199,9 +199,9 @@ missing seal.Strict lines st w = (
 )
 
 -- the first line that has no room comes right behind those that have
-full_at : (room : Option ℕ) (n : ℕ) → has_room room n ≡ true → has_room room (n + 1) ≡ false → room ≡ some n
-full_at none n e f = absurd (false_true (sym f))
-full_at (some entries) n e f = let i = leb-true n entries e in let j = leb-false (n + 1) entries f in ap some (omega arith)
+full_at : (room : Option ℕ) (n : ℕ) → has_room room n ≡ true → has_room room (n + 1) ≡ false → room ≡ Some n
+full_at None n e f = absurd (false_true (sym f))
+full_at (Some entries) n e f = let i = leb-true n entries e in let j = leb-false (n + 1) entries f in ap Some (omega arith)
 
 module _ (seal : Seal) (file : List ℕ) (room : Option ℕ) where
   -- an answer that is a refusal means what it says

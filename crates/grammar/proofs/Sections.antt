@@ -1,11 +1,11 @@
 -- The check goes through the lines of a file, each judged good after those before it, to where it stops, and answers as it stops. Lines that pass come part by part, each part's
 -- lines are what the grammar calls them, and lines that the grammar allows pass. Assumes nothing.
+use Rattle.std.specs.Prelude.{None, Option, Some}
 use Prim.Native.Nat.{ℕ, ◌+◌, ◌≤◌, zero, suc, ◌-◌}
 use Prim.Native.Char.{code}
 use mathlib.Core.Bool.{true, false, Bool, cond}
 use mathlib.Core.List.{List, [], ◌∷◌, ◌++◌, append_assoc, append-nil}
 use mathlib.Core.Path.{◌≡◌, refl, sym, ◌∙◌, ap, subst}
-use mathlib.Core.Option.{Option, none, some}
 use native.Mathlib.Omega.{arith}
 use borrow.Author.Tests.{le-leb, leb-true, leb-false, eqb-false, ne_eqb}
 use lib.ListN.{length, get_or}
@@ -103,12 +103,12 @@ lines_joined (l ∷ ls) rest h =
 
 -- a table that has room for more lines has room for fewer
 fewer_fit : (room : Option ℕ) (n m : ℕ) → n ≤ m → has_room room m ≡ true → has_room room n ≡ true
-fewer_fit none n m h e = refl
-fewer_fit (some entries) n m h e = let i = leb-true m entries e in le-leb n entries (omega arith)
+fewer_fit None n m h e = refl
+fewer_fit (Some entries) n m h e = let i = leb-true m entries e in le-leb n entries (omega arith)
 
 pub none_fit : (room : Option ℕ) → has_room room 0 ≡ true
-none_fit none = refl
-none_fit (some entries) = le-leb 0 entries (omega arith)
+none_fit None = refl
+none_fit (Some entries) = le-leb 0 entries (omega arith)
 
 module _ (seal : Seal) (room : Option ℕ) where
   -- the check can go no further, and its answer

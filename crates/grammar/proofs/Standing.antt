@@ -1,10 +1,10 @@
 -- What the check carries from line to line is what the lines before tell: how far the file has come, what is still to come of a declaration, the columns of each
 -- family's lines, and the last time. Assumes nothing.
+use Rattle.std.specs.Prelude.{None, Option, Some}
 use Prim.Native.Nat.{ℕ, ◌+◌, ◌-◌, ◌≤◌}
 use Prim.Native.Char.{code}
 use mathlib.Core.Bool.{Bool, true, false, not, ◌&&◌, ◌||◌, cond, and-true, and-false, and_assoc, or-true}
 use mathlib.Core.List.{List, [], ◌∷◌, ◌++◌, append_assoc, append-nil}
-use mathlib.Core.Option.{Option, none, some}
 use mathlib.Core.Path.{◌≡◌, refl, sym, ◌∙◌, ap}
 use native.Mathlib.Omega.{arith}
 use borrow.Author.Tests.{le-leb, leb-true, eqb-true, eqb-false, ne_eqb, ltb-true, lt-ltb}
@@ -112,19 +112,19 @@ those_next x l (a ∷ ls) = go (eqb (get_or a 0 0) x) (those_next x l ls)
 
 module _ (l : List ℕ) where
   -- the last line's time, where it has one
-  time_next : (ls : List (List ℕ)) → last_time (ls ++ (l ∷ [])) ≡ given (cond (is_among timed_letters (get_or l 0 0)) (time_at l 1) none) (last_time ls) (λ t. some t)
+  time_next : (ls : List (List ℕ)) → last_time (ls ++ (l ∷ [])) ≡ given (cond (is_among timed_letters (get_or l 0 0)) (time_at l 1) None) (last_time ls) (λ t. Some t)
   unfolding last_time bytes
-  time_next [] = go (cond (is_among timed_letters (get_or l 0 0)) (time_at l 1) none)
+  time_next [] = go (cond (is_among timed_letters (get_or l 0 0)) (time_at l 1) None)
     where
-      go : (o : Option ℕ) → o ≡ given o none (λ t. some t)
-      go (some t) = refl
-      go none = refl
-  time_next (a ∷ ls) = rw (time_next ls) (go (cond (is_among timed_letters (get_or l 0 0)) (time_at l 1) none))
+      go : (o : Option ℕ) → o ≡ given o None (λ t. Some t)
+      go (Some t) = refl
+      go None = refl
+  time_next (a ∷ ls) = rw (time_next ls) (go (cond (is_among timed_letters (get_or l 0 0)) (time_at l 1) None))
     where
-      go : (o : Option ℕ) → given (given o (last_time ls) (λ t. some t)) (cond (is_among timed_letters (get_or a 0 0)) (time_at a 1) none) (λ t. some t)
-          ≡ given o (given (last_time ls) (cond (is_among timed_letters (get_or a 0 0)) (time_at a 1) none) (λ t. some t)) (λ t. some t)
-      go (some t) = refl
-      go none = refl
+      go : (o : Option ℕ) → given (given o (last_time ls) (λ t. Some t)) (cond (is_among timed_letters (get_or a 0 0)) (time_at a 1) None) (λ t. Some t)
+          ≡ given o (given (last_time ls) (cond (is_among timed_letters (get_or a 0 0)) (time_at a 1) None) (λ t. Some t)) (λ t. Some t)
+      go (Some t) = refl
+      go None = refl
 
 -- ---- the declaration
 
@@ -211,7 +211,7 @@ module _ (s c : ℕ) where
   both_low n p q = le-leb after_h n p ∙ sym (le-leb after_a s q)
 
   -- from the front to the body
-  along : (r : Role) (low high : ℕ) → leading low high (leads_to r) s ≡ some c → after_a ≤ low → high ≤ leads_to r → after_h ≤ leads_to r → leads_to r ≤ in_body
+  along : (r : Role) (low high : ℕ) → leading low high (leads_to r) s ≡ Some c → after_a ≤ low → high ≤ leads_to r → after_h ≤ leads_to r → leads_to r ≤ in_body
       → is_sealing r ≡ false → ((f : Family) → is_telling f r ≡ true → high ≤ after_layout f - 1) → Moves r s c
   along r low high o p q h g n t =
       let i = leading_inv low high (leads_to r) s c o in
@@ -219,10 +219,10 @@ module _ (s c : ℕ) where
       (rw (n, le-leb (leads_to r) in_body g, le-leb s in_body (omega arith)))
       (rw (n, le-leb (leads_to r) after_g (omega arith), le-leb s in_body (omega arith)))
 
-  to_body : (r : Role) → leads_to r ≡ in_body → is_sealing r ≡ false → ((f : Family) → is_telling f r ≡ false) → leading after_h in_body in_body s ≡ some c → Moves r s c
+  to_body : (r : Role) → leads_to r ≡ in_body → is_sealing r ≡ false → ((f : Family) → is_telling f r ≡ false) → leading after_h in_body in_body s ≡ Some c → Moves r s c
   to_body r e n t o = along r after_h in_body (rw e o) (omega arith) (omega arith) (omega arith) (omega arith) n (λ f y. absurd (false_true (sym (t f) ∙ y)))
 
-  remark_moves : (b : Bool) → leb s in_body ≡ b → cond b (leading after_h in_body in_body s) (leading after_g after_last_g after_last_g s) ≡ some c → Moves role.Remark s c
+  remark_moves : (b : Bool) → leb s in_body ≡ b → cond b (leading after_h in_body in_body s) (leading after_g after_last_g after_last_g s) ≡ Some c → Moves role.Remark s c
   remark_moves true q o = to_body role.Remark refl refl (λ f. refl) o
   remark_moves false q o =
       let i = leading_inv after_g after_last_g after_last_g s c o in
@@ -232,7 +232,7 @@ module _ (s c : ℕ) where
       (rw q)
       (rw q)
 
-  moves : (r : Role) → stage_after r s ≡ some c → Moves r s c
+  moves : (r : Role) → stage_after r s ≡ Some c → Moves r s c
   unfolding stage_after
   moves role.Opens o =
       let i = leading_inv at_start at_start after_a s c o in
@@ -313,7 +313,7 @@ laid_out_lem f (grammar.given {layout = i} {l = l} w) = layout_laid f i l (layou
 record Left (ls : List (List ℕ)) (l : List ℕ) (m : State) (r : Role) (after : State) : Type 0 where
   stage : after.stage ≡ m.stage
   declaration : Declaration (ls ++ (l ∷ [])) after.declared after.points
-  clock : after.clock ≡ given (cond (is_timed r) (time_at l 1) none) m.clock (λ t. t)
+  clock : after.clock ≡ given (cond (is_timed r) (time_at l 1) None) m.clock (λ t. t)
   told : (g : Family) (ks : List (List ℕ)) → (is_telling g r ≡ true → ks ≡ []) → AtMostOne g (layout_of g m.flight.layouts) ks
       → AtMostOne g (layout_of g after.flight.layouts) (ks ++ cond (is_telling g r) (l ∷ []) [])
 
@@ -348,7 +348,7 @@ module _ (ls : List (List ℕ)) (l : List ℕ) (st after : State) (w : Stands ls
   so : Judged l st after
   so = judged l st after e
 
-  order : (fits_declaration (is_declaring (role_in l)) st ≡ true) × (stage_after (role_in l) st.stage ≡ some so.stage)
+  order : (fits_declaration (is_declaring (role_in l)) st ≡ true) × (stage_after (role_in l) st.stage ≡ Some so.stage)
   order = order_inv (role_in l) st so.stage so.order
 
   leads_on : Moves (role_in l) st.stage so.stage
@@ -359,11 +359,11 @@ module _ (ls : List (List ℕ)) (l : List ℕ) (st after : State) (w : Stands ls
   by_role = left ls l (moved so.stage st) w.declaration (letter (get_or l 0 0)) (letter_tests l).1.0 order.0 so.left
 
   clock_next : after.clock ≡ or_zero (last_time (ls ++ (l ∷ [])))
-  clock_next = by_role.clock ∙ rw (time_next l, (letter_tests l).1.2, w.clock) (go (cond (is_timed (role_in l)) (time_at l 1) none))
+  clock_next = by_role.clock ∙ rw (time_next l, (letter_tests l).1.2, w.clock) (go (cond (is_timed (role_in l)) (time_at l 1) None))
     where
-      go : (o : Option ℕ) → given o (or_zero (last_time ls)) (λ t. t) ≡ or_zero (given o (last_time ls) (λ t. some t))
-      go (some t) = refl
-      go none = refl
+      go : (o : Option ℕ) → given o (or_zero (last_time ls)) (λ t. t) ≡ or_zero (given o (last_time ls) (λ t. Some t))
+      go (Some t) = refl
+      go None = refl
 
   -- a family's layout is told once
   untold : (f : Family) → is_telling f (role_in l) ≡ true → those (layout_letter f) ls ≡ []

@@ -1,5 +1,7 @@
 -- Lines read and written, whatever line it is: where a line reads as values exactly when it is their text and they are within their limits, the writer's promise
 -- gives the line and its CR LF, 17 exactly where no line reads so, and 18. And readers of which that does not hold. Assumes nothing.
+use Rattle.rules.specs.declared.Refusal.{Refusal}
+use Rattle.std.specs.Prelude.{Result}
 use Prim.Native.Nat.{ℕ, ◌+◌, ◌-◌, ◌<◌, ◌≤◌}
 use mathlib.Core.Bool.{Bool, true, false}
 use mathlib.Core.List.{List, [], ◌++◌, append_assoc}
@@ -13,12 +15,11 @@ use lib.Seq.{sets, sets-eq, take_at, drop_at, length-take-le}
 use Rattle.rules.specs.Choice.{first_of, leads}
 use Rattle.rules.specs.Chars.{first_invalid}
 use Rattle.rules.specs.Layouts.{empty_layout, allowed, all_placed, is_unused, line_length}
-use Rattle.rules.specs.Refusals.{Said, says, no, number}
-use Rattle.rules.specs.Writes.{crlf, extra_text, wrote_told, written, out_after}
+use Rattle.rules.specs.Refusals.{Said, says, no, number, result_told}
+use Rattle.rules.specs.Writes.{crlf, extra_text, written, out_after}
 use Rattle.rules.specs.Promises.{Written}
 use Rattle.rules.specs.declared.Reason.TheVariants.{BadValue, NoRoom}
 use Rattle.rules.specs.declared.Extra.{Extra}
-use Rattle.rules.specs.declared.Wrote.{Wrote}
 use Rattle.rules.specs.Limits.{is_clean, bad_tail, good_tail, good_extra}
 use Rattle.rules.proofs.Inverse.{false_true, refuses_says}
 use Rattle.rules_trips.proofs.LineTrip.{LineTrip, line_limits}
@@ -66,18 +67,18 @@ pub data Answer (good : Bool) (text : List ℕ) (place : ℕ) (out : List ℕ) (
   full : good ≡ true → length out < place + length text + 2 → a ≡ no NoRoom 0 → after ≡ out → Answer good text place out a after
   wrote : good ≡ true → place + length text + 2 ≤ length out → InOutput text place out a after → Answer good text place out a after
 
-pub answer : (good : Bool) (text : List ℕ) (place : ℕ) (out : List ℕ) (r : Wrote) (after : List ℕ) → Written good text place out r after
-    → Answer good text place out (wrote_told r) after
+pub answer : (good : Bool) (text : List ℕ) (place : ℕ) (out : List ℕ) (r : Result ℕ Refusal) (after : List ℕ) → Written good text place out r after
+    → Answer good text place out (result_told r) after
 unfolding written out_after to
 answer false text place out r after w = bad refl w.told w.bytes
 answer true text place out r after w = go (leb (place + length text + 2) (length out)) refl
   where
-    go : (b : Bool) → leb (place + length text + 2) (length out) ≡ b → Answer true text place out (wrote_told r) after
+    go : (b : Bool) → leb (place + length text + 2) (length out) ≡ b → Answer true text place out (result_told r) after
     go false q = full refl (leb-false _ _ q) (w.told ∙ rw q) (w.bytes ∙ rw q)
     go true q =
         let h = leb-true (place + length text + 2) (length out) q in
         let s = stands text place out h in
-        wrote refl h (subst (λ (x : List ℕ). InOutput text place out (wrote_told r) x) (sym (w.bytes ∙ rw q))
+        wrote refl h (subst (λ (x : List ℕ). InOutput text place out (result_told r) x) (sym (w.bytes ∙ rw q))
         (subst (λ (a : Said ℕ). InOutput text place out a (sets out place (text ++ crlf))) (sym (w.told ∙ rw q)) s))
 
 not_both : ◌≡◌ {A = Said ℕ} (no BadValue 0) (no NoRoom 0) → ⊥
@@ -88,7 +89,7 @@ not_both e = let z : ◌≡◌ {A = ℕ} 17 18 = cc in omega arith
 
 module _ {A : Type 0} (Reads : List ℕ → A → Type 0) (text : A → List ℕ) (test limits : A → Bool)
     (exactly : (l : List ℕ) (v : A) → Reads l v ↔ ((l ≡ text v) × (limits v ≡ true))) (tested : (v : A) → test v ≡ limits v) where
-  ways : (v : A) (place : ℕ) (out : List ℕ) (r : Wrote) (after : List ℕ) → Answer (test v) (text v) place out (wrote_told r) after → Ways Reads v place out r after
+  ways : (v : A) (place : ℕ) (out : List ℕ) (r : Result ℕ Refusal) (after : List ℕ) → Answer (test v) (text v) place out (result_told r) after → Ways Reads v place out r after
   ways v place out r after (bad e a u) =
       let none : (l : List ℕ) → Reads l v → ⊥ = λ l h. false_true (sym e ∙ tested v ∙ ((exactly l v).0 h).1) in
       record {
@@ -110,7 +111,7 @@ module _ {A : Type 0} (Reads : List ℕ → A → Type 0) (text : A → List ℕ
   ways v place out r after (wrote e h s) =
       let own : Reads (text v) v = (exactly (text v) v).1 (refl, sym (tested v) ∙ e) in
       record {
-        read_then_write = λ l x n. subst (λ (y : List ℕ). InOutput y place out (wrote_told r) after) (sym ((exactly l v).0 x).0) s;
+        read_then_write = λ l x n. subst (λ (y : List ℕ). InOutput y place out (result_told r) after) (sym ((exactly l v).0 x).0) s;
         write_then_read = λ n q. (text v, own, s);
         bad_value_exactly = (λ x. absurd (refuses_says (sym x ∙ s.next)), λ f. absurd (f (text v) own));
         no_room_exactly = (

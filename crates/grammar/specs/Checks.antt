@@ -1,9 +1,10 @@
 -- Document 01, 'Refusal numbers': the checks 4 to 14 of one line as a list in their order, each with its number, its byte and whether the line passes it. They are told
 -- by the line and the lines before it. What it means that a field could be read is said in FieldTexts. A check that needs a value which an earlier check did not find
 -- takes 0 for it.
-use Rattle.std.specs.Prelude.{ℕ, zero, suc, ◌+◌, ◌-◌, ◌*◌, ◌%◌, Bool, true, false, not, ◌&&◌, ◌||◌, cond, List, [], ◌∷◌, ◌++◌, ◌≡◌, eqb, leb, length, get_or, drop}
+use Rattle.rules.specs.declared.Position.{Position}
+use Rattle.rules.specs.declared.Date.{Date}
+use Rattle.std.specs.Prelude.{ℕ, zero, suc, ◌+◌, ◌-◌, ◌*◌, ◌%◌, Bool, true, false, not, ◌&&◌, ◌||◌, cond, List, [], ◌∷◌, ◌++◌, ◌≡◌, eqb, leb, length, get_or, drop, Option}
 use Prim.Native.Char.{code}
-use Rattle.std.proofs.Math.Option.{Option}
 use Rattle.rules.specs.Families.{first_start}
 use Rattle.rules.specs.Choice.{given, byte, Each}
 use Rattle.rules.specs.Chars.{is_valid, is_code, codes_at}

@@ -1,8 +1,7 @@
 -- Document 01, 'Which kind may follow which' and the time order of 'Fields': what the lines before tell of a line that comes after them. They are given in their
 -- order, each without its CR LF, and a line's kind is told by its first byte. They have passed; a field of theirs that could not be read would count as 0.
-use Rattle.std.specs.Prelude.{ℕ, zero, suc, ◌+◌, ◌-◌, ◌<◌, Bool, true, false, not, ◌&&◌, ◌||◌, cond, List, [], ◌∷◌, ◌++◌, ◌↔◌, ◌≡◌, eqb, leb, ltb, length, get_or}
+use Rattle.std.specs.Prelude.{ℕ, zero, suc, ◌+◌, ◌-◌, ◌<◌, Bool, true, false, not, ◌&&◌, ◌||◌, cond, List, [], ◌∷◌, ◌++◌, ◌↔◌, ◌≡◌, eqb, leb, ltb, length, get_or, None, Option, Some}
 use Prim.Native.Char.{code}
-use Rattle.std.proofs.Math.Option.{Option, none, some}
 use Rattle.rules.specs.Families.{layout_letter}
 use Rattle.rules.specs.Choice.{given, byte, bytes, Each}
 use Rattle.rules.specs.Numbers.{number_at}
@@ -148,15 +147,15 @@ timed_letters = code "B" ∷ code "E" ∷ code "F" ∷ code "K" ∷ code "N" ∷
 
 -- the time, at 2 to 7, of the last B, E, F, K or N line, where there is one
 unfoldable pub last_time : List (List ℕ) → Option ℕ
-last_time [] = none
-last_time (l ∷ ls) = given (last_time ls) (cond (is_among timed_letters (get_or l 0 0)) (time_at l (byte 2)) none) λ t. some t
+last_time [] = None
+last_time (l ∷ ls) = given (last_time ls) (cond (is_among timed_letters (get_or l 0 0)) (time_at l (byte 2)) None) λ t. Some t
 
 -- a B, E, F, K or N line
 abbrev pub IsTimed : List ℕ → Type 0
 IsTimed l = is_among timed_letters (get_or l 0 0) ≡ true
 
 abbrev pub NoTime : List ℕ → Type 0
-NoTime l = IsTimed l → time_at l (byte 2) ≡ none
+NoTime l = IsTimed l → time_at l (byte 2) ≡ None
 
 -- "A fall of more than 43,200 seconds from the one before counts as the next day; a smaller fall, or one of exactly 43,200, is refused (h). Equal times are fine."
 unfoldable pub is_in_time : Option ℕ → ℕ → Bool
@@ -169,7 +168,7 @@ pub record Latest (ls : List (List ℕ)) (t : ℕ) : Type 0 where
   pub after : List (List ℕ)
   pub order : ls ≡ before ++ (line ∷ after)
   pub timed : IsTimed line
-  pub time : time_at line (byte 2) ≡ some t
+  pub time : time_at line (byte 2) ≡ Some t
   pub no_later : Each NoTime after
 
 -- ---- what these tests mean, in the grammar's words, of lines that have passed
@@ -179,6 +178,6 @@ pub record Meant (ls : List (List ℕ)) : Type 0 where
   -- "at most one I", "at most one J", of M "at most one", and their entries
   pub told : (f : Family) → AtMostOne f (laid (entries_told f ls)) (those (layout_letter f) ls)
   -- the time before is that of the last timed line, and from it on a time is in order where it follows it
-  pub latest : (t : ℕ) → last_time ls ≡ some t → Latest ls t
-  pub no_time : last_time ls ≡ none → Each NoTime ls
-  pub times : (t now : ℕ) → last_time ls ≡ some t → (is_in_time (last_time ls) now ≡ true) ↔ Follows t now
+  pub latest : (t : ℕ) → last_time ls ≡ Some t → Latest ls t
+  pub no_time : last_time ls ≡ None → Each NoTime ls
+  pub times : (t now : ℕ) → last_time ls ≡ Some t → (is_in_time (last_time ls) now ≡ true) ↔ Follows t now

@@ -1,7 +1,7 @@
 -- Document 01, 'Lines': where CR LF stands, as a test and in words; and what a line by its number and a step come back with, of any file, table and place.
-use Rattle.std.specs.Prelude.{ℕ, zero, suc, ◌+◌, ◌-◌, ◌≤◌, Bool, true, false, ◌&&◌, ◌||◌, List, [], ◌∷◌, ◌++◌, ◌↔◌, ◌⊎◌, ◌≡◌, eqb, length, get_or, drop}
-use Rattle.std.proofs.Math.Option.{none, some}
-use Rattle.rules.specs.Split.{Bounds, Stepped}
+use Rattle.std.specs.Prelude.{ℕ, zero, suc, ◌+◌, ◌-◌, ◌≤◌, Bool, true, false, ◌&&◌, ◌||◌, List, [], ◌∷◌, ◌++◌, ◌↔◌, ◌⊎◌, ◌≡◌, eqb, length, get_or, drop, None, Some}
+use Rattle.rules.specs.declared.Bounds.{Bounds}
+use Rattle.rules.specs.Split.{Stepped}
 
 -- behind n bytes stand CR and LF
 unfoldable pub is_ending : ℕ → List ℕ → Bool
@@ -49,5 +49,5 @@ pub record IsNumbered (file table : List ℕ) (n : ℕ) (b : Bounds) : Type 0 wh
 
 -- "comes back at each step with the next line, or with the news that none is left"
 pub data IsStep (file : List ℕ) (at : ℕ) : Stepped → Type 0 where
-  none_left : at ≡ length file → IsStep file at (record { found = none; next = at })
-  next_line : (e : ℕ) → at + 1 ≤ length file → IsLineAt file (record { from = at; to = e }) → IsStep file at (record { found = some (record { from = at; to = e }); next = e + 2 })
+  none_left : at ≡ length file → IsStep file at (record { found = None; next = at })
+  next_line : (e : ℕ) → at + 1 ≤ length file → IsLineAt file (record { from = at; to = e }) → IsStep file at (record { found = Some (record { from = at; to = e }); next = e + 2 })

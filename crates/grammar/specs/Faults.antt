@@ -1,7 +1,6 @@
 -- Document 01, 'Refusal numbers': what each refusal of a file means, told by its lines, apart from how the file is checked.
-use Rattle.std.specs.Prelude.{ℕ, ◌+◌, ◌≤◌, ◌<◌, List, [], ◌∷◌, ◌++◌, ◌⊎◌, ◌≡◌, length, get_or}
+use Rattle.std.specs.Prelude.{ℕ, ◌+◌, ◌≤◌, ◌<◌, List, [], ◌∷◌, ◌++◌, ◌⊎◌, ◌≡◌, length, get_or, Option, Some}
 use Prim.Native.Char.{code}
-use Rattle.std.proofs.Math.Option.{Option, some}
 use Rattle.rules.specs.Choice.{Each}
 use Rattle.rules.specs.declared.Seal.{Seal}
 use Rattle.rules.specs.declared.Seal.TheVariants as seal
@@ -49,7 +48,7 @@ pub data Refused (seal : Seal) (file : List ℕ) (room : Option ℕ) : ℕ → �
       → FailsFirst (checks_of lines l) n b → Refused seal file room n (length lines + 1) b
   -- "15 TABLE_FULL: good line, no entry left; line, 0"
   table_full : (lines : List (List ℕ)) (l rest : List ℕ) → Before file room lines (l ++ (13 ∷ 10 ∷ rest)) → IsText l
-      → AllPass (checks_of lines l) → room ≡ some (length lines) → Refused seal file room 15 (length lines + 1) 0
+      → AllPass (checks_of lines l) → room ≡ Some (length lines) → Refused seal file room 15 (length lines + 1) 0
   -- "16 ENDS_EARLY: end inside a declaration or without G; lines + 1, 0"; "16 in the usual check only for an unfinished declaration, and for a file that ends before its
   -- second line"
   ends_early : (lines : List (List ℕ)) → Before file room lines [] → Open lines ⊎ Unsealed seal lines

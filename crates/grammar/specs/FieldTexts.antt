@@ -1,8 +1,7 @@
 -- Document 01, 'Lines' and 'Fields': the letters of each role, and what it means that a field could be read, apart from how it is read: the bytes there are the text
 -- of a value within its limits.
-use Rattle.std.specs.Prelude.{ℕ, ◌≤◌, ◌<◌, ◌^◌, true, List, [], ◌∷◌, ◌++◌, ◌⊎◌, ◌↔◌, ◌≡◌, drop}
+use Rattle.std.specs.Prelude.{ℕ, ◌≤◌, ◌<◌, ◌^◌, true, List, [], ◌∷◌, ◌++◌, ◌⊎◌, ◌↔◌, ◌≡◌, drop, Option, Some}
 use Prim.Native.Char.{code}
-use Rattle.std.proofs.Math.Option.{Option, some}
 use Rattle.rules.specs.Choice.{byte, Each}
 use Rattle.rules.specs.Chars.{codes_at}
 use Rattle.rules.specs.Numbers.{number_at, digits_of}
@@ -48,7 +47,7 @@ pub record Stood (l : List ℕ) (at : ℕ) (text : List ℕ) : Type 0 where
 
 -- the field reads as a value exactly where the value's text stands, the value being within its limits; and it could be read exactly where there is such a value
 pub record Field {A : Type 0} (read : List ℕ → ℕ → Option A) (text : A → List ℕ) (Within : A → Type 0) : Type 0 where
-  pub reads : (l : List ℕ) (at : ℕ) (v : A) → (read l at ≡ some v) ↔ (Within v × Stood l at (text v))
+  pub reads : (l : List ℕ) (at : ℕ) (v : A) → (read l at ≡ Some v) ↔ (Within v × Stood l at (text v))
   pub there : (l : List ℕ) (at : ℕ) → (is_there (read l at) ≡ true) ↔ ((v : A) × Within v × Stood l at (text v))
 
 -- the role of a line by its first byte, and each field that a check of 9 or of 22 to 25 reads; the pairs of an F line are tested by `is_code` itself (`codes_meant`)

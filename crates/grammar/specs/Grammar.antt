@@ -4,9 +4,9 @@
 -- words (crate grammar_words). Of the rules it has types and the texts of values. It has `first_start`, `layout_letter` and, in the text of a K or an N line, `line_letter`:
 -- `starts_exactly` and `letters_exactly` hold these. It has `layout_of`, which `answers_exactly` holds, with `entries_of`, `empty_layout` and `unused`, the parts of the answer's
 -- layouts.
-use Rattle.std.specs.Prelude.{ℕ, ◌+◌, ◌-◌, ◌*◌, ◌%◌, ◌^◌, ◌≤◌, ◌<◌, Bool, true, false, cond, List, [], ◌∷◌, ◌++◌, ◌⊎◌, ◌≡◌, eqb, leb, length, get_or, replicate}
+use Rattle.std.specs.Prelude.{ℕ, ◌+◌, ◌-◌, ◌*◌, ◌%◌, ◌^◌, ◌≤◌, ◌<◌, Bool, true, false, cond, List, [], ◌∷◌, ◌++◌, ◌⊎◌, ◌≡◌, eqb, leb, length, get_or, replicate, None, Option, Some}
 use Prim.Native.Char.{code}
-use Rattle.std.proofs.Math.Option as option
+use Rattle.std.specs.Prelude as std
 use Rattle.rules.specs.Families.{first_start, layout_letter, layout_of}
 use Rattle.rules.specs.Choice.{byte, bytes, part, Each}
 use Rattle.rules.specs.Fields.{time_text, date_text}
@@ -25,8 +25,6 @@ use Rattle.rules.specs.declared.Layouts.{Layouts}
 use Rattle.rules.specs.declared.Counts.{Counts}
 use Rattle.rules.specs.declared.FixFields.{FixFields}
 use Rattle.rules.specs.declared.Fix.{Fix}
-use Rattle.rules.specs.declared.Planned.{Planned}
-use Rattle.rules.specs.declared.Planned.TheVariants as planned
 use Rattle.rules.specs.declared.Head.{Head}
 use Rattle.rules.specs.declared.Point.{Point}
 use Rattle.rules.specs.declared.Flight.{Flight}
@@ -120,9 +118,9 @@ pub record IsLayoutLine (f : Family) (layout : Layout) (l : List ℕ) : Type 0 w
   pub slots : layout ≡ laid entries
 
 -- "(000000 means not given; every other value must be a date ..)"
-abbrev pub IsPlanned : Planned → Type 0
-IsPlanned (planned.On d) = IsDay d
-IsPlanned planned.NotGiven = Unit {0}
+abbrev pub IsPlanned : Option Date → Type 0
+IsPlanned (Some d) = IsDay d
+IsPlanned None = Unit {0}
 
 -- "C head 25 to 255"; "C head: declared date, time, flight date (000000 means not given; every other value must be a date, and the declared date always), 4-digit task
 -- number, 2-digit number of turn points, text."
@@ -373,9 +371,9 @@ pub record Meets (seal : Seal) (file : List ℕ) : Type 0 where
 -- ---- the table
 
 -- so many lines have an entry each in the lent table, where one is lent
-abbrev pub Fits : option.Option ℕ → ℕ → Type 0
-Fits option.none lines = Unit {0}
-Fits (option.some most) lines = lines ≤ most
+abbrev pub Fits : std.Option ℕ → ℕ → Type 0
+Fits std.None lines = Unit {0}
+Fits (std.Some most) lines = lines ≤ most
 
 -- ---- what the file says
 

@@ -9,7 +9,8 @@ use Rattle.rules.specs.Refusals.{Said, says, refuses}
 use Rattle.rules.specs.Numbers.{whole_of}
 use Rattle.rules.specs.Degrees.{degrees_of}
 use Rattle.rules.specs.Listed.{packed_of, code_text}
-use Rattle.rules.specs.Layouts.{Span, span_of, entries_of, allowed, column_text, length_said, presence_said}
+use Rattle.rules.specs.declared.Span.{Span}
+use Rattle.rules.specs.Layouts.{span_of, entries_of, allowed, column_text, length_said, presence_said}
 use Rattle.rules.specs.Split.{bounds_of, step_at}
 use Rattle.rules.specs.Reads.{reading, event_said, satellites_said, date_said, layout_said, head_said, point_said}
 use Rattle.rules.specs.Looks.{look_said, look_number}

@@ -1,8 +1,7 @@
 -- Document 01, 'The file we take and what we do with it': what can be read from an accepted file, line by line, with the layouts of the answer. Each reader says the value whose
 -- line, by the grammar, it is given.
-use Rattle.std.specs.Prelude.{ℕ, ◌+◌, ◌-◌, ◌^◌, ◌≤◌, ◌<◌, List, [], ◌∷◌, ◌++◌, ◌≡◌, pos, neg_ℤ, length, get_or, take, drop}
+use Rattle.std.specs.Prelude.{ℕ, ◌+◌, ◌-◌, ◌^◌, ◌≤◌, ◌<◌, List, [], ◌∷◌, ◌++◌, ◌≡◌, pos, neg_ℤ, length, get_or, take, drop, None, Some}
 use Prim.Native.Char.{code}
-use Rattle.std.proofs.Math.Option.{none, some}
 use Rattle.rules.specs.Families.{first_start, line_letter, layout_letter, layout_of, count_of}
 use Rattle.rules.specs.Choice.{part, Each}
 use Rattle.rules.specs.Refusals.{Said, says, refuses, no}
@@ -194,9 +193,9 @@ pub record Entered (lines : List (List ℕ)) (table after : List ℕ) : Type 0 w
 
 -- "A reading place over the lines .. comes back at each step with the next line, or with the news that none is left"
 unfoldable pub Steps : List ℕ → ℕ → List (List ℕ) → Type 0
-Steps file at [] = step_at file at ≡ says (record { found = none; next = at })
+Steps file at [] = step_at file at ≡ says (record { found = None; next = at })
 Steps file at (l ∷ ls) =
-    (step_at file at ≡ says (record { found = some (record { from = at; to = at + length l }); next = at + length l + 2 }))
+    (step_at file at ≡ says (record { found = Some (record { from = at; to = at + length l }); next = at + length l + 2 }))
     × (part at (at + length l) file ≡ l)
     × Steps file (at + length l + 2) ls
 

@@ -1,8 +1,8 @@
 -- What an accepted file says is told by its lines of each kind: its date, its layouts, its counts, and whether it is signed. Assumes nothing.
+use Rattle.std.specs.Prelude.{Option, Some}
 use Prim.Native.Nat.{ℕ}
 use Prim.Native.Char.{code}
 use mathlib.Core.List.{List, [], ◌∷◌, append-nil}
-use mathlib.Core.Option.{Option, some}
 use mathlib.Core.Path.{◌≡◌, refl, sym, ◌∙◌, ap, subst}
 use native.Mathlib.Omega.{arith}
 use lib.Dec.{leb}
@@ -65,10 +65,10 @@ module _ (seal : Seal) (file : List ℕ) (room : Option ℕ) (f : Flight) (accep
   abbrev table : List ℕ
   table = replicate (length (lines_in met.0.parts)) 0
 
-  with_table : verdict seal file (some (length table)) ≡ says f
+  with_table : verdict seal file (Some (length table)) ≡ says f
   with_table =
       let n : length table ≡ length (lines_in met.0.parts) = length-replicate (length (lines_in met.0.parts)) 0 in
-      (accepted_as seal file (some (length table)) f).1 (met.0, omega (arith, n), met.1)
+      (accepted_as seal file (Some (length table)) f).1 (met.0, omega (arith, n), met.1)
 
   abbrev read : Readable seal file table f
   read = readable seal file table f with_table

@@ -3,7 +3,8 @@
 use Rattle.std.specs.Prelude.{ℕ, Bool, cond, List, [], ◌∷◌, ◌≡◌, eqb, leb, length, get_or}
 use Prim.Native.Char.{code}
 use Rattle.rules.specs.Families.{line_letter, layout_letter, layout_of, count_of}
-use Rattle.rules.specs.Layouts.{Span, empty_layout}
+use Rattle.rules.specs.declared.Span.{Span}
+use Rattle.rules.specs.Layouts.{empty_layout}
 use Rattle.rules.specs.Looks.{look_said, look_text, look_number}
 use Rattle.rules.specs.Reads.{reading, date_said, layout_said}
 use Rattle.rules.specs.Refusals.{Said, says, and_then}

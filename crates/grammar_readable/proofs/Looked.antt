@@ -1,14 +1,15 @@
 -- A look into the entries of a line's own reading: never 17, so the place, the text and the number of the code's column, or 19. Assumes nothing.
+use Rattle.std.specs.Prelude.{None, Option, Some}
 use Prim.Native.Nat.{ℕ, ◌+◌, ◌-◌, ◌≤◌}
 use mathlib.Core.Bool.{true}
 use mathlib.Core.List.{List}
-use mathlib.Core.Option.{Option, none, some}
 use mathlib.Core.Path.{◌≡◌, refl, sym, ◌∙◌, ap, subst}
 use native.Mathlib.Omega.{arith}
 use lib.ListN.{length, get_or, drop}
 use lib.Seq.{get_or-take, get_or-drop}
 use Rattle.rules.specs.Choice.{given}
-use Rattle.rules.specs.Layouts.{Span, entries_of, look}
+use Rattle.rules.specs.declared.Span.{Span}
+use Rattle.rules.specs.Layouts.{entries_of, look}
 use Rattle.rules.specs.Lines.{FieldsIn}
 use Rattle.rules.specs.Listed.{packed_of}
 use Rattle.rules.specs.Looks.{fits_line, look_said, look_text, look_number}
@@ -68,8 +69,8 @@ module _ (l : List ℕ) (es : Layout) (name : List ℕ) (named : IsName name) (f
   never_bad e = by (look es (packed_of name)) (sym (look_there l es name fits) ∙ e)
     where
       by : (o : Option Span) → given o (no Absent 0) (λ s. says s) ≡ refuses 17 0 0 → ⊥
-      by none z = let n : ◌≡◌ {A = ℕ} 19 17 = cc in omega (arith, n)
-      by (some s) z = refuses_says (sym z)
+      by None z = let n : ◌≡◌ {A = ℕ} 19 17 = cc in omega (arith, n)
+      by (Some s) z = refuses_says (sym z)
 
   is_text : GoodAnswer l es → (c : Carries (entries_of es) name) → IsTextOf c.entry l text
   is_text w c =

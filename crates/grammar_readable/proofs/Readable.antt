@@ -3,9 +3,9 @@
 --
 -- How these definitions are the library's answers: `check_file::check_untabled` answers `verdict seal file none` (promise FileJudged), the readers in `read` answer `reading` (FixGiven,
 -- ExtraGiven), and the look in `look` answers `look_said`, `look_text` and `look_number` (LookGiven, LookTextGiven, LookNumberGiven).
+use Rattle.std.specs.Prelude.{None, Some}
 use Prim.Native.Nat.{ℕ, ◌≤◌}
 use mathlib.Core.List.{List, [], ◌∷◌}
-use mathlib.Core.Option.{none, some}
 use mathlib.Core.Path.{◌≡◌, ap}
 use native.Mathlib.Omega.{arith}
 use lib.IntN.{pos, neg_ℤ}
@@ -33,12 +33,12 @@ use Rattle.grammar_readable.proofs.Worked.{long_columns, long_line, three_column
 
 -- ---- the check without a table
 
-module _ (needs : Seal) (file : List ℕ) (f : Flight) (accepted : verdict needs file none ≡ says f) where
+module _ (needs : Seal) (file : List ℕ) (f : Flight) (accepted : verdict needs file None ≡ says f) where
   -- a file that is accepted where no table is lent is accepted with every table that has an entry for each line, and all that can be read with that table can be read
   pub readable_with_table : (table : List ℕ) → f.lines ≤ length table → Readable needs file table f
   readable_with_table table h =
-      let w = (accepted_as needs file none f).0 accepted in
-      readable needs file table f ((accepted_as needs file (some (length table)) f).1 (w.0, omega (arith, h, ap (λ (x : Flight). x.lines) w.2), w.2))
+      let w = (accepted_as needs file None f).0 accepted in
+      readable needs file table f ((accepted_as needs file (Some (length table)) f).1 (w.0, omega (arith, h, ap (λ (x : Flight). x.lines) w.2), w.2))
 
   -- and what needs no table can be read without one: the lines step by step, the date, the layouts, each line column by column, the declaration
   pub readable_untabled : ReadableUntabled file f
@@ -91,5 +91,5 @@ long_given = worked.long_numbers
 
 -- a line that is a byte short does not read, and the look with it into the entries of the other line is 17; a file without an H line is not accepted
 pub not_read : (reading family.B (bytes "B1200005130000N00015000WA0010000120012-07A") three_columns ≡ refuses 7 0 0)
-    × (look_said (bytes "B1200005130000N00015000WA0010000120012-07A") three_columns (bytes "FXA") ≡ refuses 17 0 0) × (verdict seal.Strict (file_of ("AXYZ001" ∷ "GABC" ∷ [])) none ≡ refuses 6 2 1)
+    × (look_said (bytes "B1200005130000N00015000WA0010000120012-07A") three_columns (bytes "FXA") ≡ refuses 17 0 0) × (verdict seal.Strict (file_of ("AXYZ001" ∷ "GABC" ∷ [])) None ≡ refuses 6 2 1)
 not_read = ((worked.no_reading).0, (worked.no_reading).1, worked.no_date_lem)

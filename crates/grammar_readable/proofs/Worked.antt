@@ -1,11 +1,11 @@
 -- A B line with three columns, of which one has a minus and one no number, and one with columns as long as a number may be, worked out by hand: what each look gives. And a line
 -- whose reading is refused, with the entries of another. Computed. Assumes nothing.
+use Rattle.std.specs.Prelude.{None}
 use Prim.Native.Nat.{ℕ}
 use Prim.Native.Char.{code}
 use Prim.Native.String.{String}
 use mathlib.Core.Bool.{true}
 use mathlib.Core.List.{List, [], ◌∷◌}
-use mathlib.Core.Option.{none}
 use mathlib.Core.Path.{◌≡◌, refl}
 use lib.IntN.{pos, neg_ℤ}
 use lib.ListN.{length}
@@ -101,11 +101,11 @@ five_said = record {
   signed = true;
 }
 
-pub five_accepted : verdict seal.Strict five_lines none ≡ says five_said
+pub five_accepted : verdict seal.Strict five_lines None ≡ says five_said
 unfolding everything file_of
 five_accepted = refl
 
 -- without an H line
-pub no_date_lem : verdict seal.Strict (file_of ("AXYZ001" ∷ "GABC" ∷ [])) none ≡ refuses 6 2 1
+pub no_date_lem : verdict seal.Strict (file_of ("AXYZ001" ∷ "GABC" ∷ [])) None ≡ refuses 6 2 1
 unfolding everything file_of
 no_date_lem = refl

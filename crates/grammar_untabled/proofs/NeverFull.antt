@@ -1,8 +1,8 @@
 -- Where no table is lent, 15 isn't met: no check of a line has that number. Assumes nothing.
+use Rattle.std.specs.Prelude.{None}
 use Prim.Native.Nat.{ℕ, zero, suc, ◌+◌}
 use mathlib.Core.Bool.{Bool, true, false, not, ◌&&◌, cond}
 use mathlib.Core.List.{List, [], ◌∷◌, ◌++◌}
-use mathlib.Core.Option.{none}
 use mathlib.Core.Path.{◌≡◌, refl, sym, ◌∙◌, ap}
 use native.Mathlib.Omega.{arith}
 use lib.Dec.{eqb}
@@ -102,7 +102,7 @@ line_never_full ls l n b f =
 
 -- ---- the check of a file without a table
 
-refused_never_full : (seal : Seal) (file : List ℕ) (n l b : ℕ) → Refused seal file none n l b → eqb n 15 ≡ false
+refused_never_full : (seal : Seal) (file : List ℕ) (n l b : ℕ) → Refused seal file None n l b → eqb n 15 ≡ false
 refused_never_full seal file n l b (empty _) = refl
 refused_never_full seal file n l b (too_long _) = refl
 refused_never_full seal file n l b (line_end _ _ _ _ _) = refl
@@ -110,5 +110,5 @@ refused_never_full seal file n l b (in_line ls t _ _ _ _ _ f) = line_never_full 
 refused_never_full seal file n l b (table_full ls _ _ _ _ _ e) = let z : ◌≡◌ {A = ℕ} 0 1 = cc in absurd (omega arith)
 refused_never_full seal file n l b (ends_early _ _ _) = refl
 
-pub check_never_full : (seal : Seal) (file : List ℕ) (n l b : ℕ) → verdict seal file none ≡ refuses n l b → eqb n 15 ≡ false
-check_never_full seal file n l b e = refused_never_full seal file n l b ((refused_first seal file none n l b).0 e)
+pub check_never_full : (seal : Seal) (file : List ℕ) (n l b : ℕ) → verdict seal file None ≡ refuses n l b → eqb n 15 ≡ false
+check_never_full seal file n l b e = refused_never_full seal file n l b ((refused_first seal file None n l b).0 e)

@@ -1,10 +1,10 @@
 -- Demand 3: added columns change nothing old. What it is to add columns is said in specs/Wider, what it is to read as before in specs/Before. The rooms behind this face: one
 -- line (OneLine), the lines one after the other (Simulated), what is kept whatever a file says (Kept), the file (WholeFile); files with added columns (Instances,
 -- FinerInstances), and files that are none (NotWider). Assumes nothing.
+use Rattle.std.specs.Prelude.{Option, Some}
 use Prim.Native.Nat.{ℕ, ◌+◌, ◌≤◌}
 use mathlib.Core.Bool.{true}
 use mathlib.Core.List.{List}
-use mathlib.Core.Option.{Option, some}
 use mathlib.Core.Path.{◌≡◌, refl}
 use lib.Dec.{lit≤}
 use lib.ListN.{length}
@@ -55,14 +55,14 @@ pub instances : WiderFile five_lines enl_between × WiderFile five_lines others_
 instances = (between, before_and_moved, put_i, put_j, put_m, put_m_behind, put_all, all_widened_lem, some_widened_lem, between_four, put_i_last)
 
 -- so of the first of these all that is claimed above holds
-pub enl_put_in : (f' : Flight) × (verdict seal.Strict enl_between (some 16) ≡ says f') × ReadsAsBefore five_lines enl_between (five five_layout) f' (put_in between)
+pub enl_put_in : (f' : Flight) × (verdict seal.Strict enl_between (Some 16) ≡ says f') × ReadsAsBefore five_lines enl_between (five five_layout) f' (put_in between)
 unfolding everything file_of
-enl_put_in = widened seal.Strict five_lines enl_between (some 16) (some 16) (five five_layout) verdict_of_five between (lit≤ tt) (rw put_in_lem.0 refl)
+enl_put_in = widened seal.Strict five_lines enl_between (Some 16) (Some 16) (five five_layout) verdict_of_five between (lit≤ tt) (rw put_in_lem.0 refl)
 
 -- and of the last, which is not signed, by the usual check
-pub i_put_in : (f' : Flight) × (verdict seal.Usual two_and_i (some 16) ≡ says f') × ReadsAsBefore two_lines two_and_i two f' (put_in put_i_last)
+pub i_put_in : (f' : Flight) × (verdict seal.Usual two_and_i (Some 16) ≡ says f') × ReadsAsBefore two_lines two_and_i two f' (put_in put_i_last)
 unfolding everything file_of
-i_put_in = widened seal.Usual two_lines two_and_i (some 16) (some 16) two verdict_of_two put_i_last (lit≤ tt) (rw put_in_lem.9 refl)
+i_put_in = widened seal.Usual two_lines two_and_i (Some 16) (Some 16) two verdict_of_two put_i_last (lit≤ tt) (rw put_in_lem.9 refl)
 
 -- with finer digits: LAD and TDS put into document 01's file, where the counts without the extra digits are the old ones; ENL put before the LAD of a file that had it, where the counts
 -- and their decimals are the old ones; and zeros of LAD put in at 90 degrees, where other digits are no instance

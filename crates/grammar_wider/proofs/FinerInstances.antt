@@ -1,10 +1,10 @@
 -- Worked files with columns of finer digits, each computed: LAD and TDS added to a file, another column added to a file that has LAD, and LAD added at 90 degrees, where only zeros
 -- will do. Assumes nothing.
+use Rattle.std.specs.Prelude.{None}
 use Prim.Native.Nat.{ℕ}
 use Prim.Native.Char.{code}
 use mathlib.Core.Bool.{true}
 use mathlib.Core.List.{List, [], ◌∷◌}
-use mathlib.Core.Option.{none}
 use mathlib.Core.Path.{◌≡◌, refl, sym, ◌∙◌}
 use lib.Dec.{lit≤}
 use lib.IntN.{pos}
@@ -100,5 +100,5 @@ pub past_pole_lem : WiderFile at_pole past_pole → ⊥
 unfolding everything file_of
 past_pole_lem w =
     let f : Flight = record { date = record { day = 15; month = 7; year = 2024 }; layouts = no_layouts; lines = 4; counts = record { b = 1; k = 0; n = 0 }; signed = true } in
-    let e : verdict seal.Strict past_pole none ≡ refuses 13 4 36 = refl in
-    refuses_says (sym e ∙ (reads_as_before seal.Strict at_pole past_pole none none f refl w (lit≤ tt) refl).1)
+    let e : verdict seal.Strict past_pole None ≡ refuses 13 4 36 = refl in
+    refuses_says (sym e ∙ (reads_as_before seal.Strict at_pole past_pole None None f refl w (lit≤ tt) refl).1)

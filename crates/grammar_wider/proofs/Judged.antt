@@ -1,8 +1,8 @@
 -- One line of a file against those before it, and the same place in a file with added columns: it passes there too, and leaves the states alike. Assumes nothing.
+use Rattle.std.specs.Prelude.{None, Some}
 use Prim.Native.Nat.{ℕ, ◌+◌}
 use mathlib.Core.Bool.{true, false, cond}
 use mathlib.Core.List.{List, [], ◌∷◌}
-use mathlib.Core.Option.{none, some}
 use mathlib.Core.Path.{◌≡◌, refl, ap, ◌∙◌}
 use lib.ListN.{get_or}
 use Rattle.rules.specs.Families.{first_start, line_letter, layout_of}
@@ -40,7 +40,7 @@ wide new n st = record { stage = st.stage; declared = st.declared; points = st.p
 -- the line l of the role r passes from st to after, in the part `stage`
 pub record Comes (r : Role) (l : List ℕ) (st after : State) : Type 0 where
   pub stage : ℕ
-  pub order : order_of r st ≡ some stage
+  pub order : order_of r st ≡ Some stage
   pub left : Leaves l (moved stage st) r after
 
 pub came : (r : Role) (l : List ℕ) (st after : State) → role_in l ≡ r → judge l st ≡ says after → Comes r l st after
@@ -51,9 +51,9 @@ comes r l st after q k c =
     judged_so l st after (record { long = not_empty l (ap is_role q ∙ k); known = ap is_role q ∙ k; stage = c.stage; order = rw q c.order; left = rw q c.left })
 
 -- where it came, it could
-pub order_stage : (r : Role) (st : State) (stage : ℕ) → order_of r st ≡ some stage → stage_after r st.stage ≡ some stage
+pub order_stage : (r : Role) (st : State) (stage : ℕ) → order_of r st ≡ Some stage → stage_after r st.stage ≡ Some stage
 unfolding order_of
-order_stage r st stage h = (need_inv (fits_declaration (is_declaring r) st) none (some stage) _ none_some h).1
+order_stage r st stage h = (need_inv (fits_declaration (is_declaring r) st) None (Some stage) _ none_some h).1
 
 -- ---- lines without columns
 

@@ -1,8 +1,8 @@
 -- What added columns leave as it is, whatever a file says: the lines without columns; how many lines there are more; the old bits of the presence word. Assumes nothing.
+use Rattle.std.specs.Prelude.{None, Some}
 use Prim.Native.Nat.{ℕ, suc, ◌+◌, ◌-◌, ◌<◌}
 use mathlib.Core.Bool.{Bool, true, false, not, ◌&&◌, cond}
 use mathlib.Core.List.{List, [], ◌∷◌}
-use mathlib.Core.Option.{none, some}
 use mathlib.Core.Path.{◌≡◌, refl, sym, ap, ◌∙◌}
 use native.Mathlib.Nat.{add-mul}
 use native.Mathlib.Omega.{arith}
@@ -100,7 +100,7 @@ module _ (old new : Layout) (x : Extends old new) where
   carried c h =
       let s = carried_there old c h in
       let t = each_at (λ c s. width_in new c ≡ width_in old c) old c s.0 x s.1 in
-      rw (given_inv (look new c) none (some (s.0.last + 1 - s.0.first)) _ none_some (t ∙ rw s.1)).1
+      rw (given_inv (look new c) None (Some (s.0.last + 1 - s.0.first)) _ none_some (t ∙ rw s.1)).1
 
   -- the bit of a row is an old one or an added one
   new_bit : (r : Listed) → bit new r ≡ bit old r + cond (carries new r.code && not (carries old r.code)) 1 0

@@ -1,9 +1,9 @@
 -- Worked files that are no file of five lines with added columns: of each, what is computed is not what is proved of such files. Assumes nothing.
+use Rattle.std.specs.Prelude.{None, Some}
 use Prim.Native.Nat.{ℕ, ◌≤◌}
 use Prim.Native.String.{String}
 use mathlib.Core.Bool.{true, false}
 use mathlib.Core.List.{List, [], ◌∷◌}
-use mathlib.Core.Option.{none, some}
 use mathlib.Core.Path.{◌≡◌, refl, sym, ap, ◌∙◌}
 use native.Mathlib.Omega.{arith}
 use lib.Dec.{lit≤, lit<}
@@ -38,17 +38,17 @@ abbrev pub two : Flight
 two = record { date = record { day = 15; month = 7; year = 2024 }; layouts = record { b = empty_layout; k = empty_layout; n = empty_layout }; lines = 2; counts = record { b = 0; k = 0; n = 0 }; signed = false }
 
 module _ (file' : List ℕ) (long : length file' ≤ 16777216) (w : WiderFile five_lines file') where
-  so : (f' : Flight) × (verdict seal.Strict file' none ≡ says f') × ReadsAsBefore five_lines file' (five five_layout) f' (put_in w)
-  so = reads_as_before seal.Strict five_lines file' (some 16) none (five five_layout) verdict_of_five w long refl
+  so : (f' : Flight) × (verdict seal.Strict file' None ≡ says f') × ReadsAsBefore five_lines file' (five five_layout) f' (put_in w)
+  so = reads_as_before seal.Strict five_lines file' (Some 16) None (five five_layout) verdict_of_five w long refl
 
-  is_accepted : (n l b : ℕ) → verdict seal.Strict file' none ≡ refuses n l b → ⊥
+  is_accepted : (n l b : ℕ) → verdict seal.Strict file' None ≡ refuses n l b → ⊥
   is_accepted n l b e = refuses_says (sym e ∙ so.1)
 
   -- its first fix is read as before, and so is each of its old columns
-  first_fix : (f : Flight) → verdict seal.Strict file' none ≡ says f → AsBefore family.B five_layout f.layouts.b (line_of family.B five_lines 0) (line_of family.B file' 0)
+  first_fix : (f : Flight) → verdict seal.Strict file' None ≡ says f → AsBefore family.B five_layout f.layouts.b (line_of family.B five_lines 0) (line_of family.B file' 0)
   first_fix f e = let i : so.0 ≡ f = cc so.1 in rw (← i) (so.2.columned family.B 0 (lit< tt))
 
-  first_column : (f : Flight) (name : List ℕ) → verdict seal.Strict file' none ≡ says f → carries five_layout (packed_of name) ≡ true
+  first_column : (f : Flight) (name : List ℕ) → verdict seal.Strict file' None ≡ says f → carries five_layout (packed_of name) ≡ true
       → text_said (line_of family.B file' 0) f.layouts.b name ≡ text_said (line_of family.B five_lines 0) five_layout name
   first_column f name e c = let a = (first_fix f e).text name c in a.2 ∙ sym a.1
 

@@ -1,8 +1,8 @@
 -- One line with added columns, over the family: it says what the line said before, and so do its old columns. Assumes nothing.
+use Rattle.std.specs.Prelude.{None, Option, Some}
 use Prim.Native.Nat.{ℕ, suc, ◌+◌, ◌-◌}
 use mathlib.Core.Bool.{Bool, true, false}
 use mathlib.Core.List.{List, [], ◌++◌}
-use mathlib.Core.Option.{Option, none, some}
 use mathlib.Core.Path.{◌≡◌, refl, sym, ap, subst, ◌∙◌}
 use native.Mathlib.Omega.{arith}
 use lib.ListN.{length, take, drop, take-append-drop}
@@ -12,7 +12,8 @@ use Rattle.rules.specs.Families.{first_start}
 use Rattle.rules.specs.Refusals.{says}
 use Rattle.rules.specs.Chars.{characters, first_invalid}
 use Rattle.rules.specs.Listed.{packed_of, keeps_limit}
-use Rattle.rules.specs.Layouts.{Span, entries_of, span_of, look, carries, allowed, line_length, column_text, columns}
+use Rattle.rules.specs.declared.Span.{Span}
+use Rattle.rules.specs.Layouts.{entries_of, span_of, look, carries, allowed, line_length, column_text, columns}
 use Rattle.rules.specs.Lines.{shaped_by, FieldsIn}
 use Rattle.rules.specs.Reads.{fields_said, value_from}
 use Rattle.rules.specs.Looks.{look_said, look_number}
@@ -58,7 +59,7 @@ pub record Checked (start : ℕ) (at : AtLimit) (layout : Layout) (l : List ℕ)
   pub ruled : columns at l layout ≡ says tt
 
 -- a column that passed
-old_meets : (start : ℕ) (at : AtLimit) (layout : Layout) (l : List ℕ) (x : ℕ) (s : Span) → Checked start at layout l → look layout x ≡ some s
+old_meets : (start : ℕ) (at : AtLimit) (layout : Layout) (l : List ℕ) (x : ℕ) (s : Span) → Checked start at layout l → look layout x ≡ Some s
     → (are_valid (column_text l s) ≡ true) × (keeps_limit at x (column_text l s) ≡ true)
 unfolding shaped_by
 old_meets start at layout l x s c e =
@@ -71,11 +72,11 @@ old_meets start at layout l x s c e =
 
 module _ (f : Family) (old new : Layout) (l l' : List ℕ) (w : WiderLine f old new l l') where
   -- an old column is in the new layout, and has its old text
-  kept_text : (x : ℕ) (s : Span) → look old x ≡ some s → (s' : Span) × (look new x ≡ some s') × (column_text l' s' ≡ column_text l s)
+  kept_text : (x : ℕ) (s : Span) → look old x ≡ Some s → (s' : Span) × (look new x ≡ Some s') × (column_text l' s' ≡ column_text l s)
   unfolding text_in
   kept_text x s e =
       let t = each_at (λ x s. text_in new l' x ≡ text_in old l x) old x s w.kept e in
-      let g = given_inv (look new x) none (some (column_text l s)) _ none_some (t ∙ rw e) in
+      let g = given_inv (look new x) None (Some (column_text l s)) _ none_some (t ∙ rw e) in
       (g.0, g.1, cc)
 
   module _ (sound : Sound (first_start f) new) (c : Checked (first_start f) (limits_of f l) old l) where
@@ -84,10 +85,10 @@ module _ (f : Family) (old new : Layout) (l l' : List ℕ) (w : WiderLine f old 
     unfolding carries
     new_meets = each_map (entries_of new) (λ e p. go e p.0 p.1 (look old e.code) refl) (each_both (entries_of new) _ _ (each_looked (first_start f) new sound) w.added)
       where
-        go : (e : Entry) → look new e.code ≡ some (span_of e) → (carries old e.code ≡ false → KeepsRules (limits_of f l) e.code (column_text l' (span_of e)))
+        go : (e : Entry) → look new e.code ≡ Some (span_of e) → (carries old e.code ≡ false → KeepsRules (limits_of f l) e.code (column_text l' (span_of e)))
             → (o : Option Span) → look old e.code ≡ o → (are_valid (column_text l' (span_of e)) ≡ true) × (keeps_limit (limits_of f l) e.code (column_text l' (span_of e)) ≡ true)
-        go e a b none h = let m = b (rw h) in (valid_there _ m.valid, m.rule)
-        go e a b (some s) h =
+        go e a b None h = let m = b (rw h) in (valid_there _ m.valid, m.rule)
+        go e a b (Some s) h =
             let k = kept_text e.code s h in
             let i : span_of e ≡ k.0 = cc in
             subst (λ (x : Span). (are_valid (column_text l' x) ≡ true) × (keeps_limit (limits_of f l) e.code (column_text l' x) ≡ true)) (sym i) (rw k.2 (old_meets (first_start f) (limits_of f l) old l e.code s c h))

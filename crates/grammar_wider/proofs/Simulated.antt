@@ -1,8 +1,8 @@
 -- The lines of a file with added columns pass one after the other, as the old lines did, and the lines of each family read as before. Assumes nothing.
+use Rattle.std.specs.Prelude.{None, Some}
 use Prim.Native.Nat.{ℕ, ◌+◌, ◌≤◌, ◌<◌}
 use mathlib.Core.Bool.{true, false}
 use mathlib.Core.List.{List, [], ◌∷◌}
-use mathlib.Core.Option.{none, some}
 use mathlib.Core.Path.{◌≡◌, refl, sym, ap, subst, ◌∙◌}
 use native.Mathlib.Omega.{arith}
 use borrow.Author.Tests.{leb-true}
@@ -35,7 +35,7 @@ use Rattle.grammar_wider.proofs.Changing.{told_role, told_after, told_passes, st
 
 pub record Widened (seal : Seal) (st : State) (ls ls' : Lines) (f : Flight) (old new : Layouts) : Type 0 where
   pub lines : ℕ
-  pub runs : run seal none st ls' ≡ says (wide_flight new lines f)
+  pub runs : run seal None st ls' ≡ says (wide_flight new lines f)
   pub told : f.layouts ≡ old
   pub pairs : (g : Family) → Paired old new g (lines_of_family g ls) (lines_of_family g ls')
 
@@ -46,7 +46,7 @@ before_line : {seal : Seal} {st after : State} {ls ls' : Lines} {f : Flight} {ol
     → Widened seal st ms (line t' ls') f old new
 before_line {seal = seal} {st = st} {after = after} {ls' = ls'} ms t' j r p = record {
   lines = r.lines;
-  runs = ran_so seal none st t' ls' _ (record { after = after; judges = j; fits = refl; runs = r.runs });
+  runs = ran_so seal None st t' ls' _ (record { after = after; judges = j; fits = refl; runs = r.runs });
   told = r.told;
   pairs = λ g. p g (r.pairs g);
 }
@@ -61,7 +61,7 @@ abbrev pub Fine : Layouts → Layouts → Type 0
 Fine old new = (g : Family) → Fit g (layout_of g old) (layout_of g new)
 
 -- what a file says at its end
-ended : (seal : Seal) (st : State) (f : Flight) → run seal none st end ≡ says f → (eqb st.points 0 ≡ true) × (leb (ends_after seal) st.stage ≡ true) × (st.flight ≡ f)
+ended : (seal : Seal) (st : State) (f : Flight) → run seal None st end ≡ says f → (eqb st.points 0 ≡ true) × (leb (ends_after seal) st.stage ≡ true) × (st.flight ≡ f)
 unfolding run finish
 ended seal st f h =
     let w = need_inv (eqb st.points 0) _ (says f) _ refuses_says h in
@@ -69,21 +69,21 @@ ended seal st f h =
     (w.0, v.0, cc)
 
 module _ (seal : Seal) (f : Flight) where
-  at_end : (old new : Layouts) (st : State) (n : ℕ) → st.flight.layouts ≡ old → run seal none st end ≡ says f → Widened seal (wide new n st) end end f old new
+  at_end : (old new : Layouts) (st : State) (n : ℕ) → st.flight.layouts ≡ old → run seal None st end ≡ says f → Widened seal (wide new n st) end end f old new
   unfolding run finish
   at_end old new st n p h =
       let e = ended seal st f h in
       record { lines = n; runs = rw (e.0, e.1, ← e.2); told = rw (← e.2) p; pairs = λ g. tt }
 
-  body : {old new : Layouts} {ls ls' : Lines} → Fine old new → AfterLayouts old new ls ls' → (st : State) (n : ℕ) → st.flight.layouts ≡ old → run seal none st ls ≡ says f
+  body : {old new : Layouts} {ls ls' : Lines} → Fine old new → AfterLayouts old new ls ls' → (st : State) (n : ℕ) → st.flight.layouts ≡ old → run seal None st ls ≡ says f
       → Widened seal (wide new n st) ls ls' f old new
   body {old = old} {new = new} fi done st n p h = at_end old new st n p h
   body {old = old} {new = new} fi (same {t = t} {ls = ls} x b) st n p h =
-      let u = ran seal none st t ls f h in
+      let u = ran seal None st t ls f h in
       let d = bare_step old new n t st u.after x u.judges in
       before_line (line t ls) t d.judges (body fi b u.after (n + 1) (d.layouts ∙ p) u.runs) (λ g. d.pairs g _ _)
   body {old = old} {new = new} fi (columned {t = t} {t' = t'} {ls = ls} g k w b) st n p h =
-      let u = ran seal none st t ls f h in
+      let u = ran seal None st t ls f h in
       let d = columned_step g old new t t' (fi g).0 (fi g).1 (fi g).2 k w n st u.after p u.judges in
       before_line (line t ls) t' d.judges (body fi b u.after (n + 1) (d.layouts ∙ p) u.runs) (λ g. d.pairs g _ _)
 
@@ -95,13 +95,13 @@ Begins low (broken n) = Unit {0}
 Begins low (line t ls) = Behind low (role_in t)
 
 module _ (seal : Seal) (low : ℕ) (st : State) (early : st.stage ≤ low) where
-  pub front_behind : (ls : Lines) (f : Flight) → Begins low ls → run seal none st ls ≡ says f → after_h ≤ st.stage
+  pub front_behind : (ls : Lines) (f : Flight) → Begins low ls → run seal None st ls ≡ says f → after_h ≤ st.stage
   unfolding run
   front_behind end f b h = omega (arith, front_over seal, leb-true (ends_after seal) st.stage (ended seal st f h).1)
   front_behind (broken n) f b h = absurd (refuses_says h)
-  front_behind (line t ls) f b h = let u = ran seal none st t ls f h in behind_front low t b st early u.after u.judges
+  front_behind (line t ls) f b h = let u = ran seal None st t ls f h in behind_front low t b st early u.after u.judges
 
-  run_alike : (ls : Lines) (s : ℕ) → Begins low ls → low < in_body → s ≤ low → after_h ≤ s → after_h ≤ st.stage → run seal none (staged s st) ls ≡ run seal none st ls
+  run_alike : (ls : Lines) (s : ℕ) → Begins low ls → low < in_body → s ≤ low → after_h ≤ s → after_h ≤ st.stage → run seal None (staged s st) ls ≡ run seal None st ls
   unfolding run finish
   run_alike end s b i e a a' = rw (sealed_alike seal st.stage s a' (omega arith) a (omega arith))
   run_alike (broken n) s b i e a a' = refl
@@ -163,13 +163,13 @@ went_line ms t' j p r = record {
 
 module _ (seal : Seal) (f : Flight) where
   layouts_went : {fs : List Family} {old new : Layouts} {ls ls' : Lines} (low : ℕ) → LayoutLines fs old new ls ls' → Ordered low fs → Later low old → Fine old new
-      → (st : State) (n : ℕ) → st.flight.layouts ≡ old → st.points ≡ 0 → after_h ≤ st.stage → st.stage ≤ low → run seal none st ls ≡ says f
+      → (st : State) (n : ℕ) → st.flight.layouts ≡ old → st.points ≡ 0 → after_h ≤ st.stage → st.stage ≤ low → run seal None st ls ≡ says f
       → Went seal (wide new n st) ls ls' f
   layouts_went {old = old} {new = new} low (all b) o la fi st n p z a c h = record { old = old; new = new; fine = fi; passed = body seal f fi b st n p h }
   layouts_went low (without {f = g} r) o la fi st n p z a c h =
       layouts_went (after_layout g) r o.1 (λ q k. la q (omega (arith, o.0))) fi st n p z a (omega (arith, o.0)) h
   layouts_went {old = old} {new = new} low (changed {f = g} {t = t} {t' = t'} {i = i} {i' = i'} {ls = ls} e e' x r) o la fi st n p z a c h =
-      let u = ran seal none st t ls f h in
+      let u = ran seal None st t ls f h in
       let m = told_after g t i e st u.after u.judges in
       let w = layouts_went (after_layout g) r o.1 (later_with low g i old o.0 la) (fine_with g i i' old new (sound_line g t i e, sound_line g t' i' e', x) fi)
       (laid_out g i (moved (after_layout g) st)) (n + 1) (ap (with_layout g i) p) z (omega (arith, o.0)) (omega arith) (rw m u.runs) in
@@ -191,7 +191,7 @@ record Early (st : State) : Type 0 where
   points : st.points ≡ 0
   layouts : st.flight.layouts ≡ no_layouts
 
-early_left : (st : State) (s : ℕ) {l : List ℕ} {r : Role} {after : State} → Early st → is_front r ≡ true → stage_after r st.stage ≡ some s → Leaves l (moved s st) r after
+early_left : (st : State) (s : ℕ) {l : List ℕ} {r : Role} {after : State} → Early st → is_front r ≡ true → stage_after r st.stage ≡ Some s → Leaves l (moved s st) r after
     → Early after × ((g : Family) → is_of g r ≡ false)
 unfolding stage_after
 early_left st s y x o (opens e) = (record { stage = omega (arith, (leading_inv at_start at_start after_a st.stage s o).2); points = y.points; layouts = y.layouts }, λ g. refl)
@@ -212,17 +212,17 @@ none_fine : Fine no_layouts no_layouts
 none_fine g = rw (none_yet g) (sound_empty (first_start g), sound_empty (first_start g), tt)
 
 module _ (seal : Seal) (f : Flight) where
-  went : {ls ls' : Lines} → Wider ls ls' → (st : State) → Early st → run seal none st ls ≡ says f → Went seal st ls ls' f
+  went : {ls ls' : Lines} → Wider ls ls' → (st : State) → Early st → run seal None st ls ≡ says f → Went seal st ls ls' f
   went (from {ls = ls} {ls' = ls'} r) st y h =
       let a = front_behind seal after_h st y.stage ls f (begins after_h r in_order) h in
       let w = layouts_went seal f after_h r in_order (λ g p. none_yet g) none_fine st st.flight.lines y.layouts y.points a y.stage h in
       subst (λ x. Went seal (wide x st.flight.lines st) ls ls' f) (sym y.layouts) w
   went (front {t = t} {ls = ls} x w) st y h =
-      let u = ran seal none st t ls f h in
+      let u = ran seal None st t ls f h in
       let j = judged t st u.after u.judges in
       let n = early_left st j.stage y x (order_stage (role_in t) st j.stage j.order) j.left in
       went_line (line t ls) t u.judges (λ g. (rw (n.1 g), n.1 g)) (went w u.after n.0 u.runs)
 
   -- from the first line on
-  pub lines_went : {ls ls' : Lines} → Wider ls ls' → run seal none start ls ≡ says f → Went seal start ls ls' f
+  pub lines_went : {ls ls' : Lines} → Wider ls ls' → run seal None start ls ≡ says f → Went seal start ls ls' f
   lines_went w h = went w start (record { stage = omega arith; points = refl; layouts = refl }) h

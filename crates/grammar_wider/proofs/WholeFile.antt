@@ -1,8 +1,8 @@
 -- From the lines to the file: a file with added columns is accepted and reads as before. Assumes nothing.
+use Rattle.std.specs.Prelude.{None, Option, Some}
 use Prim.Native.Nat.{ℕ, ◌+◌, ◌≤◌}
 use mathlib.Core.Bool.{true}
 use mathlib.Core.List.{List, [], ◌∷◌}
-use mathlib.Core.Option.{Option, none, some}
 use mathlib.Core.Path.{◌≡◌, refl, sym, ap, subst, ◌∙◌}
 use native.Mathlib.Omega.{arith}
 use borrow.Author.Tests.{le-leb}
@@ -29,27 +29,27 @@ use Rattle.grammar_wider.proofs.Kept.{others_same, lines_more, family_tallied, p
 
 -- ---- the table's room is asked for beside the check
 
-without_table : (seal : Seal) (file : List ℕ) (room : Option ℕ) (f : Flight) → verdict seal file room ≡ says f → verdict seal file none ≡ says f
+without_table : (seal : Seal) (file : List ℕ) (room : Option ℕ) (f : Flight) → verdict seal file room ≡ says f → verdict seal file None ≡ says f
 unfolding tabled
-without_table seal file none f e = e
-without_table seal file (some n) f e = (need_inv (leb (good_lines (verdict seal file none)) n) _ (says f) _ refuses_says (sym (table_adds seal file n) ∙ e)).1
+without_table seal file None f e = e
+without_table seal file (Some n) f e = (need_inv (leb (good_lines (verdict seal file None)) n) _ (says f) _ refuses_says (sym (table_adds seal file n) ∙ e)).1
 
-with_table : (seal : Seal) (file : List ℕ) (room : Option ℕ) (f : Flight) → has_room room f.lines ≡ true → verdict seal file none ≡ says f → verdict seal file room ≡ says f
+with_table : (seal : Seal) (file : List ℕ) (room : Option ℕ) (f : Flight) → has_room room f.lines ≡ true → verdict seal file None ≡ says f → verdict seal file room ≡ says f
 unfolding tabled good_lines
-with_table seal file none f h e = e
-with_table seal file (some n) f h e = table_adds seal file n ∙ ap (tabled n) e ∙ rw h
+with_table seal file None f h e = e
+with_table seal file (Some n) f h e = table_adds seal file n ∙ ap (tabled n) e ∙ rw h
 
 -- ---- the file
 
 -- a file whose lines say something has bytes
-some_bytes : (seal : Seal) (file : List ℕ) (f : Flight) → run seal none start (lines_of file) ≡ says f → 1 ≤ length file
+some_bytes : (seal : Seal) (file : List ℕ) (f : Flight) → run seal None start (lines_of file) ≡ says f → 1 ≤ length file
 unfolding lines_of
 some_bytes seal [] f h = absurd (omega (arith, front_behind seal after_h start (omega arith) end f tt h))
 some_bytes seal (b ∷ rest) f h = omega arith
 
 module _ (seal : Seal) (file file' : List ℕ) (room room' : Option ℕ) (f : Flight) (accepted : verdict seal file room ≡ says f) (w : WiderFile file file')
     (long : length file' ≤ 16777216) (fits : has_room room' (f.lines + put_in w) ≡ true) where
-  lines_run : run seal none start (lines_of file) ≡ says f
+  lines_run : run seal None start (lines_of file) ≡ says f
   unfolding verdict
   lines_run =
       let a = need_inv (leb 1 (length file)) _ (says f) _ refuses_says (without_table seal file room f accepted) in
@@ -62,12 +62,12 @@ module _ (seal : Seal) (file file' : List ℕ) (room room' : Option ℕ) (f : Fl
   said : Flight
   said = wide_flight went.new went.passed.lines f
 
-  tableless : verdict seal file' none ≡ says said
+  tableless : verdict seal file' None ≡ says said
   unfolding verdict said
   tableless = rw (le-leb 1 (length file') (some_bytes seal file' _ went.passed.runs), le-leb (length file') 16777216 long) went.passed.runs
 
   more_lines : said.lines ≡ f.lines + put_in w
-  more_lines = omega (arith, lines_counted seal file' none said tableless, lines_more w, lines_counted seal file room f accepted)
+  more_lines = omega (arith, lines_counted seal file' None said tableless, lines_more w, lines_counted seal file room f accepted)
 
   as_before : ReadsAsBefore file file' f said (put_in w)
   unfolding said

@@ -1,6 +1,5 @@
 -- Demand 3, to add columns to the B lines, the K lines or the N lines of a file: which lines may differ, and what each of them must still say.
-use Rattle.std.specs.Prelude.{ℕ, ◌+◌, ◌-◌, true, false, List, [], ◌∷◌, ◌≡◌, length, get_or, take}
-use Rattle.std.proofs.Math.Option.{Option, none, some}
+use Rattle.std.specs.Prelude.{ℕ, ◌+◌, ◌-◌, true, false, List, [], ◌∷◌, ◌≡◌, length, get_or, take, None, Option, Some}
 use Rattle.rules.specs.Families.{first_start, line_letter, layout_of, with_layout}
 use Rattle.rules.specs.Choice.{given, byte, Each}
 use Rattle.rules.specs.Refusals.{says, value_or, and_then}
@@ -24,7 +23,7 @@ use Rattle.rules.specs.declared.Layouts.{Layouts}
 
 -- how wide the column of a code is, where the layout has one
 unfoldable pub width_in : Layout → ℕ → Option ℕ
-width_in layout x = given (look layout x) none λ s. some (s.last + 1 - s.first)
+width_in layout x = given (look layout x) None λ s. Some (s.last + 1 - s.first)
 
 -- Demand 3: the new layout has every column of the old one, as wide as it was, at any place. Its other columns are the added ones; their codes are different, and none
 -- is in the old layout, since "No code comes twice in one layout."
@@ -35,7 +34,7 @@ Extends old new = Each (λ (e : Entry). width_in new e.code ≡ width_in old e.c
 
 -- the text of the column of a code in a line, where the layout has one
 unfoldable pub text_in : Layout → List ℕ → ℕ → Option (List ℕ)
-text_in layout l x = given (look layout x) none λ s. some (column_text l s)
+text_in layout l x = given (look layout x) None λ s. Some (column_text l s)
 
 -- which coordinates of a line of the family are at their limits: of a B line by its fields; K and N lines have none
 unfoldable pub limits_of : Family → List ℕ → AtLimit

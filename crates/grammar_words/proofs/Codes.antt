@@ -1,9 +1,9 @@
 -- The rules' table of listed codes is document 01's, row by row; and so what the rules test of a code's width (12) and of its column's text (13), in document 01's words.
 -- Assumes nothing.
+use Rattle.std.specs.Prelude.{None, Option, Some}
 use Prim.Native.Nat.{ℕ, suc, ◌≤◌, ◌+◌}
 use mathlib.Core.Bool.{Bool, true, false, ◌&&◌, ◌||◌, cond, or-true}
 use mathlib.Core.List.{List, [], ◌∷◌}
-use mathlib.Core.Option.{Option, none, some}
 use mathlib.Core.Logic.{◌↔◌}
 use mathlib.Core.Path.{◌≡◌, refl, sym, ◌∙◌, subst, ap}
 use native.Mathlib.Nat.{zero-add}
@@ -75,8 +75,8 @@ others_there x (r ∷ rs) e = go (eqb r.code x) refl e (others_there x rs)
 module _ (x : ℕ) (P : Listed → Type 0) where
   -- what is found from row k on
   data Found (rs : List Listed) (k : ℕ) (o : Option ℕ) : Type 0 where
-    missing : o ≡ none → Each (λ r. r.code ≡ x → P r) rs → Found rs k o
-    row : (i : ℕ) → o ≡ some (k + i) → (P (get_or rs i unlisted) → Each (λ r. r.code ≡ x → P r) rs) → (Each (λ r. r.code ≡ x → P r) rs → P (get_or rs i unlisted))
+    missing : o ≡ None → Each (λ r. r.code ≡ x → P r) rs → Found rs k o
+    row : (i : ℕ) → o ≡ Some (k + i) → (P (get_or rs i unlisted) → Each (λ r. r.code ≡ x → P r) rs) → (Each (λ r. r.code ≡ x → P r) rs → P (get_or rs i unlisted))
         → Found rs k o
 
   found : (rs : List Listed) (k : ℕ) → alone rs ≡ true → Found rs k (first_of (λ r. eqb r.code x) (λ n r. n) rs k)
@@ -89,13 +89,13 @@ module _ (x : ℕ) (P : Listed → Type 0) where
       further : Found rs (suc k) (first_of (λ r. eqb r.code x) (λ n r. n) rs (suc k)) → (r.code ≡ x → ⊥)
           → Found (r ∷ rs) k (first_of (λ r. eqb r.code x) (λ n r. n) rs (suc k))
       further (missing o e) n = missing o ((λ i. absurd (n i)), e)
-      further (row i o f g) n = row (suc i) (o ∙ ap some (omega arith)) (λ p. ((λ j. absurd (n j)), f p)) (λ e. g e.1)
+      further (row i o f g) n = row (suc i) (o ∙ ap Some (omega arith)) (λ p. ((λ j. absurd (n j)), f p)) (λ e. g e.1)
 
       go : (b : Bool) → eqb r.code x ≡ b → Each (λ s. s.code ≡ r.code → ⊥) rs → Found rs (suc k) (first_of (λ r. eqb r.code x) (λ n r. n) rs (suc k))
-          → Found (r ∷ rs) k (cond b (some k) (first_of (λ r. eqb r.code x) (λ n r. n) rs (suc k)))
+          → Found (r ∷ rs) k (cond b (Some k) (first_of (λ r. eqb r.code x) (λ n r. n) rs (suc k)))
       go true q d w =
           let c = eqb-true _ _ q in
-          row 0 (ap some (omega arith)) (λ p. ((λ i. p), each_map rs (λ s n i. absurd (n (i ∙ sym c))) d)) (λ e. e.0 c)
+          row 0 (ap Some (omega arith)) (λ p. ((λ i. p), each_map rs (λ s n i. absurd (n (i ∙ sym c))) d)) (λ e. e.0 c)
       go false q d w = further w (eqb-false _ _ q)
 
 -- what is said of the rules' row of a code, and of document 01's
@@ -128,7 +128,7 @@ by_row x t Q m = let w = in_table _ (found x (λ r. t r ≡ true) listed 0 liste
     in_table o (missing e h) = (λ i. h, λ i. rw e)
     in_table o (row n e f g) =
         let i : given o true (λ n. t (get_or listed n unlisted)) ≡ t (get_or listed n unlisted) =
-        ap (λ v. given v true (λ n. t (get_or listed n unlisted))) (e ∙ ap some (zero-add n)) in
+        ap (λ v. given v true (λ n. t (get_or listed n unlisted))) (e ∙ ap Some (zero-add n)) in
         (λ h. f (sym i ∙ h), λ h. i ∙ g h)
 
 -- ---- widths

@@ -1,12 +1,12 @@
 -- What is claimed of the rules' table of listed codes, characters, limits and degrees: they are those of documents 01 and 02, whose words stand in specs/. The grammar of `grammar` has
 -- these words. Its checks of a refusal have the rules' own tests, as is_valid, is_code, codes_at, width_fits, keeps_limit, is_either and time_at; what these mean, in the same words,
 -- is said beside `refused_first` by the `.._meant` lines and `Fields-told`. Assumes nothing.
+use Rattle.std.specs.Prelude.{Some}
 use Prim.Native.Nat.{ℕ, ◌≤◌}
 use Prim.Native.Char.{code}
 use mathlib.Core.Bool.{Bool, true}
 use mathlib.Core.List.{List}
 use mathlib.Core.Logic.{◌↔◌, ◌⊎◌}
-use mathlib.Core.Option.{some}
 use mathlib.Core.Path.{◌≡◌, refl}
 use lib.Ieee.{Float}
 use Rattle.rules.specs.Choice.{first_of, bytes, Each}
@@ -85,7 +85,7 @@ pub finer_exactly : (code_text tds ≡ bytes "TDS") × (code_text lad ≡ bytes 
 unfolding bytes
 finer_exactly = (refl, refl, refl)
 
-pub finer_numbered : (listed_number tds ≡ some 10) × (listed_number lad ≡ some 11) × (listed_number lod ≡ some 12)
+pub finer_numbered : (listed_number tds ≡ Some 10) × (listed_number lad ≡ Some 11) × (listed_number lod ≡ Some 12)
 unfolding listed_number first_of listed bytes
 finer_numbered = (refl, refl, refl)
 
