@@ -1,8 +1,9 @@
 -- Laws of tests: joined by and, or and not; the first element of a list that passes one; and elements that each pass one. Assumes nothing.
+use Rattle.std.specs.Prelude.{None, Some, take}
+use native.Mathlib.Omega.{arith}
 use Prim.Native.Nat.{ℕ, suc, ◌+◌, ◌-◌, ◌≤◌, ◌<◌}
 use mathlib.Core.Bool.{Bool, true, false, not, ◌&&◌, ◌||◌}
-use mathlib.Core.List.{List, []}
-use mathlib.Core.Option.{none, some}
+use mathlib.Core.List.{List, [], ◌∷◌}
 use mathlib.Core.Path.{◌≡◌, refl, sym, ◌∙◌}
 use native.Mathlib.Numerals.{add-one, sub-one}
 use borrow.Author.Tests.{le-leb, lt-leb, eq-eqb, ne_eqb}
@@ -84,7 +85,7 @@ ordered true true true true true false false = refl
 -- ---- a step of a look-up: what is looked for stands at the place i, or what comes after it decides
 
 module _ {A B : Type 0} (test : A → Bool) (found : ℕ → A → B) (xs : List A) (d : A) (i n : ℕ) where
-  pub hit : i < length xs → test (get_or xs i d) ≡ true → first_of test found (drop i xs) n ≡ some (found n (get_or xs i d))
+  pub hit : i < length xs → test (get_or xs i d) ≡ true → first_of test found (drop i xs) n ≡ Some (found n (get_or xs i d))
   unfolding first_of
   hit h e = rw (drop-cons xs i d h, e)
 
@@ -92,7 +93,7 @@ module _ {A B : Type 0} (test : A → Bool) (found : ℕ → A → B) (xs : List
   unfolding first_of
   miss h e = rw (add-one, add-one, drop-cons xs i d h, e)
 
-  pub past : length xs ≤ i → first_of test found (drop i xs) n ≡ none
+  pub past : length xs ≤ i → first_of test found (drop i xs) n ≡ None
   unfolding first_of
   past h = rw (drop_of_length-le xs h)
 
@@ -109,7 +110,21 @@ module _ {A : Type 0} (test : A → Bool) (xs : List A) (d : A) (i : ℕ) where
   leads_other Prim.Native.Nat.zero p h e = elim p [ ]
   leads_other (suc n) p h e = rw (drop-cons xs i d h, e)
 
-  pub leads_short : (n : ℕ) → 0 < n → length xs ≤ i → leads test n (drop i xs) ≡ false
+-- ---- the first n elements, cut out, or fewer of them
+
+module _ {A : Type 0} (test : A → Bool) where
+  pub leads_cut : (n : ℕ) (l : List A) → leads test n l ≡ leads test n (take n l)
   unfolding leads
-  leads_short Prim.Native.Nat.zero p h = elim p [ ]
-  leads_short (suc n) p h = rw (drop_of_length-le xs h)
+  leads_cut Prim.Native.Nat.zero l = refl
+  leads_cut (suc n) [] = refl
+  leads_cut (suc n) (b ∷ l) = rw (leads_cut n l)
+
+  pub leads_past : (n : ℕ) (l : List A) → length l < n → false ≡ leads test n l
+  unfolding leads
+  leads_past Prim.Native.Nat.zero l h = absurd (omega arith)
+  leads_past (suc n) [] h = refl
+  leads_past (suc n) (b ∷ l) h = rw (← leads_past n l (omega arith)) (by (test b))
+    where
+      by : (t : Bool) → false ≡ (t && false)
+      by true = refl
+      by false = refl

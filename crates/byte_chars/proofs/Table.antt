@@ -1,4 +1,5 @@
 -- The table of the characters agrees with the rule: one test, computed over the whole table, and what it says of each byte. Assumes nothing.
+use Rattle.std.specs.Prelude.{None, fold}
 use Prim.Native.Nat.{ℕ, zero, suc, ◌+◌, ◌<◌}
 use mathlib.Core.Bool.{Bool, true, false, not, ◌&&◌, ◌||◌, cond, and-true}
 use mathlib.Core.List.{List, [], ◌∷◌}
@@ -8,7 +9,8 @@ use borrow.Author.Tests.{eqb-true}
 use lib.Dec.{eqb}
 use lib.ListN.{length, get_or}
 use Rattle.rules.proofs.Inverse.{and_inv}
-use Rattle.rules.specs.Chars.{is_valid}
+use Rattle.rules.specs.Choice.{first_of}
+use Rattle.rules.specs.Chars.{is_valid, first_invalid}
 use Rattle.byte_chars.specs.Characters.{class_of, Agrees}
 
 -- ---- the test of a whole table
@@ -84,3 +86,18 @@ module _ (table : List ℕ) (in_h : Bool) (b : ℕ) (t : Agrees table) (h : b < 
 pub valid_in : (in_h : Bool) (b : ℕ) → is_valid false b ≡ true → is_valid in_h b ≡ true
 valid_in true b e = (and_inv (is_valid true b) (not (eqb b 0x2C)) (sym (but_comma false b) ∙ e)).0
 valid_in false b e = e
+
+-- ---- where all bytes are valid in every line, none is invalid in any
+
+none_from : (l : List ℕ) (ok : Bool) → fold (λ ok b. ok && is_valid false b) ok l ≡ true
+    → (ok ≡ true) × ((in_h : Bool) (n : ℕ) → first_of (λ b. not (is_valid in_h b)) (λ i b. i) l n ≡ None)
+unfolding first_of
+none_from [] ok e = (e, λ in_h n. refl)
+none_from (b ∷ l) ok e =
+    let ih = none_from l (ok && is_valid false b) e in
+    let both = and_inv ok (is_valid false b) ih.0 in
+    (both.0, λ in_h n. rw (valid_in in_h b both.1) (ih.1 in_h (suc n)))
+
+pub none_invalid : (l : List ℕ) → fold (λ ok b. ok && is_valid false b) true l ≡ true → (in_h : Bool) → first_invalid in_h l ≡ None
+unfolding first_invalid
+none_invalid l e in_h = (none_from l true e).1 in_h 0

@@ -1,6 +1,5 @@
 -- Document 02, CR 5: one number for each byte, and what a table of them must say.
-use Rattle.std.specs.Prelude.{ℕ, ◌<◌, Bool, true, false, cond, List, ◌≡◌, length, get_or}
-use Rattle.std.proofs.Math.Option.{none}
+use Rattle.std.specs.Prelude.{ℕ, ◌<◌, Bool, true, false, cond, List, ◌≡◌, length, get_or, None}
 use Rattle.rules.specs.Chars.{is_valid, first_invalid}
 
 -- "0 never valid, 1 valid, 2 the comma, valid in H lines only"
@@ -14,4 +13,4 @@ pub record Agrees (table : List ℕ) : Type 0 where
 
 -- a line of which it is told that each byte may stand in every line has no invalid one, in H lines or in others
 abbrev pub TextTold : List ℕ → Bool → Type 0
-TextTold l r = r ≡ true → (in_h : Bool) → first_invalid in_h l ≡ none
+TextTold l r = r ≡ true → (in_h : Bool) → first_invalid in_h l ≡ None

@@ -1,22 +1,22 @@
 // The characters of a line: a byte at a place, and what a byte may be.
 #![tactic(auto)]
 
-ghost use Rattle.std.specs.Prelude.{false, ◌&&◌, ◌≡◌};
+ghost use Rattle.std.specs.Prelude.{false, ◌≡◌};
 ghost use Rattle.rules.specs.Chars.{is_valid};
 ghost use Rattle.byte_chars.specs.Characters.{Agrees, TextTold};
 ghost use Rattle.rules.specs.Promises.{ByteAt, EitherTest, CodeTest, ValidTest, InvalidFound, CodesTest};
 
 use byte_number::is_digit;
-use rules::Found;
 
 // The byte behind `at` others, 0 past the end.
 pub fn byte(s: &[u8], at: usize) -> u8
     ensures { ByteAt s.now at result }
 {
-    if at < s.len() { s[at] } else { 0 }
+    s.get(at).copied().unwrap_or(0)
 }
 
 // Whether x is one of two bytes.
+#[tactic(auto, unfolding(rules::specs::Fields::is_either))]
 pub fn is_either(x: u8, a: u8, b: u8) -> bool
     ensures { EitherTest x a b result }
 {
@@ -24,16 +24,11 @@ pub fn is_either(x: u8, a: u8, b: u8) -> bool
 }
 
 // Whether a byte is one of A to Z and 0 to 9.
+#[tactic(auto, unfolding(rules::specs::Chars::is_code))]
 pub fn is_code(b: u8) -> bool
     ensures { CodeTest b result }
 {
-    if is_digit(b) {
-        return true;
-    }
-    if b < b'A' {
-        return false;
-    }
-    b <= b'Z'
+    is_digit(b) || (b'A' <= b && b <= b'Z')
 }
 
 // A number for each byte: 0 never valid, 1 valid, 2 the comma, valid in H lines only. A row has sixteen bytes: the first those from hex 00 to 0F, the last those from F0 to FF.
@@ -68,14 +63,11 @@ fn is_valid_by(table: &[u8], in_h: bool, b: u8) -> bool
     requires { Agrees table.now }
     ensures { ValidTest in_h b result }
 {
-    let class = table[b as usize];
-    if class == 1 {
-        return true;
+    match table[b as usize] {
+        1 => true,
+        0 => false,
+        _ => in_h,
     }
-    if class == 0 {
-        return false;
-    }
-    in_h
 }
 
 // Whether a byte may stand in a line; in an H line a comma too.
@@ -87,18 +79,16 @@ pub fn is_valid(in_h: bool, b: u8) -> bool
 }
 
 // How many bytes of a line stand before the first one that may not stand there, by the table.
-fn first_invalid_by(table: &[u8], in_h: bool, line: &[u8]) -> Found
+fn first_invalid_by(table: &[u8], in_h: bool, line: &[u8]) -> Option<usize>
     requires { Agrees table.now }
     ensures { InvalidFound in_h line.now result }
 {
-    let mut i = 0;
-    while i < line.len() {
-        if !is_valid_by(table, in_h, line[i]) {
-            return Found::At(i);
+    for (i, b) in line.iter().enumerate() {
+        if !is_valid_by(table, in_h, *b) {
+            return Some(i);
         }
-        i += 1;
     }
-    Found::Nothing
+    None
 }
 
 // Whether a byte may stand in every line. All its tests are made, so that the compiler takes many bytes at a time; two that differ in one bit stand side by side, and become one.
@@ -110,32 +100,21 @@ fn is_text_byte(b: u8) -> bool
     within & some & ((b != 36) & (b != 44)) & ((b != 92) & (b != 94))
 }
 
-// Whether all bytes so far may stand in every line, and this one may.
-fn still_text(ok: bool, b: u8) -> bool
-    ensures { result ≡ (ok && is_valid false b) }
-{
-    ok & is_text_byte(b)
-}
-
-// Whether each byte of a line may stand in every line. It has no way out before the line's end.
+// Whether each byte of a line may stand in every line. It has no way out before the line's end, as `all` would have.
 fn is_text(line: &[u8]) -> bool
     ensures { TextTold line.now result }
 {
-    let mut ok = true;
-    let mut i = 0;
-    while i < line.len() {
-        ok = still_text(ok, line[i]);
-        i += 1;
-    }
-    ok
+    line.iter()
+        .copied()
+        .fold(true, |ok, b| ok & is_text_byte(b))
 }
 
 // How many bytes of a line stand before the first one that may not stand there. Nothing where each may.
-pub fn first_invalid(in_h: bool, line: &[u8]) -> Found
+pub fn first_invalid(in_h: bool, line: &[u8]) -> Option<usize>
     ensures { InvalidFound in_h line.now result }
 {
     if is_text(line) {
-        return Found::Nothing;
+        return None;
     }
     let table = characters();
     first_invalid_by(&table, in_h, line)
@@ -145,17 +124,13 @@ pub fn first_invalid(in_h: bool, line: &[u8]) -> Found
 pub fn codes_at(s: &[u8], at: usize, n: usize) -> bool
     ensures { CodesTest s.now at n result }
 {
-    let mut i = at;
-    let mut left = n;
-    while 0 < left {
-        if s.len() <= i {
+    let Some(text) = s[at.min(s.len())..].get(..n) else {
+        return false;
+    };
+    for b in text {
+        if !is_code(*b) {
             return false;
         }
-        if !is_code(s[i]) {
-            return false;
-        }
-        i += 1;
-        left -= 1;
     }
     true
 }

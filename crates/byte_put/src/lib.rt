@@ -22,11 +22,7 @@ pub fn text(out: &mut [u8], at: usize, bytes: &[u8])
     if out.len() < at || out.len() - at < n {
         return;
     }
-    let mut i = 0;
-    while i < n {
-        out[at + i] = bytes[i];
-        i += 1;
-    }
+    out[at..at + n].copy_from_slice(bytes);
 }
 
 // The last n decimal digits of v, with zeros before them where v has fewer.
@@ -36,11 +32,9 @@ pub fn digits(out: &mut [u8], at: usize, n: usize, v: u64)
     if out.len() < at || out.len() - at < n {
         return;
     }
-    let mut left = n;
     let mut x = v;
-    while 0 < left {
-        left -= 1;
-        out[at + left] = 48 + (x % 10) as u8;
-        x = x / 10;
+    for i in (0..n).rev() {
+        out[at + i] = b'0' + (x % 10) as u8;
+        x /= 10;
     }
 }

@@ -1,58 +1,37 @@
 -- A test of every byte, a byte at a time; what is mild is valid in every line, and is text. Assumes nothing.
-use Prim.Native.Nat.{ℕ, suc, ◌+◌, ◌-◌, ◌≤◌, ◌<◌}
+use Rattle.std.specs.Prelude.{None, fold}
+use Prim.Native.Nat.{ℕ, suc, ◌≤◌}
 use mathlib.Core.Bool.{Bool, true, false, not, ◌&&◌, ◌||◌, and-true}
 use mathlib.Core.List.{List, [], ◌∷◌}
-use mathlib.Core.Option.{none}
-use mathlib.Core.Path.{◌≡◌, refl, sym, ap, ◌∙◌}
+use mathlib.Core.Path.{◌≡◌, refl, sym, ◌∙◌}
 use native.Mathlib.Omega.{arith}
-use borrow.Author.Tests.{leb-true, le-leb, ne_eqb, eqb-true, not-true, not-false}
+use borrow.Author.Tests.{leb-true, le-leb, ne_eqb, eqb-true}
 use lib.Dec.{eqb, leb}
-use lib.ListN.{length, get_or, drop, length-drop}
+use lib.ListN.{drop}
 use Rattle.rules.proofs.Inverse.{and_inv, or_inv}
 use Rattle.rules.specs.Choice.{leads, first_of}
-use Rattle.rules.specs.Chars.{is_valid, first_invalid, is_digit}
-use Rattle.rules.specs.Listed.{is_digits, is_zeros}
-use Rattle.byte_chars.proofs.Laws.{joined, told, byte_is, byte_is_not}
+use Rattle.rules.specs.Chars.{is_valid, first_invalid}
 use Rattle.rules_laws.proofs.Splitting.{Text}
-use Rattle.rules_laws.proofs.LineEnds.{rest}
-use Rattle.byte_sweep.specs.Plain.{is_plain, is_mild, is_zero, every, every_from}
+use Rattle.byte_sweep.specs.Plain.{is_plain, is_mild, every}
 
--- ---- the loops: what was found so far and what is left decide as the whole does
+-- ---- every byte was tested, from the first to the last; r is what was found
 
-swap : (p ok q : Bool) → ((p && ok) && q) ≡ (ok && (p && q))
-swap true ok q = refl
-swap false true q = refl
-swap false false q = refl
+fold_every : (test : ℕ → Bool) (l : List ℕ) (ok : Bool) → fold (λ ok b. ok && test b) ok l ≡ (ok && every test l)
+unfolding leads
+fold_every test [] ok = sym (and-true ok)
+fold_every test (b ∷ l) ok = fold_every test l (ok && test b) ∙ and_assoc ok (test b) (every test l)
+  where
+    and_assoc : (x y z : Bool) → ((x && y) && z) ≡ (x && (y && z))
+    and_assoc true y z = refl
+    and_assoc false y z = refl
 
-pub all_first : (test : ℕ → Bool) (s : List ℕ) → (true && every_from test 0 s) ≡ every test s
-all_first test s = let n : length s - 0 ≡ length s = omega arith in rw n
+module _ (test : ℕ → Bool) (r : Bool) where
+  pub folded : (l : List ℕ) → r ≡ fold (λ ok b. ok && test b) true l → r ≡ every test l
+  folded l e = e ∙ fold_every test l true
 
-module _ (test : ℕ → Bool) (s : List ℕ) (i : ℕ) (ok whole : Bool) (e : (ok && every_from test i s) ≡ whole) where
-  step : i < length s → every_from test i s ≡ (test (get_or s i 0) && every_from test (i + 1) s)
-  unfolding leads
-  step h = let n : length s - i ≡ suc (length s - (i + 1)) = omega arith in rw (n, rest s i h)
-
-  pub all_step : (r : Bool) → i < length s → r ≡ (test (get_or s i 0) && ok) → (r && every_from test (i + 1) s) ≡ whole
-  all_step r h q = rw q (swap (test (get_or s i 0)) ok (every_from test (i + 1) s) ∙ ap (λ (x : Bool). ok && x) (sym (step h)) ∙ e)
-
-  pub all_end : length s ≤ i → ok ≡ whole
-  unfolding leads
-  all_end h = let n : length s - i ≡ 0 = omega arith in sym (and-true ok) ∙ rw n at e
-
--- ---- a text from an offset on
-
-pub from_first : (test : ℕ → Bool) (from : ℕ) (t : List ℕ) → (true && every_from test from t) ≡ every test (drop from t)
-from_first test from t = rw length-drop
-
-pub digits_first : (from : ℕ) (t : List ℕ) → (true && every_from is_digit from t) ≡ is_digits (drop from t)
-unfolding is_digits
-digits_first = from_first is_digit
-
-pub zeros_first : (t : List ℕ) → (true && every_from is_zero 0 t) ≡ is_zeros t
-unfolding is_zeros
-zeros_first = all_first is_zero
-
-pub ruleset signs = (joined, told, not-true, not-false, byte_is, byte_is_not)
+  -- the text from an offset on
+  pub folded_from : (l t : List ℕ) (from : ℕ) → t ≡ drop from l → r ≡ fold (λ ok b. ok && test b) true t → r ≡ every test (drop from l)
+  folded_from l t from h e = rw (← h) (folded t e)
 
 -- ---- plain bytes are mild, and mild bytes are valid
 
@@ -98,13 +77,13 @@ mild_byte_valid b e =
     (λ h. valid_between b (omega (arith, h.0)) h.1 (λ z. omega (arith, h.0)) (λ z. omega (arith, h.0)))
     e
 
-none_from : (l : List ℕ) (n : ℕ) → every is_mild l ≡ true → first_of (λ b. not (is_valid false b)) (λ i b. i) l n ≡ none
+none_from : (l : List ℕ) (n : ℕ) → every is_mild l ≡ true → first_of (λ b. not (is_valid false b)) (λ i b. i) l n ≡ None
 unfolding first_of leads
 none_from [] n e = refl
 none_from (b ∷ l) n e = let s = and_inv _ _ e in rw (mild_byte_valid b s.0) (none_from l (suc n) s.1)
 
 -- no byte of a mild text is invalid
-pub mild_valid : (l : List ℕ) → every is_mild l ≡ true → first_invalid false l ≡ none
+pub mild_valid : (l : List ℕ) → every is_mild l ≡ true → first_invalid false l ≡ None
 unfolding first_invalid
 mild_valid l e = none_from l 0 e
 

@@ -1,31 +1,43 @@
--- `byte_chars::codes_at` meets its contract: what is left of the n characters decides as all of them do. Assumes nothing.
-use mathlib.Core.Path.{◌≡◌, sym, ◌∙◌}
-use native.Mathlib.Omega.{arith}
-use borrow.Author.Rules.{rules}
-use borrow.Author.Tests.{not-true, not-false}
-use lib.ListN.{drop}
+-- `byte_chars::codes_at` meets its contract: what is left of the text decides as the whole text does. Assumes nothing.
+use Rattle.std.proofs.Common.{arith, ◌≡◌, ◌<◌, ◌+◌, ◌-◌, ◌∙◌, sym, length, take, drop}
+use Rattle.std.proofs.lemmas.Grind.{common_steps}
 use Rattle.rules.specs.Choice.{leads}
 use Rattle.rules.specs.Chars.{is_code, codes_at}
-use Rattle.byte_chars.proofs.Laws.{leads_more, leads_other, leads_short}
+use Rattle.byte_chars.proofs.Laws.{leads_more, leads_other, leads_cut, leads_past}
 use Rattle.byte_chars.proofs.codes_at.Goals as goal
 
-pub loop-left-init : goal.loop-left-init
+pub returns-in_default : goal.returns-in_default
 unfolding codes_at
-loop-left-init c = search rules
+returns-in_default c =
+    let a = c.args in
+    let h : length (drop a.at a.s.now) < a.n = grind (arith, common_steps) in
+    leads_past is_code _ _ h
 
-pub returns-then-s-i : goal.returns-then-s-i
-returns-then-s-i c = sym (leads_short is_code _ 0 _ _ c.loop-left-test.true c.if-s-i.true) ∙ c.loop-left.invariant
+pub loop-b-init : goal.loop-b-init
+unfolding codes_at
+loop-b-init c =
+    let a = c.args in
+    let l = drop a.at a.s.now in
+    let t : c.in-Some.text.now ≡ take a.n l = grind (arith, common_steps) in
+    let z : a.n - 0 ≡ a.n = omega arith in
+    rw (t, z) (leads_cut is_code a.n l)
 
 pub returns-then-not-is_code : goal.returns-then-not-is_code
 returns-then-not-is_code c =
-    sym (leads_other is_code _ 0 _ _ c.loop-left-test.true c.if-s-i.false (sym c.is_code.ensures ∙ not-true _ c.if-not-is_code.true-raw)) ∙ c.loop-left.invariant
+    let h : length c.in-Some.text.now ≡ c.args.n = grind (arith, common_steps) in
+    sym (c.loop-b.invariant ∙ leads_other is_code _ 0 c.loop-b.b-index _ (omega arith) c.loop-b-test.true (sym c.is_code.ensures ∙ c.if-not-is_code.true))
 
-pub loop-left-preserved : goal.loop-left-preserved
-loop-left-preserved c =
-    sym (leads_more is_code _ 0 _ _ c.loop-left-test.true c.if-s-i.false (sym c.is_code.ensures ∙ not-false _ c.if-not-is_code.false-raw)) ∙ c.loop-left.invariant
+pub loop-b-preserved : goal.loop-b-preserved
+loop-b-preserved c =
+    let l = c.loop-b in
+    let n = c.args.n in
+    let h : length c.in-Some.text.now ≡ n = grind (arith, common_steps) in
+    let e : n - (l.b-index + 1) ≡ n - l.b-index - 1 = omega arith in
+    rw e (l.invariant ∙ leads_more is_code _ 0 l.b-index (n - l.b-index) (omega arith) c.loop-b-test.true (sym c.is_code.ensures ∙ c.if-not-is_code.false))
 
 pub returns : goal.returns
 unfolding leads
 returns c =
-    let z : c.loop-left.left ≡ 0 = omega arith in
-    rw z at c.loop-left.invariant
+    let h : length c.in-Some.text.now ≡ c.args.n = grind (arith, common_steps) in
+    let z : c.args.n - c.loop-b.b-index ≡ 0 = omega arith in
+    sym (rw z at c.loop-b.invariant)

@@ -1,5 +1,4 @@
 -- `byte_number::minus` meets its contract. Assumes nothing.
-use borrow.Author.Rules.{rules}
 use mir.Syntax.{w64}
 use Rattle.byte_number.proofs.Signs.{neg_stays, neg_back}
 use Rattle.byte_number.proofs.minus.Goals as goal

@@ -1,5 +1,4 @@
 -- `byte_number::plus` meets its contract. Assumes nothing.
-use borrow.Author.Rules.{rules}
 use mir.Syntax.{w64}
 use mir.ValLaws.{to_z_pos}
 use Rattle.byte_number.proofs.plus.Goals as goal

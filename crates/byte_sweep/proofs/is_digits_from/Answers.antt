@@ -1,20 +1,16 @@
--- `byte_sweep::is_digits_from` meets its contract: what was found so far and what is left decide as the whole does. Assumes nothing.
-use Prim.Native.Nat.{◌-◌}
-use mathlib.Core.Bool.{◌&&◌}
-use mathlib.Core.Path.{◌≡◌}
-use borrow.Author.Rules.{rules}
-use lib.ListN.{length, drop}
+-- `byte_sweep::is_digits_from` meets its contract. Assumes nothing.
+use Rattle.std.proofs.Common.{rules, arith, ◌≡◌, ◌-◌, length, take, drop}
+use Rattle.std.proofs.lemmas.Grind.{common_steps}
 use Rattle.rules.specs.Chars.{is_digit}
 use Rattle.rules.specs.Listed.{is_digits}
-use Rattle.byte_sweep.specs.Plain.{every_from}
-use Rattle.byte_sweep.proofs.Laws.{digits_first, all_step, all_end}
+use Rattle.byte_sweep.proofs.Laws.{folded_from}
 use Rattle.byte_sweep.proofs.is_digits_from.Goals as goal
 
-pub loop-i-init : goal.loop-i-init
-loop-i-init c = digits_first c.args.from c.args.text.now
-
-pub loop-i-preserved : goal.loop-i-preserved
-loop-i-preserved c = search (all_step, rules)
-
 pub returns : goal.returns
-returns c = search (all_end, rules)
+unfolding is_digits
+returns c =
+    let s = c.args.text.now in
+    let m = c.min.result in
+    let t = take (length s - m) (drop m s) in
+    let e : t ≡ drop c.args.from s = grind (arith, common_steps) in
+    folded_from is_digit _ s t c.args.from e (search rules)

@@ -1,19 +1,10 @@
--- `byte_sweep::is_zeros` meets its contract: what was found so far and what is left decide as the whole does. Assumes nothing.
-use Prim.Native.Nat.{◌-◌}
-use mathlib.Core.Bool.{◌&&◌}
-use mathlib.Core.Path.{◌≡◌}
-use borrow.Author.Rules.{rules}
-use lib.ListN.{length}
+-- `byte_sweep::is_zeros` meets its contract. Assumes nothing.
+use Rattle.std.proofs.Common.{rules}
 use Rattle.rules.specs.Listed.{is_zeros}
-use Rattle.byte_sweep.specs.Plain.{is_zero, every_from}
-use Rattle.byte_sweep.proofs.Laws.{zeros_first, all_step, all_end}
+use Rattle.byte_sweep.specs.Plain.{is_zero}
+use Rattle.byte_sweep.proofs.Laws.{folded}
 use Rattle.byte_sweep.proofs.is_zeros.Goals as goal
 
-pub loop-i-init : goal.loop-i-init
-loop-i-init c = zeros_first c.args.text.now
-
-pub loop-i-preserved : goal.loop-i-preserved
-loop-i-preserved c = search (all_step, rules)
-
 pub returns : goal.returns
-returns c = search (all_end, rules)
+unfolding is_zeros
+returns c = folded is_zero _ c.args.text.now (search rules)
