@@ -4,7 +4,7 @@
 ghost use Rattle.std.specs.Prelude.{◌≤◌, ◌≡◌, pos, neg_ℤ};
 ghost use Rattle.rules.specs.Promises.{AltitudeAt};
 
-use rules::{Altitude, Height, Number};
+use rules::Height;
 
 // v metres up.
 fn above(v: u64) -> Height
@@ -24,22 +24,19 @@ fn below(v: u64) -> Height
     }
 }
 
-// Five digits, or a minus and four digits that are not all zero, at a place of s. NoAltitude where the field breaks its rule or s ends before.
-pub fn altitude_at(s: &[u8], at: usize) -> Altitude
+// Five digits, or a minus and four digits that are not all zero, at a place of s. None where the field breaks its rule or s ends before.
+#[tactic(auto, using(rules::proofs::Links::fields, byte_number::proofs::Laws::reads), unfolding(rules::specs::Fields::altitude_at))]
+pub fn altitude_at(s: &[u8], at: usize) -> Option<Height>
     ensures { AltitudeAt s.now at result }
 {
     let b = byte_chars::byte(s, at);
     if b == b'-' {
-        let Number::Value(v) = byte_digits::four(s, at + 1) else {
-            return Altitude::NoAltitude;
-        };
+        let v = byte_digits::four(s, at + 1)?;
         if v < 1 {
-            return Altitude::NoAltitude;
+            return None;
         }
-        return Altitude::Metres(below(v));
+        return Some(below(v));
     }
-    let Number::Value(v) = byte_digits::five(s, at) else {
-        return Altitude::NoAltitude;
-    };
-    Altitude::Metres(above(v))
+    let v = byte_digits::five(s, at)?;
+    Some(above(v))
 }

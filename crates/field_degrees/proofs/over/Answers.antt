@@ -3,7 +3,6 @@ use Prim.Native.Nat.{ℕ, ◌*◌}
 use mathlib.Core.Bool.{false}
 use mathlib.Core.Path.{ap, ◌∙◌}
 use native.Mathlib.Omega.{arith}
-use borrow.Author.Rules.{rules}
 use lib.Ieee.{binary64, round}
 use Rattle.rules.specs.Degrees.{quotient}
 use Rattle.byte_tens.proofs.Laws.{power_all, power_least, power_most}

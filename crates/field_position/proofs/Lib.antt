@@ -1,2 +1,0 @@
--- The law that the proof of a position uses.
-pub mod Laws
