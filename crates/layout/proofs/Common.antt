@@ -1,8 +1,8 @@
 -- Two lists of distinct numbers: as many of the one stand in the other as of the other in the one. Assumes nothing.
+use Rattle.std.specs.Prelude.{Some}
 use Prim.Native.Nat.{ℕ, suc, ◌+◌}
 use mathlib.Core.Bool.{Bool, true, false, not, ◌&&◌, ◌||◌, cond, false≢true, or-false, or_assoc}
 use mathlib.Core.List.{List, [], ◌∷◌, ◌++◌, map}
-use mathlib.Core.Option.{some}
 use mathlib.Core.Path.{◌≡◌, refl, sym, ◌∙◌, ap}
 use native.Mathlib.Omega.{arith}
 use borrow.Author.Tests.{eqb-true, eqb-false, eq-eqb, ne_eqb}
@@ -71,6 +71,6 @@ module _ {A B : Type 0} (code : A → ℕ) (found : ℕ → A → B) (x : ℕ) w
   scan_member (a ∷ xs) k = go (eqb (code a) x) (scan_member xs (suc k))
     where
       go : (b : Bool) → given (first_of (λ a. eqb (code a) x) found xs (suc k)) false (λ b. true) ≡ member x (map code xs)
-          → given (cond b (some (found k a)) (first_of (λ a. eqb (code a) x) found xs (suc k))) false (λ b. true) ≡ (b || member x (map code xs))
+          → given (cond b (Some (found k a)) (first_of (λ a. eqb (code a) x) found xs (suc k))) false (λ b. true) ≡ (b || member x (map code xs))
       go true ih = refl
       go false ih = ih

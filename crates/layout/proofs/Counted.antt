@@ -1,9 +1,9 @@
 -- "the count is its ones, equal to the listed entries in the layout": in an allowed layout no code comes twice, so the presence word has as many ones as the
 -- layout has entries of a listed code. Assumes nothing.
+use Rattle.std.specs.Prelude.{None, Option, Some}
 use Prim.Native.Nat.{ℕ, ◌+◌, ◌-◌, ◌≤◌, ◌<◌}
 use mathlib.Core.Bool.{Bool, true, false, not, ◌&&◌, cond, false≢true}
 use mathlib.Core.List.{List, [], ◌∷◌, ◌++◌, map, append-nil, append_assoc}
-use mathlib.Core.Option.{Option, none, some}
 use mathlib.Core.Path.{◌≡◌, refl, sym, ◌∙◌, ap}
 use native.Mathlib.Numerals.{add-one}
 use native.Mathlib.Omega.{arith}
@@ -36,8 +36,8 @@ unfolding carries look
 carries_member l x = scan_member (λ e. e.code) (λ k e. span_of e) x (entries_of l) 0
 
 one : (o : Option ℕ) → ◌≡◌ {A = ℕ} (given o 0 (λ n. 1)) (cond (given o false (λ n. true)) 1 0)
-one (some n) = refl
-one none = refl
+one (Some n) = refl
+one None = refl
 
 listed_member : (x : ℕ) → ◌≡◌ {A = ℕ} (given (listed_number x) 0 (λ n. 1)) (cond (member x (row_codes listed)) 1 0)
 unfolding listed_number

@@ -2,11 +2,8 @@
 use Rattle.rules.specs.declared.Refusal.{Refusal}
 use Rattle.rules.specs.declared.Layout.{Layout}
 use Rattle.rules.specs.declared.Family.{Family}
-use Rattle.rules_only.proofs.Only.{Only, same, layout_only}
-use Rattle.layout.specs.Parts.{LayoutRefused, LineLength}
-
-pub only_layout_refused : (why : Refusal) → Only (LayoutRefused why)
-only_layout_refused why = layout_only
+use Rattle.rules_only.proofs.Only.{Only, same}
+use Rattle.layout.specs.Parts.{LineLength}
 
 pub only_line_length : (f : Family) (l : Layout) → Only (LineLength f l)
 only_line_length f l = same

@@ -1,18 +1,18 @@
 -- One turn of a loop over the entries of a layout or of a line: the entry at the place i decides, or those behind it do. Assumes nothing.
+use Rattle.rules.specs.declared.Refusal.{Refusal}
+use Rattle.std.specs.Prelude.{Ok, Result}
 use Prim.Native.Nat.{ℕ, suc, ◌+◌, ◌-◌, ◌≤◌, ◌<◌}
 use mathlib.Core.Bool.{true, false, ◌&&◌}
 use mathlib.Core.List.{List}
-use mathlib.Core.Path.{◌≡◌, refl}
+use mathlib.Core.Path.{◌≡◌, refl, sym}
 use native.Mathlib.Numerals.{add-one}
 use native.Mathlib.Omega.{arith}
 use lib.ListN.{length, get_or, drop, drop_of_length-le, length-take}
 use lib.Seq.{drop-cons}
-use Rattle.rules.specs.Refusals.{Said, says, refuses, outcome_told}
+use Rattle.rules.specs.Refusals.{Said, says, refuses, result_told}
 use Rattle.rules.specs.Layouts.{unused, entries_of, with_entry, placed, entry_at, entries_from, is_spelt, is_said, all_placed, LayoutTold}
 use Rattle.rules.specs.declared.Entry.{Entry}
 use Rattle.rules.specs.declared.Layout.{Layout}
-use Rattle.rules.specs.declared.LayoutRead.{LayoutRead}
-use Rattle.rules.specs.declared.Outcome.TheVariants.{Accepted}
 use Rattle.layout_coded.proofs.Turns.{there, same}
 
 -- ---- each entry placed behind those before it
@@ -54,10 +54,9 @@ module _ (count i : ℕ) (l : List ℕ) (at start : ℕ) (before : Layout) where
   unfolding entries_from
   done h = rw (none_left h)
 
--- what is beside an answer
-pub told_same : (s t : Said Layout) (r : LayoutRead) → s ≡ t → LayoutTold s r → LayoutTold t r
+pub told_same : (s t : Said Layout) (r : Result Layout Refusal) → s ≡ t → LayoutTold s r → LayoutTold t r
 told_same s t r e h = rw (← e) h
 
-pub told_read : (s : Said Layout) (l : Layout) → s ≡ says l → LayoutTold s (record { outcome = Accepted; layout = l })
-unfolding outcome_told
-told_read s l e = rw e (record { answer = refl; layout = refl })
+pub told_read : (s : Said Layout) (l : Layout) → s ≡ says l → LayoutTold s (Ok l)
+unfolding result_told
+told_read s l e = sym e

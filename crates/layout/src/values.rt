@@ -8,48 +8,36 @@ ghost use Rattle.layout.specs.Parts.{EntryTest, LineLength};
 
 use layout_coded::carries;
 use layout_codes::listed_at;
-use layout_entry::{EntryRead, empty_layout, placed};
+use layout_entry::{empty_layout, placed};
 use layout_family::first_start;
-use rules::{Entry, Family, Layout, LengthRead, Presence, PresenceRead, Reason, Refusal};
+use rules::{Entry, Family, Layout, Presence, Reason, Refusal};
 
 // Whether three code characters make this number.
+#[tactic(auto, using(crate::proofs::Laws::not_code), unfolding(rules::specs::Listed::is_code_word))]
 fn is_code_word(code: u32) -> bool
     ensures { result ≡ is_code_word code }
 {
     let a = code / 65536;
-    if 255 < a {
-        return false;
-    }
-    if !byte_chars::is_code(a as u8) {
-        return false;
-    }
-    if !byte_chars::is_code((code / 256 % 256) as u8) {
-        return false;
-    }
-    byte_chars::is_code((code % 256) as u8)
+    a <= 255
+        && byte_chars::is_code(a as u8)
+        && byte_chars::is_code((code / 256 % 256) as u8)
+        && byte_chars::is_code((code % 256) as u8)
 }
 
 // Whether two digits each and three code characters can spell the entry.
+#[tactic(auto, unfolding(rules::specs::Layouts::is_spelt))]
 fn is_spelt(e: Entry) -> bool
     ensures { result ≡ is_spelt e }
 {
-    if 99 < e.last {
-        return false;
-    }
-    is_code_word(e.code)
+    e.last <= 99 && is_code_word(e.code)
 }
 
 // Whether a line can tell the entry at `start`, behind those of a layout.
+#[tactic(auto, using(crate::proofs::Laws::said_ok))]
 fn follows(start: usize, before: Layout, e: Entry) -> bool
     ensures { EntryTest start before e result }
 {
-    if !is_spelt(e) {
-        return false;
-    }
-    let EntryRead::Is(_) = placed(start, before, e, 0) else {
-        return false;
-    };
-    true
+    is_spelt(e) && placed(start, before, e, 0).is_ok()
 }
 
 // One entry more, behind those that are there.
@@ -69,33 +57,25 @@ fn all_placed(l: Layout, origin: usize) -> bool
     requires { l.count ≤ 13 }
     ensures { result ≡ all_placed (entries_of l) origin empty_layout }
 {
-    let n = l.count;
     let mut before = empty_layout();
     let mut start = origin;
-    let mut i = 0;
-    while i < n {
+    for i in 0..l.count {
         let e = l.entries[i];
         if !follows(start, before, e) {
             return false;
         }
         before = with_entry(before, e);
         start = e.last as usize + 1;
-        i += 1;
     }
     true
 }
 
 // Whether an entry is all zero.
+#[tactic(auto, unfolding(rules::specs::Layouts::is_unused))]
 fn is_unused(e: Entry) -> bool
     ensures { result ≡ is_unused e }
 {
-    if e.first != 0 {
-        return false;
-    }
-    if e.last != 0 {
-        return false;
-    }
-    e.code == 0
+    e.first == 0 && e.last == 0 && e.code == 0
 }
 
 // Whether the entries behind those that count are all zero.
@@ -103,28 +83,20 @@ fn rest_unused(l: Layout) -> bool
     requires { l.count ≤ 13 }
     ensures { result ≡ leads is_unused (13 - l.count) (drop l.count l.entries) }
 {
-    let mut i = l.count;
-    while i < 13 {
-        let e = l.entries[i];
-        if !is_unused(e) {
+    for i in l.count..13 {
+        if !is_unused(l.entries[i]) {
             return false;
         }
-        i += 1;
     }
     true
 }
 
 // Whether a layout is allowed for a family: some line of 7 to 12 tells it.
+#[tactic(auto, unfolding(rules::specs::Layouts::allowed))]
 pub fn allowed(family: Family, l: Layout) -> bool
     ensures { AllowedTest family l result }
 {
-    if 13 < l.count {
-        return false;
-    }
-    if !all_placed(l, first_start(family)) {
-        return false;
-    }
-    rest_unused(l)
+    l.count <= 13 && all_placed(l, first_start(family)) && rest_unused(l)
 }
 
 // How many bytes a line of the family has by a layout, allowed or not: up to the last column's last byte, or where there is none, 35 for B and 7 for K.
@@ -145,17 +117,17 @@ pub fn line_length(family: Family, l: Layout) -> u8
 }
 
 // How many bytes a line of the family has by a layout. 17 where the layout is not allowed.
-pub fn length(family: Family, l: Layout) -> LengthRead
+pub fn length(family: Family, l: Layout) -> Result<usize, Refusal>
     ensures { LengthGiven family l result }
 {
     if !allowed(family, l) {
-        return LengthRead::Refused(Refusal {
+        return Err(Refusal {
             reason: Reason::BadValue,
             line: 0,
             byte: 0,
         });
     }
-    LengthRead::Bytes(line_length(family, l) as usize)
+    Ok(line_length(family, l) as usize)
 }
 
 // 1 where the layout carries the listed code of the number n, else 0.
@@ -171,27 +143,25 @@ fn word(l: Layout) -> u32
     ensures { result ≡ word_from l listed 0 }
 {
     let mut word: u32 = 0;
-    let mut n: usize = 15;
-    while 0 < n {
-        n -= 1;
+    for n in (0..15).rev() {
         word = word * 2 + bit_of(l, n);
     }
     word
 }
 
 // Which listed codes the layout of an I line carries, and how many. 17 where the layout is not allowed for B lines.
-pub fn presence(l: Layout) -> PresenceRead
+pub fn presence(l: Layout) -> Result<Presence, Refusal>
     ensures { PresenceGiven l result }
 {
     if !allowed(Family::B, l) {
-        return PresenceRead::Refused(Refusal {
+        return Err(Refusal {
             reason: Reason::BadValue,
             line: 0,
             byte: 0,
         });
     }
     let word = word(l);
-    PresenceRead::Carries(Presence {
+    Ok(Presence {
         word,
         count: u32::count_ones(word),
     })

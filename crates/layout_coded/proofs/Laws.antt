@@ -1,19 +1,9 @@
--- Links: where a code's column was told to stand, to the way on of the definition. Assumes nothing.
-use Prim.Native.Nat.{ℕ}
-use mathlib.Core.Option.{Option}
+-- Whether a look-up finds something, in the words of the library and of the definitions. Assumes nothing.
+use Rattle.std.specs.Prelude.{None, Option, Some, Bool, true, false}
+use Rattle.std.specs.Option.{is_some}
 use mathlib.Core.Path.{◌≡◌}
 use Rattle.rules.specs.Choice.{given}
-use Rattle.rules.specs.Layouts.{Span}
-use Rattle.layout_coded.specs.Spots.{spot_told}
-use Rattle.layout_coded.specs.declared.Spot.{Spot}
-use Rattle.layout_coded.specs.declared.Spot.TheVariants as spot
 
-pub spot_at : {B : Type 0} (n : Option Span) (r : Spot) (a e : ℕ) (x b : B) (f : Span → B) → spot_told r ≡ n → r ≡ spot.At a e → x ≡ f (record { first = a; last = e }) → x ≡ given n b f
-unfolding spot_told
-spot_at n r a e x b f h g k = rw (← h, g) k
-
-pub spot_nowhere : {B : Type 0} (n : Option Span) (r : Spot) (x b : B) (f : Span → B) → spot_told r ≡ n → r ≡ spot.Nowhere → x ≡ b → x ≡ given n b f
-unfolding spot_told
-spot_nowhere n r x b f h g k = rw (← h, g) k
-
-pub ruleset links = (spot_at, spot_nowhere)
+pub is_there : {A : Type 0} (n r : Option A) (t : Bool) → r ≡ n → t ≡ is_some r → t ≡ given n false (λ s. true)
+is_there (Some v) r t h g = rw (g, h)
+is_there None r t h g = rw (g, h)

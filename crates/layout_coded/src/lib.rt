@@ -3,40 +3,29 @@
 
 ghost use Rattle.layout_coded.specs.Spots.{SpotFound, CarriesTest};
 
-use rules::Layout;
-
-// Where the column of a code stands: its first and its last byte, counted from 1.
-#[derive(Clone, Copy)]
-pub enum Spot {
-    At(u8, u8),
-    Nowhere,
-}
+use rules::{Layout, Span};
 
 // Where the column of a code stands. Nowhere, where no entry has the code.
-pub fn look(l: Layout, code: u32) -> Spot
+pub fn look(l: Layout, code: u32) -> Option<Span>
     ensures { SpotFound l code result }
 {
-    let n = l.count;
-    let mut i = 0;
-    while i < 13 {
-        if n <= i {
-            return Spot::Nowhere;
+    for (i, e) in l.entries.iter().enumerate() {
+        if l.count <= i {
+            return None;
         }
-        let e = l.entries[i];
         if e.code == code {
-            return Spot::At(e.first, e.last);
+            return Some(Span {
+                first: e.first,
+                last: e.last,
+            });
         }
-        i += 1;
     }
-    Spot::Nowhere
+    None
 }
 
 // Whether an entry has the code.
 pub fn carries(l: Layout, code: u32) -> bool
     ensures { CarriesTest l code result }
 {
-    let Spot::At(_, _) = look(l, code) else {
-        return false;
-    };
-    true
+    look(l, code).is_some()
 }

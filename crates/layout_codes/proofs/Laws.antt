@@ -9,7 +9,7 @@ use lib.ListN.{get_or}
 use Rattle.rules.specs.Listed.{listed, unlisted, keeps_sign, lad, lod, is_zeros, is_past}
 use Rattle.rules.specs.declared.AtLimit.{AtLimit}
 use Rattle.rules.specs.declared.Listed.{Listed}
-use Rattle.rules.proofs.Links.{found_at, found_nothing}
+use Rattle.rules.proofs.Links.{given_some, given_none}
 use Rattle.byte_chars.proofs.Laws.{joined, told}
 use Rattle.layout_codes.specs.Parts.{is_topped}
 
@@ -21,7 +21,7 @@ module _ (n : ℕ) (row : Listed) (x : Bool) (e : row ≡ get_or listed n unlist
   pub row_sign : (t : List ℕ) → x ≡ keeps_sign row.sign t → x ≡ keeps_sign (get_or listed n unlisted).sign t
   row_sign t h = rw (← e) h
 
-pub ruleset rows = (joined, told, not-true, not-false, found_at, found_nothing, row_width, row_sign)
+pub ruleset rows = (joined, told, not-true, not-false, given_some, given_none, row_width, row_sign)
 
 -- ---- digits past a limit
 

@@ -2,15 +2,14 @@
 use Prim.Native.Nat.{ℕ}
 use mathlib.Core.List.{List}
 use Rattle.rules.specs.declared.AtLimit.{AtLimit}
-use Rattle.rules_only.proofs.Only.{Only, same, alike}
-use Rattle.rules_only.proofs.Told.{found_one}
+use Rattle.rules_only.proofs.Only.{Only, same}
 use Rattle.layout_codes.specs.Parts.{CodePacked, ListedFound, WidthTest, LimitTest}
 
 pub only_code_packed : (a b c : ℕ) → Only (CodePacked a b c)
 only_code_packed a b c = same
 
 pub only_listed_found : (x : ℕ) → Only (ListedFound x)
-only_listed_found x = alike found_one
+only_listed_found x = same
 
 pub only_width_test : (x width : ℕ) → Only (WidthTest x width)
 only_width_test x width = same

@@ -1,9 +1,7 @@
 -- What a row of the table says, and the promises on codes that the rules do not name.
-use Rattle.std.specs.Prelude.{ℕ, Bool, ◌&&◌, ◌||◌, List, ◌≡◌, eqb}
+use Rattle.std.specs.Prelude.{ℕ, Bool, ◌&&◌, ◌||◌, List, ◌≡◌, eqb, Option}
 use Rattle.rules.specs.Listed.{packed, packed_of, listed_number, width_fits, lad, lod, keeps_limit}
-use Rattle.rules.specs.Promises.{found_told}
 use Rattle.rules.specs.declared.AtLimit.{AtLimit}
-use Rattle.rules.specs.declared.Found.{Found}
 use Rattle.rules.specs.declared.Listed.{Listed}
 use Rattle.layout_codes.specs.declared.Row.{Row}
 
@@ -16,8 +14,8 @@ abbrev pub CodePacked : ℕ → ℕ → ℕ → ℕ → Type 0
 CodePacked a b c r = r ≡ packed a b c
 
 -- a listed code's number
-abbrev pub ListedFound : ℕ → Found → Type 0
-ListedFound x r = found_told r ≡ listed_number x
+abbrev pub ListedFound : ℕ → Option ℕ → Type 0
+ListedFound x r = r ≡ listed_number x
 
 -- whether a column of a code may have a width
 abbrev pub WidthTest : ℕ → ℕ → Bool → Type 0

@@ -1,12 +1,12 @@
 // The listed codes: their table, and what it says of a column's width and text.
 #![tactic(auto)]
 
-ghost use Rattle.std.specs.Prelude.{◌&&◌, ◌≡◌, eqb};
+ghost use Rattle.std.specs.Prelude.{◌≡◌};
 ghost use Rattle.rules.specs.Listed.{is_past};
 ghost use Rattle.rules.specs.Promises.{ListedAt, ColumnTest};
 ghost use Rattle.layout_codes.specs.Parts.{in_row, is_topped, CodePacked, ListedFound, WidthTest, LimitTest};
 
-use rules::{AtLimit, Found, Listed};
+use rules::{AtLimit, Listed};
 
 // A row of the table: code, least width, most width, and whether a minus may come first.
 #[derive(Clone, Copy)]
@@ -68,27 +68,24 @@ pub fn listed_at(n: usize) -> Listed
 }
 
 // A code's number in the table; Nothing where it is not listed.
-pub fn listed_number(code: u32) -> Found
+pub fn listed_number(code: u32) -> Option<usize>
     ensures { ListedFound code result }
 {
     let table = TABLE;
-    let mut i = 0;
-    while i < 15 {
-        let row = table[i];
-        let listed = listed_in(row);
+    for (i, row) in table.iter().enumerate() {
+        let listed = listed_in(*row);
         if listed.code == code {
-            return Found::At(i);
+            return Some(i);
         }
-        i += 1;
     }
-    Found::Nothing
+    None
 }
 
 // Whether a column of this code may have this width.
 pub fn width_fits(code: u32, width: usize) -> bool
     ensures { WidthTest code width result }
 {
-    let Found::At(n) = listed_number(code) else {
+    let Some(n) = listed_number(code) else {
         return true;
     };
     let row = listed_at(n);
@@ -99,49 +96,33 @@ pub fn width_fits(code: u32, width: usize) -> bool
 pub fn keeps_rule(code: u32, text: &[u8]) -> bool
     ensures { ColumnTest code text.now result }
 {
-    let Found::At(n) = listed_number(code) else {
+    let Some(n) = listed_number(code) else {
         return true;
     };
     let row = listed_at(n);
     byte_sweep::keeps_sign(row.sign, text)
 }
 
-// Whether a coordinate stands at its limit, and a code is the one whose column makes it finer.
-fn tops(at: bool, code: u32, finer: u32) -> bool
-    ensures { result ≡ (at && eqb code finer) }
-{
-    if !at {
-        return false;
-    }
-    code == finer
-}
-
 // Whether a column of this code makes a coordinate finer that stands at its limit.
+#[tactic(auto, unfolding(rules::specs::Choice::bytes))]
 fn is_topped(at: AtLimit, code: u32) -> bool
     ensures { result ≡ is_topped at code }
 {
-    if tops(at.lat, code, pack(b'L', b'A', b'D')) {
-        return true;
-    }
-    tops(at.lon, code, pack(b'L', b'O', b'D'))
+    (at.lat && code == pack(b'L', b'A', b'D')) || (at.lon && code == pack(b'L', b'O', b'D'))
 }
 
 // Whether the digits of a column take a coordinate past its limit.
+#[tactic(auto, using(crate::proofs::Laws::past_by))]
 fn is_past(at: AtLimit, code: u32, text: &[u8]) -> bool
     ensures { result ≡ is_past at code text.now }
 {
-    if !is_topped(at, code) {
-        return false;
-    }
-    !byte_sweep::is_zeros(text)
+    is_topped(at, code) && !byte_sweep::is_zeros(text)
 }
 
 // Whether the text of a column keeps the rule of its code in a line that has these coordinates at their limits: there LAD or LOD are zeros.
+#[tactic(auto, unfolding(rules::specs::Listed::keeps_limit))]
 pub fn keeps_limit(at: AtLimit, code: u32, text: &[u8]) -> bool
     ensures { LimitTest at code text.now result }
 {
-    if is_past(at, code, text) {
-        return false;
-    }
-    keeps_rule(code, text)
+    !is_past(at, code, text) && keeps_rule(code, text)
 }

@@ -8,34 +8,21 @@ ghost use Rattle.rules.specs.Listed.{keeps_limit};
 ghost use Rattle.rules.specs.Promises.{ColumnsChecked};
 ghost use Rattle.layout_column.specs.Parts.{TextOf};
 
-use rules::{AtLimit, Entry, Layout, Outcome, Reason, Refusal};
+use rules::{AtLimit, Entry, Layout, Reason, Refusal};
 
 // How many bytes stand before a byte of a line.
 fn before(first: u8) -> usize
     ensures { result ≡ byte first }
 {
-    if first == 0 {
-        return 0;
-    }
-    (first as usize) - 1
+    (first as usize).saturating_sub(1)
 }
 
 // The bytes first to last of a line, counted from 1, as far as the line has them.
 pub fn text_of(line: &[u8], first: u8, last: u8) -> &[u8]
     ensures { TextOf line.now first last result.now }
 {
-    let a = before(first);
-    let e = last as usize;
-    if e <= a {
-        return &line[0..0];
-    }
-    if line.len() <= a {
-        return &line[0..0];
-    }
-    if line.len() < e {
-        return &line[a..];
-    }
-    &line[a..e]
+    let end = line.len().min(last as usize);
+    line.get(before(first)..end).unwrap_or(&[])
 }
 
 // Whether a column of a line, which has these coordinates at their limits, keeps the rule of its code.
@@ -46,24 +33,20 @@ fn keeps(line: &[u8], e: Entry, at: AtLimit) -> bool
 }
 
 // COLUMN at the first byte of the first listed column that breaks its rule, in a line that has these coordinates at their limits.
-pub fn columns(line: &[u8], layout: Layout, at: AtLimit) -> Outcome
+pub fn columns(line: &[u8], layout: Layout, at: AtLimit) -> Result<(), Refusal>
     ensures { ColumnsChecked at line.now layout result }
 {
-    let n = layout.count;
-    let mut i = 0;
-    while i < 13 {
-        if n <= i {
-            return Outcome::Accepted;
+    for (i, e) in layout.entries.iter().enumerate() {
+        if layout.count <= i {
+            return Ok(());
         }
-        let e = layout.entries[i];
-        if !keeps(line, e, at) {
-            return Outcome::Refused(Refusal {
+        if !keeps(line, *e, at) {
+            return Err(Refusal {
                 reason: Reason::Column,
                 line: 0,
                 byte: e.first as u32,
             });
         }
-        i += 1;
     }
-    Outcome::Accepted
+    Ok(())
 }

@@ -1,8 +1,8 @@
 -- Of the entries before it only the codes decide on an entry. Assumes nothing.
+use Rattle.std.specs.Prelude.{None, Option, Some}
 use Prim.Native.Nat.{ℕ, zero, suc, ◌+◌}
 use mathlib.Core.Bool.{Bool, true, false, cond}
 use mathlib.Core.List.{List, [], ◌∷◌, map}
-use mathlib.Core.Option.{Option, none, some}
 use mathlib.Core.Path.{◌≡◌, refl, ◌∙◌, ap}
 use lib.Dec.{eqb}
 use lib.ListN.{take, set}
@@ -27,8 +27,8 @@ module _ (x : ℕ) where
       go : (t : Bool)
           → given (first_of (λ (y : ℕ). eqb y x) (λ (k : ℕ) (y : ℕ). k) (take n codes) (suc k)) false (λ k. true)
           ≡ given (first_of (λ (e : Entry). eqb e.code x) (λ (k : ℕ) (e : Entry). span_of e) (take n (coded_by codes n).entries) (suc k)) false (λ s. true)
-          → given (cond t (some k) (first_of (λ (y : ℕ). eqb y x) (λ (k : ℕ) (y : ℕ). k) (take n codes) (suc k))) false (λ k. true)
-          ≡ given (cond t (some (record { first = 0; last = 0 })) (first_of (λ (e : Entry). eqb e.code x) (λ (k : ℕ) (e : Entry). span_of e) (take n (coded_by codes n).entries) (suc k))) false (λ s. true)
+          → given (cond t (Some k) (first_of (λ (y : ℕ). eqb y x) (λ (k : ℕ) (y : ℕ). k) (take n codes) (suc k))) false (λ k. true)
+          ≡ given (cond t (Some (record { first = 0; last = 0 })) (first_of (λ (e : Entry). eqb e.code x) (λ (k : ℕ) (e : Entry). span_of e) (take n (coded_by codes n).entries) (suc k))) false (λ s. true)
       go true r = refl
       go false r = r
 
@@ -43,8 +43,8 @@ module _ (x : ℕ) where
       go : (t : Bool)
           → given (first_of (λ (e : Entry). eqb e.code x) (λ (k : ℕ) (e : Entry). span_of e) (take n es) (suc k)) false (λ s. true)
           ≡ given (first_of (λ (y : ℕ). eqb y x) (λ (k : ℕ) (y : ℕ). k) (take n (map (λ (e : Entry). e.code) es)) (suc k)) false (λ k. true)
-          → given (cond t (some (span_of e)) (first_of (λ (e : Entry). eqb e.code x) (λ (k : ℕ) (e : Entry). span_of e) (take n es) (suc k))) false (λ s. true)
-          ≡ given (cond t (some k) (first_of (λ (y : ℕ). eqb y x) (λ (k : ℕ) (y : ℕ). k) (take n (map (λ (e : Entry). e.code) es)) (suc k))) false (λ k. true)
+          → given (cond t (Some (span_of e)) (first_of (λ (e : Entry). eqb e.code x) (λ (k : ℕ) (e : Entry). span_of e) (take n es) (suc k))) false (λ s. true)
+          ≡ given (cond t (Some k) (first_of (λ (y : ℕ). eqb y x) (λ (k : ℕ) (y : ℕ). k) (take n (map (λ (e : Entry). e.code) es)) (suc k))) false (λ k. true)
       go true r = refl
       go false r = r
 
@@ -65,8 +65,8 @@ module _ (es : List Entry) (n : ℕ) where
   carries_alike x = coded x es n 0 ∙ among x (map (λ (e : Entry). e.code) es) n 0
 
   given_alike : {A B : Type 0} (o : Option A) (a : B) (f g : A → B) → ((v : A) → f v ≡ g v) → given o a f ≡ given o a g
-  given_alike none a f g h = refl
-  given_alike (some v) a f g h = h v
+  given_alike None a f g h = refl
+  given_alike (Some v) a f g h = h v
 
   placed_alike : (start : ℕ) (e : Entry) (first : ℕ) → placed start these e first ≡ placed start alike e first
   unfolding placed

@@ -2,52 +2,44 @@
 #![tactic(auto)]
 
 ghost use Rattle.std.specs.Prelude.{◌≤◌, ◌≡◌};
-ghost use Rattle.rules.specs.Refusals.{no};
-ghost use Rattle.layout_entry.specs.Parts.{is_among, coded_by, EntryPlaced, PlacedBehind, CodeGiven, EntryGiven, entry_told};
+ghost use Rattle.layout_entry.specs.Parts.{refusal_at, is_among, coded_by, EntryPlaced, PlacedBehind, CodeGiven, EntryGiven};
 
-use rules::{Entry, Layout, Number, Reason, Refusal};
+use rules::{Entry, Layout, Reason, Refusal};
 pub use rules_values::empty_layout;
 
-// An entry that keeps the rules.
-#[derive(Clone, Copy)]
-pub enum EntryRead {
-    Is(Entry),
-    Refused(Refusal),
-}
-
-// No entry: a refusal of the line in hand, at a byte of it.
-fn refuse(reason: Reason, byte: u32) -> EntryRead
-    ensures { entry_told result ≡ no reason byte }
+// A refusal of the line in hand, at a byte of it.
+fn refusal_at(reason: Reason, byte: u32) -> Refusal
+    ensures { result ≡ refusal_at reason byte }
 {
-    EntryRead::Refused(Refusal {
+    Refusal {
         reason,
         line: 0,
         byte,
-    })
+    }
 }
 
 // An entry that has to start at `start`, behind others, of which it is known whether one has its code; refusals at the byte `first`.
-fn behind(start: usize, again: bool, e: Entry, first: u32) -> EntryRead
+fn behind(start: usize, again: bool, e: Entry, first: u32) -> Result<Entry, Refusal>
     ensures { PlacedBehind start again e first result }
 {
     if e.first as usize != start {
-        return refuse(Reason::Tile, first);
+        return Err(refusal_at(Reason::Tile, first));
     }
     if e.last < e.first {
-        return refuse(Reason::Tile, first);
+        return Err(refusal_at(Reason::Tile, first));
     }
     if again {
-        return refuse(Reason::Twice, first);
+        return Err(refusal_at(Reason::Twice, first));
     }
     if !layout_codes::width_fits(e.code, (e.last - e.first) as usize + 1) {
-        return refuse(Reason::Width, first);
+        return Err(refusal_at(Reason::Width, first));
     }
-    EntryRead::Is(e)
+    Ok(e)
 }
 
 // An entry that has to start at `start`, behind those of a layout, refusals at the byte `first`: 10 where it does not start there or ends before it starts,
 // 11 where its code was there before, 12 where its code is listed and its width is wrong.
-pub fn placed(start: usize, before: Layout, e: Entry, first: u32) -> EntryRead
+pub fn placed(start: usize, before: Layout, e: Entry, first: u32) -> Result<Entry, Refusal>
     ensures { EntryPlaced start before e first result }
 {
     behind(start, layout_coded::carries(before, e.code), e, first)
@@ -57,35 +49,26 @@ pub fn placed(start: usize, before: Layout, e: Entry, first: u32) -> EntryRead
 fn is_among(codes: &[u32], n: usize, code: u32) -> bool
     ensures { result ≡ is_among codes.now n code }
 {
-    let mut i = 0;
-    while i < codes.len() {
+    for (i, c) in codes.iter().enumerate() {
         if n <= i {
             return false;
         }
-        if codes[i] == code {
+        if *c == code {
             return true;
         }
-        i += 1;
     }
     false
 }
 
-// A code's three characters as one number.
-#[derive(Clone, Copy)]
-pub enum Letters {
-    Code(u32),
-    NoCode,
-}
-
-// The code at a place of a line. NoCode where not three code characters stand there.
-fn code_at(line: &[u8], at: usize) -> Letters
+// The code at a place of a line; none where not three code characters stand there.
+fn code_at(line: &[u8], at: usize) -> Option<u32>
     requires { at ≤ 2000 }
     ensures { CodeGiven line.now at result }
 {
     if !byte_chars::codes_at(line, at, 3) {
-        return Letters::NoCode;
+        return None;
     }
-    Letters::Code(layout_codes::pack(
+    Some(layout_codes::pack(
         byte_chars::byte(line, at),
         byte_chars::byte(line, at + 1),
         byte_chars::byte(line, at + 2),
@@ -94,19 +77,13 @@ fn code_at(line: &[u8], at: usize) -> Letters
 
 // The entry of a line behind i others, whose codes are the first i of a list, and that has to start at `start`. 9 at the first byte of SS, FF or CCC, whichever
 // breaks its rule first; then 10, 11 and 12 at the entry's first byte. The codes are borrowed: a layout would be copied at each call.
-pub fn entry_at(line: &[u8], i: u8, start: usize, codes: &[u32]) -> EntryRead
+pub fn entry_at(line: &[u8], i: u8, start: usize, codes: &[u32]) -> Result<Entry, Refusal>
     ensures { EntryGiven line.now i start (coded_by codes.now i) result }
 {
     let at = 3 + 7 * (i as usize);
-    let Number::Value(ss) = byte_number::digits(line, at, 2) else {
-        return refuse(Reason::Form, at as u32 + 1);
-    };
-    let Number::Value(ff) = byte_number::digits(line, at + 2, 2) else {
-        return refuse(Reason::Form, at as u32 + 3);
-    };
-    let Letters::Code(code) = code_at(line, at + 4) else {
-        return refuse(Reason::Form, at as u32 + 5);
-    };
+    let ss = byte_number::digits(line, at, 2).ok_or(refusal_at(Reason::Form, at as u32 + 1))?;
+    let ff = byte_number::digits(line, at + 2, 2).ok_or(refusal_at(Reason::Form, at as u32 + 3))?;
+    let code = code_at(line, at + 4).ok_or(refusal_at(Reason::Form, at as u32 + 5))?;
     let first = ss as u8;
     let last = ff as u8;
     let again = is_among(codes, i as usize, code);

@@ -1,10 +1,7 @@
 -- The promises on the families: where their columns start, their letters, and which family a line is of.
-use Rattle.std.specs.Prelude.{ℕ, List, ◌≡◌, get_or}
-use Rattle.std.proofs.Math.Option.{Option, none, some}
+use Rattle.std.specs.Prelude.{ℕ, List, ◌≡◌, get_or, Option}
 use Rattle.rules.specs.Families.{first_start, line_letter, layout_letter, family_of, layout_family_of}
 use Rattle.rules.specs.declared.Family.{Family}
-use Rattle.layout_family.specs.declared.FamilyRead.{FamilyRead}
-use Rattle.layout_family.specs.declared.FamilyRead.TheVariants as family_read
 
 -- where the first column of a family starts
 abbrev pub StartGiven : Family → ℕ → Type 0
@@ -17,12 +14,9 @@ abbrev pub LayoutLetterGiven : Family → ℕ → Type 0
 LayoutLetterGiven f r = r ≡ layout_letter f
 
 -- the family of a line, where it is of one
-unfoldable pub family_told : FamilyRead → Option Family
-family_told (family_read.Of f) = some f
-family_told family_read.NoFamily = none
 
-abbrev pub FamilyGiven : List ℕ → FamilyRead → Type 0
-FamilyGiven l r = family_told r ≡ family_of (get_or l 0 0)
+abbrev pub FamilyGiven : List ℕ → Option Family → Type 0
+FamilyGiven l r = r ≡ family_of (get_or l 0 0)
 
-abbrev pub LayoutFamilyGiven : List ℕ → FamilyRead → Type 0
-LayoutFamilyGiven l r = family_told r ≡ layout_family_of (get_or l 0 0)
+abbrev pub LayoutFamilyGiven : List ℕ → Option Family → Type 0
+LayoutFamilyGiven l r = r ≡ layout_family_of (get_or l 0 0)

@@ -41,33 +41,28 @@ pub fn layout_letter(family: Family) -> u8
     }
 }
 
-// The family of a line, where it is of one.
-#[derive(Clone, Copy)]
-pub enum FamilyRead {
-    Of(Family),
-    NoFamily,
-}
-
 // The family that a line is of, by its first byte.
-pub fn family(line: &[u8]) -> FamilyRead
+#[tactic(auto, unfolding(rules::specs::Families::family_of))]
+pub fn family(line: &[u8]) -> Option<Family>
     ensures { FamilyGiven line.now result }
 {
     match byte_chars::byte(line, 0) {
-        b'B' => FamilyRead::Of(Family::B),
-        b'K' => FamilyRead::Of(Family::Extra(Extra::K)),
-        b'N' => FamilyRead::Of(Family::Extra(Extra::N)),
-        _ => FamilyRead::NoFamily,
+        b'B' => Some(Family::B),
+        b'K' => Some(Family::Extra(Extra::K)),
+        b'N' => Some(Family::Extra(Extra::N)),
+        _ => None,
     }
 }
 
 // The family whose layout a line tells, by its first byte.
-pub fn layout_family(line: &[u8]) -> FamilyRead
+#[tactic(auto, unfolding(rules::specs::Families::layout_family_of))]
+pub fn layout_family(line: &[u8]) -> Option<Family>
     ensures { LayoutFamilyGiven line.now result }
 {
     match byte_chars::byte(line, 0) {
-        b'I' => FamilyRead::Of(Family::B),
-        b'J' => FamilyRead::Of(Family::Extra(Extra::K)),
-        b'M' => FamilyRead::Of(Family::Extra(Extra::N)),
-        _ => FamilyRead::NoFamily,
+        b'I' => Some(Family::B),
+        b'J' => Some(Family::Extra(Extra::K)),
+        b'M' => Some(Family::Extra(Extra::N)),
+        _ => None,
     }
 }

@@ -1,8 +1,8 @@
 -- One turn of a loop over the entries of an answer, for a code that comes again and for an entry outside the line. Assumes nothing.
+use Rattle.std.specs.Prelude.{None, Some}
 use Prim.Native.Nat.{ℕ, suc, ◌+◌, ◌≤◌, ◌<◌}
 use mathlib.Core.Bool.{Bool, true, false, not, cond, ◌||◌}
 use mathlib.Core.List.{List, [], ◌∷◌}
-use mathlib.Core.Option.{none, some}
 use mathlib.Core.Path.{◌≡◌, refl, ◌∙◌, ap}
 use native.Mathlib.Omega.{arith}
 use native.Mathlib.Numerals.{add-one}
@@ -10,7 +10,8 @@ use lib.Dec.{eqb}
 use lib.ListN.{length, get_or, drop, length-take, drop_of_length-le}
 use lib.Seq.{drop-cons}
 use Rattle.rules.specs.Choice.{first_of}
-use Rattle.rules.specs.Layouts.{Span, unused, entries_of, span_of}
+use Rattle.rules.specs.declared.Span.{Span}
+use Rattle.rules.specs.Layouts.{unused, entries_of, span_of}
 use Rattle.rules.specs.Looks.{carried_in, twice, is_inside, are_inside}
 use Rattle.rules.specs.declared.Entry.{Entry}
 use Rattle.rules.specs.declared.Layout.{Layout}
@@ -28,12 +29,12 @@ spanned k e = span_of e
 pub any_place : (x : ℕ) (es : List Entry) (m n : ℕ) → first_of (coded x) spanned es m ≡ first_of (coded x) spanned es n
 unfolding first_of
 any_place x [] m n = refl
-any_place x (e ∷ es) m n = ap (cond (coded x e) (some (span_of e))) (any_place x es (suc m) (suc n))
+any_place x (e ∷ es) m n = ap (cond (coded x e) (Some (span_of e))) (any_place x es (suc m) (suc n))
 
-pub code_found : (x : ℕ) (es : List Entry) (n : ℕ) (s : Span) → first_of (coded x) spanned es n ≡ some s → true ≡ carried_in es x
+pub code_found : (x : ℕ) (es : List Entry) (n : ℕ) (s : Span) → first_of (coded x) spanned es n ≡ Some s → true ≡ carried_in es x
 code_found x es n s e = rw (any_place x es 0 n, e)
 
-pub code_missed : (x : ℕ) (es : List Entry) (n : ℕ) → first_of (coded x) spanned es n ≡ none → false ≡ carried_in es x
+pub code_missed : (x : ℕ) (es : List Entry) (n : ℕ) → first_of (coded x) spanned es n ≡ None → false ≡ carried_in es x
 code_missed x es n e = rw (any_place x es 0 n, e)
 
 module _ (l : Layout) (i : ℕ) where
@@ -66,10 +67,10 @@ outside n e = not (is_inside n e)
 abbrev pub placed : ℕ → Entry → ℕ
 placed k e = k
 
-pub inside_clear : (n : ℕ) (es : List Entry) → first_of (outside n) placed es 0 ≡ none → true ≡ are_inside n es
+pub inside_clear : (n : ℕ) (es : List Entry) → first_of (outside n) placed es 0 ≡ None → true ≡ are_inside n es
 unfolding are_inside
 inside_clear n es e = rw e
 
-pub inside_bad : (n k : ℕ) (es : List Entry) → first_of (outside n) placed es 0 ≡ some k → false ≡ are_inside n es
+pub inside_bad : (n k : ℕ) (es : List Entry) → first_of (outside n) placed es 0 ≡ Some k → false ≡ are_inside n es
 unfolding are_inside
 inside_bad n k es e = rw e

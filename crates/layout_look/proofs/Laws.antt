@@ -1,55 +1,50 @@
 -- The links of the look. Assumes nothing.
+use Rattle.std.specs.Prelude.{Err, None, Ok, Option, Result, Some}
 use Prim.Native.Nat.{ℕ}
 use mathlib.Core.List.{List, []}
 use mathlib.Core.Path.{◌≡◌}
+use Rattle.std.specs.Option.{ok_or}
 use Rattle.rules.specs.Choice.{given}
-use Rattle.rules.specs.Layouts.{Span, look, column_text, column_told}
+use Rattle.rules.specs.declared.Span.{Span}
+use Rattle.rules.specs.Layouts.{look, column_text}
 use Rattle.rules.specs.Looks.{look_text}
-use Rattle.rules.specs.Numbers.{whole_of, whole_told}
-use Rattle.rules.specs.Refusals.{Said, says, no}
-use Rattle.rules.specs.declared.ColumnRead.{ColumnRead}
-use Rattle.rules.specs.declared.ColumnRead.TheVariants as column_read
+use Rattle.rules.specs.Numbers.{whole_of}
+use Rattle.rules.specs.Refusals.{Said, says, no, refusal, result_told}
 use Rattle.rules.specs.declared.Layout.{Layout}
 use Rattle.rules.specs.declared.Reason.TheVariants.{Absent}
 use Rattle.rules.specs.declared.Refusal.{Refusal}
 use Rattle.rules.specs.declared.Signed.{Signed}
-use Rattle.rules.specs.declared.Whole.{Whole}
-use Rattle.rules.specs.declared.Whole.TheVariants as whole
-use Rattle.rules.proofs.Links.{column_between, column_refused}
-use Rattle.layout_coded.specs.Spots.{spot_told}
-use Rattle.layout_coded.specs.declared.Spot.{Spot}
-use Rattle.layout_coded.specs.declared.Spot.TheVariants as spot
+use Rattle.rules.proofs.Handed.{found_told}
+use Rattle.rules.proofs.Links.{then_ok, then_err}
 
 -- ---- a column by its code: y is the number that the code's three bytes make
 
-pub spot_there : (l : Layout) (x y a e : ℕ) (r : Spot) (z : Said Span) → spot_told r ≡ look l y → y ≡ x → r ≡ spot.At a e → z ≡ says (record { first = a; last = e }) → z ≡ given (look l x) (no Absent 0) (λ s. says s)
-unfolding spot_told
-spot_there l x y a e r z t q g h = rw (← q, ← t, g) h
-
-pub spot_nowhere : (l : Layout) (x y : ℕ) (r : Spot) (z : Said Span) → spot_told r ≡ look l y → y ≡ x → r ≡ spot.Nowhere → z ≡ no Absent 0 → z ≡ given (look l x) (no Absent 0) (λ s. says s)
-unfolding spot_told
-spot_nowhere l x y r z t q g h = rw (← q, ← t, g) h
+pub spot_told : (l : Layout) (x y : ℕ) (r : Option Span) (e : Refusal) (q : Result Span Refusal)
+    → r ≡ look l y → y ≡ x → q ≡ ok_or r e → ◌≡◌ {A = Said Span} (refusal e) (no Absent 0) → result_told q ≡ given (look l x) (no Absent 0) (λ s. says s)
+spot_told l x y r e q t g f z = rw (← g) (found_told (look l y) r e q (no Absent 0) t f z)
 
 -- ---- the text of a column that was found; there is none behind a refusal
 
-module _ (l : List ℕ) (s : Said Span) (r : ColumnRead) (e : column_told r ≡ s) where
-  pub text_there : (a b : ℕ) (x : List ℕ) → r ≡ column_read.Between a b → x ≡ column_text l (record { first = a; last = b }) → x ≡ look_text l s
-  unfolding column_told look_text
+module _ (l : List ℕ) (s : Said Span) (r : Result Span Refusal) (e : result_told r ≡ s) where
+  pub text_there : (a b : ℕ) (x : List ℕ) → r ≡ Ok (record { first = a; last = b }) → x ≡ column_text l (record { first = a; last = b }) → x ≡ look_text l s
+  unfolding result_told look_text
   text_there a b x g k = rw (← e, g) k
 
-  pub text_none : (w : Refusal) → r ≡ column_read.Refused w → [] ≡ look_text l s
-  unfolding column_told look_text
+  pub text_none : (w : Refusal) → r ≡ Err w → [] ≡ look_text l s
+  unfolding result_told look_text
   text_none w g = rw (← e, g)
 
 pub ruleset cut = (text_there, text_none)
 
 -- the number of a text t that is the column's
-pub text_number : {B : Type 0} (u t : List ℕ) (r : Whole) (v : Signed) (x a : B) (f : Signed → B) → whole_told r ≡ whole_of t → t ≡ u → r ≡ whole.Of v → x ≡ f v → x ≡ given (whole_of u) a f
-unfolding whole_told
+pub number_told : (u t : List ℕ) (r : Option Signed) (e : Refusal) (q : Result Signed Refusal) (a : Said Signed)
+    → r ≡ whole_of t → t ≡ u → q ≡ ok_or r e → refusal e ≡ a → result_told q ≡ given (whole_of u) a says
+number_told u t r e q a f g h z = rw (← g) (found_told (whole_of t) r e q a f h z)
+
+pub text_number : {B : Type 0} (u t : List ℕ) (r : Option Signed) (v : Signed) (x a : B) (f : Signed → B) → r ≡ whole_of t → t ≡ u → r ≡ Some v → x ≡ f v → x ≡ given (whole_of u) a f
 text_number u t r v x a f e q g h = rw (← q, ← e, g) h
 
-pub text_no_number : {B : Type 0} (u t : List ℕ) (r : Whole) (x a : B) (f : Signed → B) → whole_told r ≡ whole_of t → t ≡ u → r ≡ whole.NoWhole → x ≡ a → x ≡ given (whole_of u) a f
-unfolding whole_told
+pub text_no_number : {B : Type 0} (u t : List ℕ) (r : Option Signed) (x a : B) (f : Signed → B) → r ≡ whole_of t → t ≡ u → r ≡ None → x ≡ a → x ≡ given (whole_of u) a f
 text_no_number u t r x a f e q g h = rw (← q, ← e, g) h
 
-pub ruleset texts = (column_between, column_refused, text_number, text_no_number)
+pub ruleset texts = (then_ok, then_err, text_number, text_no_number)

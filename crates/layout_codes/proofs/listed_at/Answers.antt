@@ -1,6 +1,5 @@
 -- `layout_codes::listed_at` meets its contract: the table is the list of the listed codes, row for row. Assumes nothing.
 use mathlib.Core.Path.{sym, ◌∙◌}
-use borrow.Author.Rules.{rules}
 use lib.ListN.{get_or-eq_default}
 use Rattle.rules.specs.Choice.{bytes}
 use Rattle.rules.specs.Listed.{listed, unlisted}

@@ -1,5 +1,4 @@
 -- `layout_codes::listed_in` meets its contract. Assumes nothing.
-use borrow.Author.Rules.{rules}
 use Rattle.layout_codes.proofs.listed_in.Goals as goal
 
 pub returns : goal.returns

@@ -1,7 +1,6 @@
 -- `layout_column::keeps` meets its contract. Assumes nothing.
 use mathlib.Core.Path.{◌∙◌, ap}
 use Rattle.rules.specs.Listed.{keeps_limit}
-use borrow.Author.Rules.{rules}
 use Rattle.layout_column.proofs.keeps.Goals as goal
 
 pub returns : goal.returns

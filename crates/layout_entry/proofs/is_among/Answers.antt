@@ -1,12 +1,6 @@
 -- `layout_entry::is_among` meets its contract: the codes from i on decide as all do. Assumes nothing.
-use Prim.Native.Nat.{ℕ, ◌-◌}
-use mathlib.Core.Bool.{true, false}
-use mathlib.Core.Path.{◌≡◌, sym, ◌∙◌}
+use mathlib.Core.Path.{sym, ◌∙◌}
 use borrow.Author.Rules.{rules}
-use lib.Dec.{eqb}
-use lib.ListN.{length, drop, take}
-use Rattle.rules.specs.Choice.{given, first_of}
-use Rattle.layout_entry.specs.Parts.{is_among}
 use Rattle.layout_entry.proofs.Turns.{code_hit, code_miss, code_past, code_end}
 use Rattle.layout_entry.proofs.is_among.Goals as goal
 
@@ -15,15 +9,15 @@ returns-then-n-i c =
     let b = c.args in
     sym (code_past b.codes.now b.n b.code c.loop-i.i c.if-n-i.true) ∙ c.loop-i.invariant
 
-pub returns-then-codes-i : goal.returns-then-codes-i
-returns-then-codes-i c =
+pub returns-then-c-code : goal.returns-then-c-code
+returns-then-c-code c =
     let b = c.args in
-    sym (code_hit b.codes.now b.n b.code c.loop-i.i (search rules) (search rules) c.if-codes-i.true) ∙ c.loop-i.invariant
+    sym (code_hit b.codes.now b.n b.code c.loop-i.i (search rules) (search rules) c.if-c-code.true) ∙ c.loop-i.invariant
 
 pub loop-i-preserved : goal.loop-i-preserved
 loop-i-preserved c =
     let b = c.args in
-    sym (code_miss b.codes.now b.n b.code c.loop-i.i (search rules) (search rules) c.if-codes-i.false) ∙ c.loop-i.invariant
+    sym (code_miss b.codes.now b.n b.code c.loop-i.i (search rules) (search rules) c.if-c-code.false) ∙ c.loop-i.invariant
 
 pub returns : goal.returns
 returns c =

@@ -1,5 +1,4 @@
 -- `layout_entry::placed` meets its contract: whether the code was there before is what `carries` says. Assumes nothing.
-use borrow.Author.Rules.{rules}
 use Rattle.layout_entry.proofs.placed.Goals as goal
 
 pub returns : goal.returns

@@ -1,5 +1,4 @@
 -- `layout::values::bit_of` meets its contract. Assumes nothing.
-use borrow.Author.Rules.{rules}
 use Rattle.layout.proofs.values.bit_of.Goals as goal
 
 pub returns-then-carries : goal.returns-then-carries

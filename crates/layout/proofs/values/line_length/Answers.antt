@@ -5,7 +5,6 @@ use lib.ListN.{length, get_or-eq_default}
 use native.Mathlib.Omega.{arith}
 use Rattle.rules.specs.Layouts.{unused, line_length}
 use Rattle.layout_coded.proofs.Turns.{unmapped}
-use borrow.Author.Rules.{rules}
 use Rattle.layout.proofs.values.line_length.Goals as goal
 
 pub returns-in-B : goal.returns-in-B
