@@ -1,4 +1,6 @@
 -- What `search` puts the ways out of a line's check together from: a link for each answer that the checks ask for. Assumes nothing.
+use Rattle.rules.specs.declared.Refusal.{Refusal}
+use Rattle.std.specs.Prelude.{None, Ok, Option, Result, Some, ⊤}
 use Prim.Native.Nat.{ℕ, suc, ◌+◌, ◌≤◌, ◌<◌}
 use mathlib.Core.List.{List, [], ◌∷◌}
 use native.Mathlib.Numerals.{add-one, add-two}
@@ -8,52 +10,25 @@ use lib.Seq.{drop-cons}
 use Rattle.rules.specs.Chars.{is_code}
 use Rattle.rules.specs.Layouts.{columns}
 use Rattle.rules.specs.Lines.{bad_pair, shaped}
-use Rattle.rules.specs.Promises.{found_told}
-use Rattle.rules.specs.Refusals.{outcome_told}
+use Rattle.rules.specs.Refusals.{result_told}
 use Rattle.rules.specs.declared.AtLimit.{AtLimit}
-use Rattle.rules.specs.declared.Found.{Found}
-use Rattle.rules.specs.declared.Found.TheVariants as found
 use Rattle.rules.specs.declared.Layout.{Layout}
-use Rattle.rules.specs.declared.Outcome.{Outcome}
-use Rattle.rules.specs.declared.Outcome.TheVariants as outcome
 use Rattle.byte_shape.proofs.Laws.{accepted_most}
-use mathlib.Core.Option.{Option, none, some}
 use mathlib.Core.Bool.{Bool, true, false, ◌&&◌, cond}
 use mathlib.Core.Path.{◌≡◌, refl, ap, ◌∙◌}
 use borrow.Author.Tests.{not-true, not-false}
-use lib.Dec.{eqb}
-use Rattle.byte_chars.proofs.Laws.{and_true, and_false, byte_is, byte_is_not}
-use Rattle.rules.specs.Choice.{given}
-use Rattle.rules.specs.declared.Planned.{Planned}
-use Rattle.rules.proofs.Links.{by_some, by_none, need_true, need_false, cond_eq, cond_ne, on_is, number_value, number_none, time_secs, time_none, day_on, day_none, position_is, position_none, outcome_accepted, outcome_refused, found_at, found_nothing, fix_fields_is, fix_fields_refused}
+use Rattle.rules.proofs.Handed.{found, handed_on}
+use Rattle.rules.proofs.Links.{need_true, need_false, cond_eq, cond_ne, on_is, given_some, given_none, then_ok, then_err}
 use Rattle.line_fix.proofs.Laws.{refuses_form}
-use Rattle.line_check.specs.Parts.{planned_told}
-use Rattle.line_check.specs.declared.PlannedRead.{PlannedRead}
-use Rattle.line_check.specs.declared.PlannedRead.TheVariants.{Is, NoPlan}
-
-pub planned_is : {B : Type 0} (n : Option Planned) (r : PlannedRead) (v : Planned) (x a : B) (f : Planned → B) → planned_told r ≡ n → r ≡ Is v → x ≡ f v → x ≡ given n a f
-unfolding planned_told
-planned_is n r v x a f e g h = by_some planned_told n r x a f e (Is v) v refl g h
-
-pub planned_none : {B : Type 0} (n : Option Planned) (r : PlannedRead) (x a : B) (f : Planned → B) → planned_told r ≡ n → r ≡ NoPlan → x ≡ a → x ≡ given n a f
-unfolding planned_told
-planned_none n r x a f e g h = by_none planned_told n r x a f e NoPlan refl g h
-
--- ---- bytes
-
-pub byte_told : (m n r : ℕ) → r ≡ m → eqb r n ≡ eqb m n
-byte_told m n r e = ap (λ k. eqb k n) e
-
-pub ruleset marks = (byte_is, byte_is_not, byte_told, and_true, and_false)
 
 -- ---- a step over the pairs of an F line: the pair at the place i is bad, or what comes after it decides
 
 module _ (s : List ℕ) (i : ℕ) where
-  pub pair_past : length s ≤ i + 1 → bad_pair i (drop i s) ≡ none
+  pub pair_past : length s ≤ i + 1 → bad_pair i (drop i s) ≡ None
   unfolding bad_pair
   pair_past h = by_length (drop i s) (omega (arith, length-drop i s))
     where
-      by_length : (l : List ℕ) → length l ≤ 1 → bad_pair i l ≡ none
+      by_length : (l : List ℕ) → length l ≤ 1 → bad_pair i l ≡ None
       by_length [] k = refl
       by_length (a ∷ []) k = refl
       by_length (a ∷ b ∷ l) k = absurd (omega arith)
@@ -66,48 +41,42 @@ module _ (s : List ℕ) (i : ℕ) where
   unfolding bad_pair
   pair_good h a b = rw (pair_there h, a, b)
 
-  pub pair_first : i + 1 < length s → is_code (get_or s i 0) ≡ false → bad_pair i (drop i s) ≡ some i
+  pub pair_first : i + 1 < length s → is_code (get_or s i 0) ≡ false → bad_pair i (drop i s) ≡ Some i
   unfolding bad_pair
   pair_first h a = rw (pair_there h, a)
 
-  pub pair_second : i + 1 < length s → is_code (get_or s i 0) ≡ true → is_code (get_or s (i + 1) 0) ≡ false → bad_pair i (drop i s) ≡ some i
+  pub pair_second : i + 1 < length s → is_code (get_or s i 0) ≡ true → is_code (get_or s (i + 1) 0) ≡ false → bad_pair i (drop i s) ≡ Some i
   unfolding bad_pair
   pair_second h a b = rw (pair_there h, a, b)
 
 -- a bad pair stands in the line
-pair_below : (at k : ℕ) (l : List ℕ) → bad_pair at l ≡ some k → k < at + length l
+pair_below : (at k : ℕ) (l : List ℕ) → bad_pair at l ≡ Some k → k < at + length l
 unfolding bad_pair
 pair_below at k [] e = let z : ◌≡◌ {A = ℕ} 0 1 = cc in omega arith
 pair_below at k (a ∷ []) e = let z : ◌≡◌ {A = ℕ} 0 1 = cc in omega arith
 pair_below at k (a ∷ b ∷ l) e = by (is_code a && is_code b) e (pair_below (at + 2) k l)
   where
-    by : (t : Bool) → cond t (bad_pair (at + 2) l) (some at) ≡ some k → (bad_pair (at + 2) l ≡ some k → k < at + 2 + length l) → k < at + length (a ∷ b ∷ l)
+    by : (t : Bool) → cond t (bad_pair (at + 2) l) (Some at) ≡ Some k → (bad_pair (at + 2) l ≡ Some k → k < at + 2 + length l) → k < at + length (a ∷ b ∷ l)
     by true e h = omega (arith, h e)
     by false e h = let g : at ≡ k = cc in omega arith
 
 -- r is what the search for a bad pair answered, t what the line's shape was found to be
-pub pair_within : (l : List ℕ) (i least : ℕ) (in_h : Bool) (r : Found) (t : Outcome) → found_told r ≡ bad_pair 7 (drop 7 l) → r ≡ found.At i → outcome_told t ≡ shaped least 255 in_h l → t ≡ outcome.Accepted → i + 1 ≤ 262
-unfolding found_told
+pub pair_within : (l : List ℕ) (i least : ℕ) (in_h : Bool) (r : Option ℕ) (t : Result ⊤ Refusal) → r ≡ bad_pair 7 (drop 7 l) → r ≡ Some i → result_told t ≡ shaped least 255 in_h l → t ≡ (Ok tt) → i + 1 ≤ 262
 pair_within l i least in_h r t e g s h =
-    let f : bad_pair 7 (drop 7 l) ≡ some i = rw (← e, g) in
+    let f : bad_pair 7 (drop 7 l) ≡ Some i = rw (← e, g) in
     omega (arith, pair_below 7 i (drop 7 l) f, length-drop 7 l, accepted_most least 255 in_h l t s h)
 
-pub ruleset lines = (refuses_form, not-true, not-false, need_true, need_false, on_is, time_secs, time_none, outcome_accepted, outcome_refused)
+pub ruleset lines = (refuses_form, not-true, not-false, need_true, need_false, on_is, found, then_ok, then_err)
 
-pub ruleset pairs = (lines, found_at, found_nothing)
+pub ruleset outs = (lines, handed_on)
 
-pub ruleset days = (lines, day_on, day_none)
+-- with a bad pair, or none
+pub ruleset pairs = (outs, given_some, given_none)
 
-pub ruleset plans = (cond_eq, cond_ne, number_value, number_none, day_on, day_none)
-
-pub ruleset heads = (refuses_form, number_value, number_none, time_secs, time_none, day_on, day_none, planned_is, planned_none)
-
-pub ruleset points = (refuses_form, outcome_accepted, outcome_refused, position_is, position_none)
+pub ruleset plans = (cond_eq, cond_ne, given_some, given_none)
 
 -- the columns were checked by the coordinates that stand at their limits
-pub columns_at : (at this : AtLimit) (l : List ℕ) (layout : Layout) (r : Outcome) → this ≡ at → outcome_told r ≡ columns this l layout → outcome_told r ≡ columns at l layout
+pub columns_at : (at this : AtLimit) (l : List ℕ) (layout : Layout) (r : Result ⊤ Refusal) → this ≡ at → result_told r ≡ columns this l layout → result_told r ≡ columns at l layout
 columns_at at this l layout r e h = rw (← e) h
 
-pub ruleset columned = (outcome_accepted, outcome_refused, columns_at)
-
-pub ruleset whole = (outcome_accepted, outcome_refused, fix_fields_is, fix_fields_refused)
+pub ruleset columned = (then_ok, then_err, handed_on, columns_at)

@@ -1,18 +1,18 @@
 -- Where a column stands, how many digits it has and what they spell, from what the code found; and that no count wraps. Assumes nothing.
+use Rattle.std.specs.Prelude.{Option}
 use Prim.Native.Nat.{ℕ, ◌+◌, ◌-◌, ◌*◌, ◌^◌, ◌≤◌, ◌<◌}
 use mathlib.Core.Bool.{Bool, true, false, ◌&&◌, cond}
 use mathlib.Core.List.{List}
-use mathlib.Core.Option.{Option}
 use mathlib.Core.Path.{◌≡◌, refl, sym, ap, ◌∙◌}
 use native.Mathlib.Nat.{mul-le-mul_left}
 use native.Mathlib.Omega.{arith}
-use borrow.Author.Tests.{le-leb, lt-leb, leb-true, eq-eqb, ne_eqb, ltb-true, ltb-false}
+use borrow.Author.Tests.{le-leb, leb-true, eq-eqb, ltb-true, ltb-false}
 use lib.Dec.{eqb, leb, ltb}
 use lib.ListN.{length, get_or, drop}
-use Rattle.rules.specs.Choice.{given, need, first_of, part, byte}
+use Rattle.rules.specs.Choice.{given, need, first_of}
 use Rattle.rules.specs.Fields.{most_latitude, most_longitude}
-use Rattle.rules.specs.Layouts.{unused, entries_of, Span, span_of, look}
-use Rattle.rules.specs.Numbers.{number_at, number_told}
+use Rattle.rules.specs.declared.Span.{Span}
+use Rattle.rules.specs.Layouts.{unused, entries_of, span_of, look}
 use Rattle.rules.specs.Fixes.{no_reach, reach_of, decimals_of, digits_at, refined}
 use Rattle.rules.specs.declared.Entry.{Entry}
 use Rattle.rules.specs.declared.FinePosition.{FinePosition}
@@ -21,8 +21,6 @@ use Rattle.rules.specs.declared.Finer.{Finer}
 use Rattle.rules.specs.declared.Fix.{Fix}
 use Rattle.rules.specs.declared.FixFields.{FixFields}
 use Rattle.rules.specs.declared.Layout.{Layout}
-use Rattle.rules.specs.declared.Number.{Number}
-use Rattle.rules.specs.declared.Number.TheVariants as number
 use Rattle.rules.specs.declared.Position.{Position}
 use Rattle.rules.specs.declared.Reach.{Reach}
 use Rattle.layout_coded.proofs.Turns.{entry_hit, entry_miss, entry_past, entry_end}
@@ -68,44 +66,12 @@ module _ (l : Layout) (x : ℕ) where
       let n : i ≡ i - 1 + 1 = omega arith in
       g ∙ ap (λ y. reached_by y (ltb (i - 1) l.count) (get_or l.entries (i - 1) unused) x) (h ∙ ap reach_from n) ∙ reach_more e (i - 1) (omega arith)
 
-module _ (was : Reach) (t : Bool) (e : Entry) (x : ℕ) where
-  pub reached_off : t ≡ false → was ≡ reached_by was t e x
-  reached_off h = rw h
-
-  pub reached_here : t ≡ true → e.code ≡ x → record { first = e.first; last = e.last } ≡ reached_by was t e x
-  reached_here h g = rw (h, eq-eqb _ _ g)
-
-  pub reached_not : t ≡ true → (e.code ≡ x → ⊥) → was ≡ reached_by was t e x
-  reached_not h g = rw (h, ne_eqb _ _ g)
-
 pub three : (t a o t' a' o' : Reach) → t ≡ t' → a ≡ a' → o ≡ o' → ◌≡◌ {A = Finer} (record { time = t; lat = a; lon = o }) (record { time = t'; lat = a'; lon = o' })
 three t a o t' a' o' e f g = rw (e, f, g)
 
--- ---- how many digits it has
-
-module _ (r : Reach) where
-  pub decimals_none : r.first ≡ 0 → 0 ≡ decimals_of r
-  unfolding decimals_of
-  decimals_none e = rw (eq-eqb r.first 0 e)
-
-  pub decimals_short : (r.first ≡ 0 → ⊥) → r.last < r.first → 0 ≡ decimals_of r
-  unfolding decimals_of
-  decimals_short n h = rw (ne_eqb r.first 0 n) (omega arith)
-
-  pub decimals_are : (r.first ≡ 0 → ⊥) → r.first ≤ r.last → r.last - r.first + 1 ≡ decimals_of r
-  unfolding decimals_of
-  decimals_are n h = rw (ne_eqb r.first 0 n) (omega arith)
-
--- ---- what they spell
-
-module _ (l t : List ℕ) (r : Reach) (n : ℕ) (a : Number) (i : t ≡ part (byte r.first) r.last l) (j : n ≡ decimals_of r) (e : number_told a ≡ number_at t 0 n) where
-  pub digits_value : (v : ℕ) → a ≡ number.Value v → v ≡ digits_at l r
-  unfolding number_told digits_at
-  digits_value v g = rw (← i, ← j, ← e, g)
-
-  pub digits_none : a ≡ number.NoNumber → 0 ≡ digits_at l r
-  unfolding number_told digits_at
-  digits_none g = rw (← i, ← j, ← e, g)
+pub decimals_none : (r : Reach) → r.first ≡ 0 → 0 ≡ decimals_of r
+unfolding decimals_of
+decimals_none r e = rw (eq-eqb r.first 0 e)
 
 -- ---- a count refined
 
@@ -127,20 +93,11 @@ pub refined_is : (l : List ℕ) (r : Reach) (count p d : ℕ) → p ≡ 10 ^ dec
 unfolding refined
 refined_is l r count p d i j = rw (i, j)
 
--- ---- within the limits, or not
+-- ---- within the limits
 
-module _ (l : List ℕ) (r : Reach) (most digits count : ℕ) where
-  pub past_most : most < count → 0 ≡ within most digits count l r
-  unfolding within
-  past_most h = rw (lt-leb count most h)
-
-  pub past_digits : count ≤ most → digits < decimals_of r → 0 ≡ within most digits count l r
-  unfolding within
-  past_digits h k = rw (le-leb count most h, lt-leb (decimals_of r) digits k)
-
-  pub is_within : count ≤ most → decimals_of r ≤ digits → refined count l r ≡ within most digits count l r
-  unfolding within
-  is_within h k = rw (le-leb count most h, le-leb (decimals_of r) digits k)
+pub is_within : (l : List ℕ) (r : Reach) (most digits count : ℕ) → count ≤ most → decimals_of r ≤ digits → refined count l r ≡ within most digits count l r
+unfolding within
+is_within l r most digits count h k = rw (le-leb count most h, le-leb (decimals_of r) digits k)
 
 -- a time with its digits is a number of 32 bits
 pub time_few : (l : List ℕ) (r : Reach) (t : ℕ) → within 86400 3 t l r < 1000000000

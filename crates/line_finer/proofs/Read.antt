@@ -17,7 +17,7 @@ use Rattle.rules_trips.proofs.LineTrip.{said_from}
 use Rattle.rules_trips.proofs.Positions.{position_there}
 use Rattle.rules_trips.proofs.Refined.{fields_of_fix, fine_most}
 use Rattle.rules_trips.proofs.Times.{time_trip}
-use Rattle.line_finer.specs.Within.{within, time_within, position_within, fix_within}
+use Rattle.line_finer.specs.Within.{time_within, position_within, fix_within}
 use Rattle.line_finer.proofs.Laws.{is_within}
 
 pub read_within : (l : List ℕ) (layout : Layout) (f : FixFields) → fields_said family.B l layout ≡ says f → fix_within l (finer_of layout) f ≡ fix_of l (finer_of layout) f

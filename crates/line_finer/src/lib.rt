@@ -5,24 +5,20 @@ ghost use Rattle.std.specs.Prelude.{◌≤◌, ◌≡◌};
 ghost use Rattle.rules.specs.Fixes.{decimals_of, digits_at, refined};
 ghost use Rattle.line_finer.specs.Within.{reached_by, within, time_within, position_within, FinerGiven, DecimalsGiven, FixMade};
 
-use rules::{
-    Entry, FinePosition, FineTime, Finer, Fix, FixFields, Layout, Number, Position, Reach,
-};
+use rules::{Entry, FinePosition, FineTime, Finer, Fix, FixFields, Layout, Position, Reach};
 
 // Where the column of a code stands: that of an entry, where it counts and has the code; else where it stood.
 fn reached(was: Reach, counts: bool, e: Entry, code: u32) -> Reach
     ensures { result ≡ reached_by was counts e code }
 {
-    if !counts {
-        return was;
-    }
-    if e.code == code {
-        return Reach {
+    if counts && e.code == code {
+        Reach {
             first: e.first,
             last: e.last,
-        };
+        }
+    } else {
+        was
     }
-    was
 }
 
 // Where a layout for B lines has the columns of finer digits: TDS, LAD and LOD. The entries are gone through once, from the last to the first, so that the first one of a code
@@ -37,9 +33,7 @@ pub fn finer_of(layout: Layout) -> Finer
     let mut time = Reach { first: 0, last: 0 };
     let mut lat = Reach { first: 0, last: 0 };
     let mut lon = Reach { first: 0, last: 0 };
-    let mut i: usize = 13;
-    while 0 < i {
-        i -= 1;
+    for i in (0..13).rev() {
         let e = layout.entries[i];
         time = reached(time, i < n, e, tds);
         lat = reached(lat, i < n, e, lad);
@@ -49,31 +43,24 @@ pub fn finer_of(layout: Layout) -> Finer
 }
 
 // How many extra decimals a column of finer digits gives: one for each of its bytes, none without the column.
+#[tactic(auto, unfolding(rules::specs::Fixes::decimals_of))]
 pub fn decimals_of(reach: Reach) -> u8
     ensures { DecimalsGiven reach result }
 {
-    if reach.first == 0 {
-        return 0;
-    }
-    if reach.last < reach.first {
+    if reach.first == 0 || reach.last < reach.first {
         return 0;
     }
     reach.last - reach.first + 1
 }
 
 // The number that a column of a line spells; 0 without the column, and where it is not digits.
+#[tactic(auto, unfolding(rules::specs::Fixes::digits_at))]
 fn digits_at(line: &[u8], reach: Reach) -> u64
     ensures { result ≡ digits_at line.now reach }
 {
     let n = decimals_of(reach);
-    match byte_number::digits(
-        layout_column::text_of(line, reach.first, reach.last),
-        0,
-        n as usize,
-    ) {
-        Number::Value(v) => v,
-        Number::NoNumber => 0,
-    }
+    let text = layout_column::text_of(line, reach.first, reach.last);
+    byte_number::digits(text, 0, n as usize).unwrap_or(0)
 }
 
 // A count times ten for each digit of a column, plus the digits.
@@ -85,14 +72,12 @@ fn refined(count: u64, line: &[u8], reach: Reach) -> u64
 }
 
 // The same for a count of `most` at most and a column of at most so many digits; 0 for any other.
+#[tactic(auto, unfolding(crate::specs::Within::within))]
 fn within(count: u64, most: u64, digits: u8, line: &[u8], reach: Reach) -> u64
     requires { (most ≤ 10800000) × (digits ≤ 4) }
     ensures { result ≡ within most digits count line.now reach }
 {
-    if most < count {
-        return 0;
-    }
-    if digits < decimals_of(reach) {
+    if most < count || digits < decimals_of(reach) {
         return 0;
     }
     refined(count, line, reach)
@@ -125,14 +110,12 @@ fn fine_position(p: Position, most: u64, line: &[u8], reach: Reach) -> FinePosit
 pub fn fix_of(line: &[u8], fine: Finer, f: FixFields) -> Fix
     ensures { FixMade line.now fine f result }
 {
-    let pressure = f.pressure;
-    let gnss = f.gnss;
     Fix {
         time: fine_time(f.time, line, fine.time),
         lat: fine_position(f.lat, 5400000, line, fine.lat),
         lon: fine_position(f.lon, 10800000, line, fine.lon),
         validity: f.validity,
-        pressure,
-        gnss,
+        pressure: f.pressure,
+        gnss: f.gnss,
     }
 }

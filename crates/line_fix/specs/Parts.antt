@@ -1,13 +1,11 @@
 -- What the fields of a B line are read as, and how a field that breaks its rule is refused.
-use Rattle.std.specs.Prelude.{ℕ, List, ◌≡◌}
+use Rattle.std.specs.Prelude.{ℕ, List, ◌≡◌, Result}
 use Rattle.rules.specs.Lines.{fix_fields, at_limit}
-use Rattle.rules.specs.Reads.{fix_fields_told}
-use Rattle.rules.specs.Refusals.{reason_of}
+use Rattle.rules.specs.Refusals.{reason_of, result_told}
 use Rattle.rules.specs.declared.AtLimit.{AtLimit}
 use Rattle.rules.specs.declared.Class.{Class}
 use Rattle.rules.specs.declared.Refusal.{Refusal}
 use Rattle.rules.specs.declared.FixFields.{FixFields}
-use Rattle.rules.specs.declared.FixFieldsRead.{FixFieldsRead}
 
 -- "9 FORM: first field against its rule; line, field's first byte", with 0 for the line number
 abbrev pub form_at : Class → ℕ → Refusal
@@ -17,8 +15,8 @@ abbrev pub FormGiven : Class → ℕ → Refusal → Type 0
 FormGiven c first r = r ≡ form_at c first
 
 -- the fields of a B line before its columns
-abbrev pub FieldsGiven : List ℕ → FixFieldsRead → Type 0
-FieldsGiven l r = fix_fields_told r ≡ fix_fields l
+abbrev pub FieldsGiven : List ℕ → Result FixFields Refusal → Type 0
+FieldsGiven l r = result_told r ≡ fix_fields l
 
 -- which of its coordinates stand at their limit
 abbrev pub LimitsGiven : FixFields → AtLimit → Type 0

@@ -5,9 +5,7 @@ ghost use Rattle.std.specs.Prelude.{◌≡◌};
 ghost use Rattle.rules.specs.Refusals.{reason_of};
 ghost use Rattle.line_fix.specs.Parts.{FormGiven, FieldsGiven, LimitsGiven};
 
-use rules::{
-    Altitude, AtLimit, Class, FixFields, FixFieldsRead, PositionField, Reason, Refusal, Time,
-};
+use rules::{AtLimit, Class, FixFields, Height, Position, Reason, Refusal};
 
 // Why a field of this class that breaks its rule is refused.
 fn reason_of(class: Class) -> Reason
@@ -34,29 +32,20 @@ pub fn form(class: Class, byte: u32) -> Refusal
 }
 
 // The fields of a B line before its columns.
-pub fn fix_fields(line: &[u8]) -> FixFieldsRead
+#[tactic(auto, using(crate::proofs::Laws::fixes), unfolding(rules::specs::Lines::fix_fields, rules::specs::Refusals::result_told))]
+pub fn fix_fields(line: &[u8]) -> Result<FixFields, Refusal>
     ensures { FieldsGiven line.now result }
 {
-    let Time::Secs(time) = field_time::time_at(line, 1) else {
-        return FixFieldsRead::Refused(form(Class::Time, 2));
-    };
-    let PositionField::Is(lat) = field_time::latitude_at(line, 7) else {
-        return FixFieldsRead::Refused(form(Class::Position, 8));
-    };
-    let PositionField::Is(lon) = field_time::longitude_at(line, 15) else {
-        return FixFieldsRead::Refused(form(Class::Position, 16));
-    };
+    let time = field_time::time_at(line, 1).ok_or(form(Class::Time, 2))?;
+    let lat = field_time::latitude_at(line, 7).ok_or(form(Class::Position, 8))?;
+    let lon = field_time::longitude_at(line, 15).ok_or(form(Class::Position, 16))?;
     let validity = byte_chars::byte(line, 24);
     if !byte_chars::is_either(validity, b'A', b'V') {
-        return FixFieldsRead::Refused(form(Class::Other, 25));
+        return Err(form(Class::Other, 25));
     }
-    let Altitude::Metres(pressure) = field_time::altitude_at(line, 25) else {
-        return FixFieldsRead::Refused(form(Class::Altitude, 26));
-    };
-    let Altitude::Metres(gnss) = field_time::altitude_at(line, 30) else {
-        return FixFieldsRead::Refused(form(Class::Altitude, 31));
-    };
-    FixFieldsRead::Is(FixFields {
+    let pressure = field_time::altitude_at(line, 25).ok_or(form(Class::Altitude, 26))?;
+    let gnss = field_time::altitude_at(line, 30).ok_or(form(Class::Altitude, 31))?;
+    Ok(FixFields {
         time,
         lat,
         lon,
@@ -67,6 +56,7 @@ pub fn fix_fields(line: &[u8]) -> FixFieldsRead
 }
 
 // Which coordinates of a fix stand at their limit: a latitude of 90 degrees, a longitude of 180.
+#[tactic(auto, unfolding(rules::specs::Lines::at_limit))]
 pub fn at_limit(f: FixFields) -> AtLimit
     ensures { LimitsGiven f result }
 {

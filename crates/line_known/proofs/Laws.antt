@@ -1,4 +1,5 @@
 -- What `search` puts the ways out of a reader together from; what is said of a line where its layout is allowed, or is not; and an answer with its entries. Assumes nothing.
+use Rattle.std.specs.Prelude.{Result, Ok, Err, ⊤}
 use Prim.Native.Nat.{ℕ}
 use mathlib.Core.Bool.{Bool, true, false}
 use mathlib.Core.List.{List}
@@ -11,7 +12,7 @@ use Rattle.rules.specs.Choice.{need}
 use Rattle.rules.specs.Layouts.{empty_layout, allowed}
 use Rattle.rules.specs.Fixes.{finer_of, fix_of}
 use Rattle.rules.specs.Reads.{of_kind, by_layout, fields_said, fix_said, extra_said, with_entries, reading, Answer, answered}
-use Rattle.rules.specs.Refusals.{Said, says, refuses, no, refusal, and_then}
+use Rattle.rules.specs.Refusals.{Said, says, refuses, no, refusal, and_then, result_told}
 use Rattle.rules.specs.declared.Extra.{Extra}
 use Rattle.rules.specs.declared.Family.{Family}
 use Rattle.rules.specs.declared.Family.TheVariants as family
@@ -32,7 +33,21 @@ kind_is m n r x a f e h k = rw (eq-eqb m n (sym e ∙ h)) k
 pub kind_is_not : {A : Type 0} (m n r : ℕ) (x a : A) (f : Unit {0} → A) → r ≡ m → (r ≡ n → ⊥) → x ≡ a → x ≡ need (eqb m n) a f
 kind_is_not m n r x a f e h k = rw (ne_eqb m n (λ q. h (e ∙ q))) k
 
-pub ruleset kinds = (kind_is, kind_is_not)
+-- r is what was told of a test t that a line's kind is right, q what the code goes on with
+module _ {A : Type 0} where
+  pub kind_ok : (t : Bool) (a : Said A) (r : Result ⊤ Refusal) (v : ⊤) (x : Said A) (f : Unit {0} → Said A)
+      → result_told r ≡ need t (no BadValue 0) (λ _. says tt) → r ≡ Ok v → x ≡ f tt → x ≡ need t a f
+  unfolding result_told
+  kind_ok true a r v x f e h k = k
+  kind_ok false a r v x f e h k = let z : says v ≡ no BadValue 0 = rw h at e in cc
+
+  pub kind_err : (t : Bool) (r : Result ⊤ Refusal) (w : Refusal) (f : Unit {0} → Said A)
+      → result_told r ≡ need t (no BadValue 0) (λ _. says tt) → r ≡ Err w → refusal w ≡ need t (no BadValue 0) f
+  unfolding result_told
+  kind_err true r w f e h = let z : ◌≡◌ {A = Said ⊤} (refusal w) (says tt) = rw h at e in cc
+  kind_err false r w f e h = let z : ◌≡◌ {A = Said ⊤} (refusal w) (no BadValue 0) = rw h at e in ap (λ s. and_then s f) z
+
+pub ruleset kinds = (kind_ok, kind_err)
 
 -- both ways of a test are the same
 both : {A : Type 0} (t : Bool) (a : A) → a ≡ need t a (λ _. a)
@@ -97,16 +112,3 @@ module _ (l : List ℕ) (layout : Layout) where
   pub extra_not_read : (e : Extra) → allowed (first_start (family.Extra e)) layout ≡ false → no BadValue 0 ≡ reading (family.Extra e) l layout
   unfolding reading extra_said
   extra_not_read e h = ap (with_entries layout) (extra_not_allowed e h)
-
--- ---- an answer: the value with its entries, or a refusal and none
-
-module _ {A : Type 0} (layout es : Layout) (x : Said A) where
-  pub answer_is : (s : Said A) (v : A) → x ≡ says v → says v ≡ s → es ≡ layout → ◌≡◌ {A = Answer A} (record { value = x; entries = es }) (answered (with_entries layout s))
-  answer_is s v e h g = rw (← h, e, g)
-
-  pub answer_refused : (s : Said A) (w : Refusal) → x ≡ refusal w → refusal w ≡ s → es ≡ empty_layout → ◌≡◌ {A = Answer A} (record { value = x; entries = es }) (answered (with_entries layout s))
-  answer_refused s w e h g = rw (← h, e, g)
-
--- a refusal with no entries beside it
-pub told_refused : {A : Type 0} (es : Layout) (x : Said A) (w : Refusal) → x ≡ refusal w → es ≡ empty_layout → ◌≡◌ {A = Answer A} (record { value = x; entries = es }) (answered (refusal w))
-told_refused es x w e g = rw (e, g)

@@ -1,6 +1,5 @@
 -- The promises of the order of lines: which kind may follow which.
-use Rattle.std.specs.Prelude.{ℕ, Bool, ◌≡◌}
-use Rattle.std.proofs.Math.Option.{Option, none, some}
+use Rattle.std.specs.Prelude.{ℕ, Bool, ◌≡◌, Option}
 use Rattle.rules.specs.Files.{ends_after}
 use Rattle.rules.specs.Order.{order_of}
 use Rattle.rules.specs.Roles.{role_of, is_role}
@@ -8,8 +7,6 @@ use Rattle.rules.specs.declared.Kind.{Kind}
 use Rattle.rules.specs.declared.Role.{Role}
 use Rattle.rules.specs.declared.Seal.{Seal}
 use Rattle.rules.specs.declared.State.{State}
-use Rattle.line_order.specs.declared.Leading.{Leading}
-use Rattle.line_order.specs.declared.Leading.TheVariants as leading
 
 abbrev pub EndGiven : Seal → ℕ → Type 0
 EndGiven seal r = r ≡ ends_after seal
@@ -21,9 +18,6 @@ abbrev pub RoleTest : Role → Bool → Type 0
 RoleTest r x = x ≡ is_role r
 
 -- the part of a file that a line leads to, where it may come
-unfoldable pub leading_told : Leading → Option ℕ
-leading_told (leading.To stage) = some stage
-leading_told leading.Nowhere = none
 
-abbrev pub OrderTold : Role → State → Leading → Type 0
-OrderTold r st x = leading_told x ≡ order_of r st
+abbrev pub OrderTold : Role → State → Option ℕ → Type 0
+OrderTold r st x = x ≡ order_of r st

@@ -5,7 +5,7 @@ ghost use Rattle.std.specs.Prelude.{◌≡◌};
 ghost use Rattle.rules.specs.Order.{fits_declaration};
 ghost use Rattle.rules.specs.Roles.{is_declaring, after_layout, leading, stage_after};
 ghost use Rattle.rules.specs.declared.Role.TheVariants as role;
-ghost use Rattle.line_order.specs.Following.{leading_told, EndGiven, RoleGiven, RoleTest, OrderTold};
+ghost use Rattle.line_order.specs.Following.{EndGiven, RoleGiven, RoleTest, OrderTold};
 
 use rules::{Extra, Family, Kind, Role, Seal, State};
 
@@ -69,37 +69,26 @@ pub fn role_of(k: Kind) -> Role
     }
 }
 
-// The part of a file that a line leads to, or that it may not come there.
-#[derive(Clone, Copy)]
-pub enum Leading {
-    To(u8),
-    Nowhere,
-}
-
-fn leads_to(low: u8, high: u8, next: u8, stage: u8) -> Leading
-    ensures { leading_told result ≡ leading low high next stage }
+fn leads_to(low: u8, high: u8, next: u8, stage: u8) -> Option<u8>
+    ensures { result ≡ leading low high next stage }
 {
-    if stage < low {
-        return Leading::Nowhere;
+    if low <= stage && stage <= high {
+        Some(next)
+    } else {
+        None
     }
-    if high < stage {
-        return Leading::Nowhere;
-    }
-    Leading::To(next)
 }
 
-fn layout_after(family: Family, stage: u8) -> Leading
-    ensures { leading_told result ≡ stage_after (role.Tells family) stage }
+fn layout_after(family: Family, stage: u8) -> Option<u8>
+    ensures { result ≡ stage_after (role.Tells family) stage }
 {
     let told = after_layout(family);
-    if told < 1 {
-        return Leading::Nowhere;
-    }
     leads_to(AFTER_H, told - 1, told, stage)
 }
 
-fn remark_after(stage: u8) -> Leading
-    ensures { leading_told result ≡ stage_after role.Remark stage }
+#[tactic(auto, unfolding(rules::specs::Roles::stage_after))]
+fn remark_after(stage: u8) -> Option<u8>
+    ensures { result ≡ stage_after role.Remark stage }
 {
     if stage <= IN_BODY {
         return leads_to(AFTER_H, IN_BODY, IN_BODY, stage);
@@ -107,8 +96,9 @@ fn remark_after(stage: u8) -> Leading
     leads_to(AFTER_G, AFTER_LAST_G, AFTER_LAST_G, stage)
 }
 
-fn stage_after(r: Role, stage: u8) -> Leading
-    ensures { leading_told result ≡ stage_after r stage }
+#[tactic(auto, using(crate::proofs::Others::body_role), unfolding(rules::specs::Roles::stage_after))]
+fn stage_after(r: Role, stage: u8) -> Option<u8>
+    ensures { result ≡ stage_after r stage }
 {
     match r {
         Role::Opens => leads_to(AT_START, AT_START, AFTER_A, stage),
@@ -116,51 +106,43 @@ fn stage_after(r: Role, stage: u8) -> Leading
         Role::Tells(family) => layout_after(family, stage),
         Role::Seals => leads_to(AFTER_H, AFTER_G, AFTER_G, stage),
         Role::Remark => remark_after(stage),
-        Role::NoRole => Leading::Nowhere,
+        Role::NoRole => None,
         _ => leads_to(AFTER_H, IN_BODY, IN_BODY, stage),
     }
 }
 
+#[tactic(auto, using(crate::proofs::Others::other_declaring))]
 fn is_declaring(r: Role) -> bool
     ensures { result ≡ is_declaring r }
 {
-    match r {
-        Role::Declares => true,
-        _ => false,
-    }
+    matches!(r, Role::Declares)
 }
 
+#[tactic(auto, using(crate::proofs::Others::some_role))]
 pub fn is_role(r: Role) -> bool
     ensures { RoleTest r result }
 {
-    match r {
-        Role::NoRole => false,
-        _ => true,
-    }
+    !matches!(r, Role::NoRole)
 }
 
 // Whether a line may come here, as far as the declaration goes: `c` says whether it is a C line.
+#[tactic(auto, unfolding(rules::specs::Order::fits_declaration))]
 fn fits_declaration(c: bool, st: State) -> bool
     ensures { result ≡ fits_declaration c st }
 {
     if 1 <= st.points {
         return c;
     }
-    if !c {
-        return true;
-    }
-    if st.declared {
-        return false;
-    }
-    st.flight.counts.b == 0
+    !c || (!st.declared && st.flight.counts.b == 0)
 }
 
 // The part of the file that a line of this role leads to from here, if it may come.
-pub fn order_of(r: Role, st: State) -> Leading
+#[tactic(auto, unfolding(rules::specs::Order::order_of))]
+pub fn order_of(r: Role, st: State) -> Option<u8>
     ensures { OrderTold r st result }
 {
     if !fits_declaration(is_declaring(r), st) {
-        return Leading::Nowhere;
+        return None;
     }
     stage_after(r, st.stage)
 }

@@ -1,33 +1,24 @@
 -- `line_check::bad_pair` meets its contract: what the pairs from here on have is the whole answer. Assumes nothing.
-use Prim.Native.Nat.{◌-◌}
-use mathlib.Core.Path.{◌≡◌, refl, sym, ◌∙◌}
+use mathlib.Core.Path.{refl, sym, ◌∙◌}
 use borrow.Author.Tests.{not-true, not-false}
-use lib.ListN.{length, drop}
-use Rattle.rules.specs.Lines.{bad_pair}
-use Rattle.rules.specs.Promises.{found_told}
 use Rattle.line_check.proofs.Laws.{pair_past, pair_good, pair_first, pair_second}
 use native.Mathlib.Omega.{arith}
-use borrow.Author.Rules.{rules}
 use Rattle.line_check.proofs.bad_pair.Goals as goal
 
 pub loop-i-init : goal.loop-i-init
 loop-i-init c = refl
 
 pub returns-then-line-j : goal.returns-then-line-j
-unfolding found_told
 returns-then-line-j c = sym (c.loop-i.invariant ∙ pair_past _ _ c.if-line-j.true)
 
 pub returns-then-not-is_code : goal.returns-then-not-is_code
-unfolding found_told
 returns-then-not-is_code c = sym (c.loop-i.invariant ∙ pair_first _ _ c.if-line-j.false (sym c.is_code.ensures ∙ not-true _ c.if-not-is_code.true-raw))
 
 pub returns-then-not-is_code-2 : goal.returns-then-not-is_code-2
-unfolding found_told
 returns-then-not-is_code-2 c = sym (c.loop-i.invariant ∙ pair_second _ _ c.if-line-j.false (sym c.is_code.ensures ∙ not-false _ c.if-not-is_code.false-raw) (sym c.is_code-in-loop-i.ensures ∙ not-true _ c.if-not-is_code-2.true-raw))
 
 pub loop-i-preserved : goal.loop-i-preserved
 loop-i-preserved c = c.loop-i.invariant ∙ pair_good _ _ c.if-line-j.false (sym c.is_code.ensures ∙ not-false _ c.if-not-is_code.false-raw) (sym c.is_code-in-loop-i.ensures ∙ not-false _ c.if-not-is_code-2.false-raw)
 
 pub returns : goal.returns
-unfolding found_told
 returns c = sym (c.loop-i.invariant ∙ pair_past _ _ (omega arith))

@@ -1,13 +1,8 @@
 -- `line_check::bad_pair` meets its contract: what the pairs from here on have is the whole answer. Assumes nothing.
 use Prim.Native.Nat.{◌-◌}
-use mathlib.Core.Path.{◌≡◌, refl, sym, ◌∙◌}
-use borrow.Author.Tests.{not-true, not-false}
+use mathlib.Core.Path.{◌≡◌}
 use lib.ListN.{length, drop}
 use Rattle.rules.specs.Lines.{bad_pair}
-use Rattle.rules.specs.Promises.{found_told}
-use Rattle.line_check.proofs.Laws.{pair_past, pair_good, pair_first, pair_second}
-use native.Mathlib.Omega.{arith}
-use borrow.Author.Rules.{rules}
 use Rattle.line_check.proofs.bad_pair.Given as goal
 
 abbrev pub invariant-loop-i : goal.invariant-loop-i

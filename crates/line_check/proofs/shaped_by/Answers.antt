@@ -1,6 +1,5 @@
 -- `line_check::shaped_by` meets its contract. Assumes nothing.
 use Rattle.rules.specs.Lines.{shaped_by}
-use borrow.Author.Rules.{rules}
 use Rattle.line_check.proofs.shaped_by.Goals as goal
 
 pub returns : goal.returns

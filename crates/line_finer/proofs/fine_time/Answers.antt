@@ -1,6 +1,5 @@
 -- `line_finer::fine_time` meets its contract. Assumes nothing.
 use native.Mathlib.Omega.{arith}
-use borrow.Author.Rules.{rules}
 use Rattle.line_finer.proofs.Laws.{time_few, time_made}
 use Rattle.line_finer.proofs.fine_time.Goals as goal
 

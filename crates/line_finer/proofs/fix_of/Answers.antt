@@ -1,6 +1,5 @@
 -- `line_finer::fix_of` meets its contract. Assumes nothing.
 use native.Mathlib.Omega.{arith}
-use borrow.Author.Rules.{rules}
 use Rattle.line_finer.proofs.Laws.{fix_made_of}
 use Rattle.line_finer.proofs.fix_of.Goals as goal
 

@@ -1,5 +1,4 @@
 -- `line_finer::refined` meets its contract: a count of at most 10,800,000 with four digits more does not wrap. Assumes nothing.
-use borrow.Author.Rules.{rules}
 use native.Mathlib.Omega.{arith}
 use Rattle.line_finer.proofs.Laws.{power_of_lem, digits_few, taken_few, refined_is}
 use Rattle.line_finer.proofs.refined.Goals as goal

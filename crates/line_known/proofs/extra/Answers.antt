@@ -1,16 +1,17 @@
 -- `extra` meets its contract: each way out is a way through `extra_known`, with the layout's entries or with none. Assumes nothing.
+use Rattle.std.proofs.lemmas.Result.{err_from_is_err_and}
+use Rattle.rules.specs.Refusals.{result_told}
 use mathlib.Core.Path.{refl, sym, ◌∙◌, ap}
-use borrow.Author.Rules.{rules}
-use Rattle.rules.specs.Reads.{time_read_told, extra_reading_told}
-use Rattle.line_known.proofs.Laws.{answer_is, answer_refused}
+use Rattle.rules.specs.Reads.{extra_reading_told}
+use Rattle.rules.proofs.Links.{then_ok, then_err}
 use Rattle.line_known.proofs.extra.Goals as goal
 
-pub returns-in-Secs : goal.returns-in-Secs
-unfolding time_read_told extra_reading_told
-returns-in-Secs c =
-    answer_is _ _ _ _ _ refl (ap time_read_told (sym c.in-Secs.is) ∙ c.timed.ensures) refl
+pub returns : goal.returns
+unfolding extra_reading_told
+returns c = then_ok _ _ _ _ _ c.timed.ensures c.in_ok-time.was refl
 
-pub returns-in-Refused : goal.returns-in-Refused
-unfolding time_read_told extra_reading_told
-returns-in-Refused c =
-    answer_refused _ _ _ _ _ refl (ap time_read_told (sym c.in-Refused.is) ∙ c.timed.ensures) c.empty_layout.ensures
+pub returns-in_err-time : goal.returns-in_err-time
+unfolding extra_reading_told
+returns-in_err-time c =
+    let p = err_from_is_err_and c.from_residual.result c.from_residual.ensures.1 in
+    rw (p.1, p.2) (then_err _ _ _ _ _ c.timed.ensures c.in_err-time.was refl)

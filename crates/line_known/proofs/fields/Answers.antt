@@ -1,15 +1,13 @@
 -- `fields` meets its contract: each way out is a way through `fields_known`. Assumes nothing.
-use mathlib.Core.Path.{refl}
-use borrow.Author.Rules.{rules}
-use Rattle.rules.specs.Reads.{fix_fields_told}
+use Rattle.rules.proofs.Handed.{handed_on}
 use Rattle.line_known.specs.Known.{fields_known}
-use Rattle.line_known.proofs.Laws.{kind_is, kind_is_not}
+use Rattle.line_known.proofs.Laws.{kind_ok, kind_err}
 use Rattle.line_known.proofs.fields.Goals as goal
 
-pub returns-then-byte-ne66 : goal.returns-then-byte-ne66
-unfolding fields_known fix_fields_told
-returns-then-byte-ne66 c = kind_is_not _ 66 _ _ _ _ c.byte.ensures c.if-byte-ne66.true refl
+pub returns-in_err-of_kind : goal.returns-in_err-of_kind
+unfolding fields_known
+returns-in_err-of_kind c = handed_on _ _ _ c.from_residual.ensures.1 (kind_err _ _ _ _ c.of_kind.ensures c.in_err-of_kind.was)
 
 pub returns : goal.returns
-unfolding fields_known fix_fields_told
-returns c = kind_is _ 66 _ _ _ _ c.byte.ensures c.if-byte-ne66.false c.fix_line.ensures
+unfolding fields_known
+returns c = kind_ok _ _ _ _ _ _ c.of_kind.ensures c.in_ok-of_kind.was c.fix_line.ensures

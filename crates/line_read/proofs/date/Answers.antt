@@ -1,13 +1,13 @@
 -- `line_read::date` meets its contract: each way out is a way through `date_said`. Assumes nothing.
-use borrow.Author.Rules.{rules}
-use Rattle.rules.specs.Reads.{date_said, date_read_told}
-use Rattle.line_known.proofs.Laws.{kinds}
+use Rattle.rules.specs.Reads.{date_said}
+use Rattle.rules.proofs.Handed.{handed_on}
+use Rattle.line_known.proofs.Laws.{kind_ok, kind_err}
 use Rattle.line_read.proofs.date.Goals as goal
 
-pub returns-then-byte-ne72 : goal.returns-then-byte-ne72
-unfolding date_said date_read_told
-returns-then-byte-ne72 c = search kinds depth 6
+pub returns-in_err-of_kind : goal.returns-in_err-of_kind
+unfolding date_said
+returns-in_err-of_kind c = handed_on _ _ _ c.from_residual.ensures.1 (kind_err _ _ _ _ c.of_kind.ensures c.in_err-of_kind.was)
 
 pub returns : goal.returns
-unfolding date_said date_read_told
-returns c = search kinds depth 6
+unfolding date_said
+returns c = kind_ok _ _ _ _ _ _ c.of_kind.ensures c.in_ok-of_kind.was c.date_line.ensures

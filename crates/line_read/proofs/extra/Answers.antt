@@ -1,14 +1,13 @@
 -- `line_read::extra` meets its contract: by a layout that is allowed it is what `line_known` reads. Assumes nothing.
 use mathlib.Core.Path.{refl, sym, ◌∙◌, ap}
-use borrow.Author.Rules.{rules}
 use borrow.Author.Tests.{not-true, not-false}
-use Rattle.rules.specs.Reads.{answered, time_read_told, extra_reading_told}
-use Rattle.line_known.proofs.Laws.{extra_read, extra_not_read, told_refused}
+use Rattle.rules.specs.Reads.{extra_reading_told}
+use Rattle.line_known.proofs.Laws.{extra_read, extra_not_read}
 use Rattle.line_read.proofs.extra.Goals as goal
 
 pub returns-then-not-allowed : goal.returns-then-not-allowed
-unfolding time_read_told extra_reading_told
-returns-then-not-allowed c = told_refused _ _ _ refl c.empty_layout.ensures ∙ ap answered (extra_not_read _ _ _ (sym c.allowed.ensures ∙ not-true _ c.if-not-allowed.true-raw))
+unfolding extra_reading_told
+returns-then-not-allowed c = extra_not_read _ _ _ (sym c.allowed.ensures ∙ not-true _ c.if-not-allowed.true-raw)
 
 pub returns : goal.returns
-returns c = c.extra.ensures ∙ ap answered (extra_read _ _ _ (sym c.allowed.ensures ∙ not-false _ c.if-not-allowed.false-raw))
+returns c = c.extra.ensures ∙ extra_read _ _ _ (sym c.allowed.ensures ∙ not-false _ c.if-not-allowed.false-raw)
