@@ -1,9 +1,10 @@
 -- One answer at most meets each promise of this crate. Assumes nothing.
+use Rattle.std.specs.Prelude.{None, Option, Some}
 use Prim.Native.Nat.{ℕ}
 use mathlib.Core.List.{List}
-use mathlib.Core.Option.{Option, none, some}
 use mathlib.Core.Path.{refl, sym, ap, ◌∙◌}
-use Rattle.rules.specs.Split.{Bounds, Stepped}
+use Rattle.rules.specs.declared.Bounds.{Bounds}
+use Rattle.rules.specs.Split.{Stepped}
 use Rattle.rules_only.proofs.Only.{Only, alike}
 use Rattle.rules_only.proofs.Told.{OneToOne, by_back, answer_of, refusal_back}
 use Rattle.file_cursor.specs.Steps.{step_told, LineStepped, AtFirst}
@@ -15,8 +16,8 @@ cursor_at : ℕ → Cursor
 cursor_at n = record { at = n }
 
 step_of : Option Bounds → ℕ → Step
-step_of (some b) next = step.Line b.from b.to (cursor_at next)
-step_of none next = step.Done (cursor_at next)
+step_of (Some b) next = step.Line b.from b.to (cursor_at next)
+step_of None next = step.Done (cursor_at next)
 
 found : Stepped → Step
 found s = step_of s.found s.next

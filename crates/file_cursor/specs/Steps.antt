@@ -1,6 +1,5 @@
 -- A step of the reading place, in the paper's terms.
-use Rattle.std.specs.Prelude.{ℕ, List, ◌≡◌}
-use Rattle.std.proofs.Math.Option.{none, some}
+use Rattle.std.specs.Prelude.{ℕ, List, ◌≡◌, None, Some}
 use Rattle.rules.specs.Refusals.{Said, says, refusal}
 use Rattle.rules.specs.Split.{Stepped, step_at}
 use Rattle.file_cursor.specs.declared.Cursor.{Cursor}
@@ -9,8 +8,8 @@ use Rattle.file_cursor.specs.declared.Step.TheVariants as step
 
 -- what a step finds, in the paper's terms
 unfoldable pub step_told : Step → Said Stepped
-step_told (step.Line a e next) = says (record { found = some (record { from = a; to = e }); next = next.at })
-step_told (step.Done next) = says (record { found = none; next = next.at })
+step_told (step.Line a e next) = says (record { found = Some (record { from = a; to = e }); next = next.at })
+step_told (step.Done next) = says (record { found = None; next = next.at })
 step_told (step.Refused r) = refusal r
 
 -- "A reading place over the lines goes in by value and comes back at each step with the next line, or with the news that none is left"

@@ -4,10 +4,10 @@
 ghost use Rattle.file_cursor.specs.Steps.{LineStepped, AtFirst};
 
 use file_lines::{crlf_from, unplaced};
-use rules::{Found, Reason, Refusal};
+use rules::{Reason, Refusal};
 
 // A reading place over the lines of a file: how many bytes stand before it.
-#[derive(Clone, Copy)]
+#[derive(Clone, Copy, Debug, PartialEq, Eq)]
 pub struct Cursor {
     pub at: usize,
 }
@@ -35,6 +35,7 @@ impl Cursor {
     }
 
     // The next line, with the place after it, or that none is left. Refused with 17 where the place is past the end, or bytes remain and no CR LF comes after it.
+    #[tactic(auto, using(rules::proofs::Links::fields, file_lines::proofs::Places::refuses_unplaced, file_lines::proofs::Places::found_fits), unfolding(rules::specs::Split::step_at, crate::specs::Steps::step_told))]
     pub fn step(self, file: &[u8]) -> Step
         ensures { LineStepped file.now self.at result }
     {
@@ -47,7 +48,7 @@ impl Cursor {
                 next: Cursor { at },
             };
         }
-        let Found::At(end) = crlf_from(file, at) else {
+        let Some(end) = crlf_from(file, at) else {
             return Step::Refused(unplaced(Reason::BadValue));
         };
         Step::Line {

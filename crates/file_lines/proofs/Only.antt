@@ -2,8 +2,7 @@
 use Prim.Native.Nat.{ℕ}
 use mathlib.Core.List.{List}
 use Rattle.rules.specs.declared.Reason.{Reason}
-use Rattle.rules_only.proofs.Only.{Only, same, alike}
-use Rattle.rules_only.proofs.Told.{found_one}
+use Rattle.rules_only.proofs.Only.{Only, same}
 use Rattle.file_lines.specs.Ends.{UnplacedGiven, LineEnded, FirstFound}
 
 pub only_unplaced_given : (reason : Reason) → Only (UnplacedGiven reason)
@@ -13,4 +12,4 @@ pub only_line_ended : (file : List ℕ) (from : ℕ) → Only (LineEnded file fr
 only_line_ended file from = same
 
 pub only_first_found : (file : List ℕ) (at : ℕ) → Only (FirstFound file at)
-only_first_found file at = alike found_one
+only_first_found file at = same

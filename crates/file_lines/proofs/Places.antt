@@ -1,8 +1,8 @@
 -- Laws of the places in a file where CR LF stands and where a line ends, a byte at a time: what the scans of a file use. Assumes nothing.
+use Rattle.std.specs.Prelude.{Err, None, Ok, Option, Result, Some}
 use Prim.Native.Nat.{ℕ, zero, suc, ◌+◌, ◌-◌, ◌*◌, ◌^◌, ◌≤◌, ◌<◌}
 use mathlib.Core.Bool.{Bool, true, false, cond}
 use mathlib.Core.List.{List, [], ◌∷◌}
-use mathlib.Core.Option.{Option, none, some}
 use mathlib.Core.Path.{◌≡◌, refl, ap, ◌∙◌}
 use native.Mathlib.Nat.{add-zero}
 use native.Mathlib.Omega.{arith}
@@ -13,16 +13,12 @@ use lib.Seq.{get_or-take, get_or-drop}
 use mir.Syntax.{w64}
 use mir.Val.{Fits}
 use Rattle.rules.specs.Choice.{given, on, part}
-use Rattle.rules.specs.Promises.{found_told}
-use Rattle.rules.specs.Refusals.{Said, says, refuses, no, refusal}
-use Rattle.rules.specs.Split.{Lines, end, broken, line, text, lines_of, after_cr, begins_crlf, first_crlf, Bounds, is_start, bounds_of, line_text, line_told}
-use Rattle.rules.specs.declared.LineRead.{LineRead}
-use Rattle.rules.specs.declared.LineRead.TheVariants as line_read
+use Rattle.rules.specs.Refusals.{Said, says, refuses, no, refusal, result_told}
+use Rattle.rules.specs.declared.Bounds.{Bounds}
+use Rattle.rules.specs.Split.{Lines, end, broken, line, text, lines_of, after_cr, begins_crlf, first_crlf, is_start, bounds_of, line_text}
 use Rattle.rules.specs.declared.Reason.{Reason}
 use Rattle.rules.specs.declared.Reason.TheVariants.{BadValue}
 use Rattle.rules.specs.declared.Refusal.{Refusal}
-use Rattle.rules.specs.declared.Found.{Found}
-use Rattle.rules.specs.declared.Found.TheVariants as found
 use Rattle.rules_laws.proofs.Chains.{by_cond, by_need}
 use Rattle.rules_laws.proofs.LineEnds.{rest}
 use Rattle.file_lines.specs.Ends.{ended_at, unplaced, is_inside}
@@ -31,7 +27,7 @@ use Rattle.file_lines.specs.declared.scan.Ended.TheVariants as ended
 -- ---- the first CR LF from a place on
 
 module _ (f : List ℕ) (i : ℕ) where
-  pub first_here : i < length f → begins_crlf (drop i f) ≡ true → some i ≡ first_crlf i (drop i f)
+  pub first_here : i < length f → begins_crlf (drop i f) ≡ true → Some i ≡ first_crlf i (drop i f)
   unfolding first_crlf
   first_here h e = let e' = rw rest at e in rw (rest f i h, e')
 
@@ -39,7 +35,7 @@ module _ (f : List ℕ) (i : ℕ) where
   unfolding first_crlf
   first_next h e = let e' = rw rest at e in rw (rest f i h, e')
 
-  pub first_none : length f ≤ i → none ≡ first_crlf i (drop i f)
+  pub first_none : length f ≤ i → None ≡ first_crlf i (drop i f)
   unfolding first_crlf
   first_none h = rw (drop_of_length-le f h)
 
@@ -126,12 +122,12 @@ module _ (f : List ℕ) (i : ℕ) (h : i ≤ length f) (g : 8 ≤ length f - i) 
 -- ---- the first CR LF lies in the file, and so does a line
 
 abbrev Within : ℕ → ℕ → Option ℕ → Type 0
-Within at size (some e) = (at ≤ e) × (e < at + size)
-Within at size none = Unit {0}
+Within at size (Some e) = (at ≤ e) × (e < at + size)
+Within at size None = Unit {0}
 
 within_more : (at size : ℕ) (x : Option ℕ) → Within (at + 1) size x → Within at (suc size) x
-within_more at size (some e) h = (omega arith, omega arith)
-within_more at size none h = tt
+within_more at size (Some e) h = (omega arith, omega arith)
+within_more at size None h = tt
 
 within : (at : ℕ) (l : List ℕ) → Within at (length l) (first_crlf at l)
 unfolding first_crlf
@@ -140,10 +136,9 @@ within at (b ∷ l) =
     by_cond (Within at (suc (length l))) (begins_crlf (b ∷ l)) _ _ (omega arith, omega arith) (within_more at (length l) (first_crlf (at + 1) l) (within (at + 1) l))
 
 -- what is found at e, from a place on, stands in the file
-module _ (f : List ℕ) (at e : ℕ) (r : Found) (q : found_told r ≡ first_crlf at (drop at f)) (g : r ≡ found.At e) where
+module _ (f : List ℕ) (at e : ℕ) (r : Option ℕ) (q : r ≡ first_crlf at (drop at f)) (g : r ≡ Some e) where
   found_by : (at ≤ e) × (e < at + length (drop at f))
-  unfolding found_told
-  found_by = let w : first_crlf at (drop at f) ≡ some e = rw (← q, g) in rw w at (within at (drop at f))
+  found_by = let w : first_crlf at (drop at f) ≡ Some e = rw (← q, g) in rw w at (within at (drop at f))
 
   pub found_fits : length f * 1 < 2 ^ 63 → Fits w64 (e + 2)
   found_fits h = omega (arith, found_by, length-drop at f)
@@ -153,8 +148,8 @@ Lies f (says b) = (b.from ≤ b.to) × (b.to ≤ length f)
 Lies f (refuses n l b) = Unit {0}
 
 lies_by : (f : List ℕ) (o : ℕ) (x : Option ℕ) → Within o (length (drop o f)) x → Lies f (given x (no BadValue 0) λ e. says (record { from = o; to = e }))
-lies_by f o (some e) h = (h.0, omega (arith, h.0, h.1, length-drop o f))
-lies_by f o none h = tt
+lies_by f o (Some e) h = (h.0, omega (arith, h.0, h.1, length-drop o f))
+lies_by f o None h = tt
 
 lies : (f table : List ℕ) (n : ℕ) → Lies f (bounds_of f table n)
 unfolding bounds_of on
@@ -165,24 +160,24 @@ lies f table n =
     (lies_by f (get_or table (n - 1) 0) (first_crlf (get_or table (n - 1) 0) (drop (get_or table (n - 1) 0) f)) (within _ _))))
 
 -- the bounds that were answered lie in the file
-module _ (f table : List ℕ) (n a e : ℕ) (r : LineRead) (q : line_told r ≡ bounds_of f table n) (g : r ≡ line_read.Part a e) where
-  answered : bounds_of f table n ≡ says (record { from = a; to = e })
-  unfolding line_told
+module _ (f table : List ℕ) (n : ℕ) (b : Bounds) (r : Result Bounds Refusal) (q : result_told r ≡ bounds_of f table n) (g : r ≡ Ok b) where
+  answered : bounds_of f table n ≡ says b
+  unfolding result_told
   answered = rw (← q, g)
 
-  pub bounds_order : a ≤ e
+  pub bounds_order : b.from ≤ b.to
   bounds_order = (rw answered at (lies f table n)).0
 
-  pub bounds_end : e ≤ length f
+  pub bounds_end : b.to ≤ length f
   bounds_end = (rw answered at (lies f table n)).1
 
-  pub line_is : line_text f (bounds_of f table n) ≡ part a e f
+  pub line_is : line_text f (bounds_of f table n) ≡ part b.from b.to f
   unfolding line_text
   line_is = rw answered
 
 -- a refused line has no bytes
-pub no_line : (f table : List ℕ) (n : ℕ) (r : LineRead) (w : Refusal) → line_told r ≡ bounds_of f table n → r ≡ line_read.Refused w → line_text f (bounds_of f table n) ≡ []
-unfolding line_told line_text
+pub no_line : (f table : List ℕ) (n : ℕ) (r : Result Bounds Refusal) (w : Refusal) → result_told r ≡ bounds_of f table n → r ≡ Err w → line_text f (bounds_of f table n) ≡ []
+unfolding result_told line_text
 no_line f table n r w q g = rw (← q, g)
 
 -- ---- a refusal with no line and no byte

@@ -1,8 +1,6 @@
 -- Where the first CR LF stands and where a line ends; and a refusal with no place.
-use Rattle.std.specs.Prelude.{ℕ, ◌+◌, ◌≤◌, ◌<◌, Bool, true, not, ◌&&◌, List, ◌≡◌, eqb, length, get_or, drop}
-use Rattle.rules.specs.Promises.{found_told}
+use Rattle.std.specs.Prelude.{ℕ, ◌+◌, ◌≤◌, ◌<◌, Bool, true, not, ◌&&◌, List, ◌≡◌, eqb, length, get_or, drop, Option}
 use Rattle.rules.specs.Split.{Lines, end, broken, line, lines_of, first_crlf}
-use Rattle.rules.specs.declared.Found.{Found}
 use Rattle.rules.specs.declared.Reason.{Reason}
 use Rattle.rules.specs.declared.Refusal.{Refusal}
 use Rattle.file_lines.specs.declared.scan.Ended.{Ended}
@@ -26,8 +24,8 @@ abbrev pub LineEnded : List ℕ → ℕ → Ended → Type 0
 LineEnded file from r = r ≡ ended_at from (lines_of (drop from file))
 
 -- how many bytes stand before the first CR LF from a place on
-abbrev pub FirstFound : List ℕ → ℕ → Found → Type 0
-FirstFound file at r = found_told r ≡ first_crlf at (drop at file)
+abbrev pub FirstFound : List ℕ → ℕ → Option ℕ → Type 0
+FirstFound file at r = r ≡ first_crlf at (drop at file)
 
 -- a byte that is neither CR nor LF
 unfoldable pub is_inside : ℕ → Bool

@@ -13,8 +13,8 @@ slice_bounds-result-start c = search (bounds_order, rules)
 pub slice_bounds-result-end : goal.slice_bounds-result-end
 slice_bounds-result-end c = search (bounds_end, rules)
 
-pub returns-in-Part : goal.returns-in-Part
-returns-in-Part c = sym (line_is _ _ _ _ _ _ c.bounds.ensures c.in-Part.is)
+pub returns-in-Ok : goal.returns-in-Ok
+returns-in-Ok c = sym (line_is _ _ _ _ _ c.bounds.ensures c.in-Ok.is)
 
-pub returns-in-Refused : goal.returns-in-Refused
-returns-in-Refused c = sym (no_line _ _ _ _ _ c.bounds.ensures c.in-Refused.is)
+pub returns-in-Err : goal.returns-in-Err
+returns-in-Err c = sym (no_line _ _ _ _ _ c.bounds.ensures c.in-Err.is)

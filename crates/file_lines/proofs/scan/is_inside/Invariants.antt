@@ -1,17 +1,10 @@
 -- `file_lines::scan::is_inside` meets its contract: where it holds so far, none of the bytes so far is CR or LF. Assumes nothing.
-use Prim.Native.Nat.{ℕ, ◌-◌, ◌<◌}
+use Prim.Native.Nat.{ℕ, ◌<◌}
 use mathlib.Core.Bool.{true}
-use mathlib.Core.Path.{◌≡◌, sym, ◌∙◌}
-use native.Mathlib.Omega.{arith}
-use borrow.Author.Rules.{rules}
+use mathlib.Core.Path.{◌≡◌}
 use lib.ListN.{get_or}
-use Rattle.rules.proofs.Inverse.{and_inv}
 use Rattle.file_lines.specs.Ends.{is_inside}
-use Rattle.file_lines.proofs.Places.{inside_more}
 use Rattle.file_lines.proofs.scan.is_inside.Given as goal
 
 abbrev pub invariant-loop-i : goal.invariant-loop-i
 invariant-loop-i l = l.ok ≡ true → (k : ℕ) → k < l.i → is_inside (get_or l.eight k 0) ≡ true
-
-abbrev pub decreases-loop-i : goal.decreases-loop-i
-decreases-loop-i l = 8 - l.i

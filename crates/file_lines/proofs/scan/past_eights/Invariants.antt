@@ -1,13 +1,9 @@
 -- `file_lines::scan::past_eights` meets its contract: how the line ends from here on is the whole answer. Assumes nothing.
-use Prim.Native.Nat.{ℕ, ◌+◌, ◌-◌, ◌≤◌}
-use mathlib.Core.Path.{◌≡◌, sym, ◌∙◌}
-use native.Mathlib.Omega.{arith}
-use borrow.Author.Rules.{rules}
-use borrow.Author.Tests.{not-false}
+use Prim.Native.Nat.{◌-◌, ◌≤◌}
+use mathlib.Core.Path.{◌≡◌}
 use lib.ListN.{length, drop}
 use Rattle.rules.specs.Split.{lines_of}
 use Rattle.file_lines.specs.Ends.{ended_at}
-use Rattle.file_lines.proofs.Places.{part_eight, past_part}
 use Rattle.file_lines.proofs.scan.past_eights.Given as goal
 
 abbrev pub invariant-loop-i : goal.invariant-loop-i
