@@ -1,4 +1,5 @@
 -- What holds at each turn of a run: the lines so far are passed, and the pace has the numbers after them. Assumes nothing.
+use Rattle.std.specs.Prelude.{Option, Some}
 use Prim.Native.Nat.{ℕ, ◌+◌, ◌*◌, ◌≤◌, ◌<◌}
 use mathlib.Core.Bool.{Bool, true}
 use mathlib.Core.List.{List, [], ◌∷◌}
@@ -12,17 +13,14 @@ use Rattle.rules.specs.Layouts.{allowed, entries_of}
 use Rattle.rules.specs.declared.Entry.{Entry}
 use Rattle.rules.specs.declared.Layout.{Layout}
 use Rattle.rules.specs.Roles.{after_h, in_body}
-use Rattle.rules.specs.declared.Seal.{Seal}
 use Rattle.rules.specs.declared.State.{State}
 use Rattle.rules.proofs.Inverse.{and_inv}
-use Rattle.check_table.specs.Turns.{entry, EntryPut, Here}
+use Rattle.check_table.specs.Turns.{entry, EntryPut}
 use Rattle.check_table.proofs.Counts.{lines_counted}
 use Rattle.check_table.proofs.Turns.{put_so, put_fits, put_long, here_next}
 use Rattle.check_sure.specs.Sure.{pattern_of}
 use Rattle.check_clock.specs.declared.Pace.{Pace}
-use Rattle.check_clock.specs.declared.Taken.{Taken}
-use Rattle.check_clock.specs.declared.Taken.TheVariants as taken
-use Rattle.check_ahead.specs.Paces.{paced, Going, Takes, TakenAs}
+use Rattle.check_ahead.specs.Paces.{paced, Takes, TakenAs}
 use Rattle.check_ahead.specs.Runs.{Ran, Running}
 use Rattle.check_ahead.specs.declared.Ahead.{Ahead}
 
@@ -30,7 +28,7 @@ use Rattle.check_ahead.specs.declared.Ahead.{Ahead}
 abbrev pub pace_of : ℕ → State → Pace
 pace_of at st = record { at = at; stage = st.stage; clock = st.clock; lines = st.flight.lines; counts = st.flight.counts }
 
-pub taken_is : {file : List ℕ} {st : State} {p q : Pace} (r : Taken) → TakenAs file st p r → r ≡ taken.Next q → Takes file st p q
+pub taken_is : {file : List ℕ} {st : State} {p q : Pace} (r : Option Pace) → TakenAs file st p r → r ≡ Some q → Takes file st p q
 taken_is r t e = rw e at t
 
 -- ---- the loop's invariant

@@ -1,11 +1,11 @@
 -- A run of lines that are held against their places: each of them is passed. Assumes nothing.
-use Prim.Native.Nat.{ℕ, ◌+◌, ◌-◌, ◌*◌, ◌≤◌}
-use mathlib.Core.Bool.{Bool, true, false, not, cond, ◌&&◌}
-use mathlib.Core.List.{List, [], ◌∷◌}
-use mathlib.Core.Path.{◌≡◌, refl, sym, ap, ◌∙◌}
+use Prim.Native.Nat.{ℕ, ◌+◌, ◌≤◌}
+use mathlib.Core.Bool.{Bool, true, false, not, cond}
+use mathlib.Core.List.{List}
+use mathlib.Core.Path.{◌≡◌, refl, ap, ◌∙◌}
 use native.Mathlib.Omega.{arith}
 use lib.Dec.{leb}
-use lib.ListN.{length, take, drop, length-take}
+use lib.ListN.{length, drop, length-take}
 use Rattle.rules.specs.Families.{first_start, layout_of}
 use Rattle.rules.specs.Layouts.{allowed, all_placed, entries_of, empty_layout}
 use Rattle.rules.specs.Order.{passing, is_back}
@@ -22,13 +22,13 @@ use Rattle.check_table.specs.Turns.{EntryPut}
 use Rattle.check_table.proofs.Turns.{put_so, put_long}
 use Rattle.check_sure.specs.Sure.{pattern_of}
 use Rattle.check_state.specs.States.{Few}
-use Rattle.check_places.specs.Places.{low_marks, span_marks, other_marks, fix_lows, fix_spans, fix_others, extra_lows, extra_spans, end_of, FixPlaces, ExtraPlaces}
+use Rattle.check_places.specs.Places.{end_of, FixPlaces, ExtraPlaces}
 use Rattle.check_places.specs.declared.Places.{Places}
-use Rattle.check_places.proofs.Good.{Good, laid_long, good_fix_lem, good_extra_lem, line_ends}
+use Rattle.check_places.proofs.Good.{Good, good_fix_lem, good_extra_lem, line_ends}
 use Rattle.check_clock.specs.declared.Pace.{Pace}
-use Rattle.check_ahead.specs.Paces.{paced, Going, Known}
+use Rattle.check_ahead.specs.Paces.{paced, Known}
 use Rattle.check_ahead.specs.Runs.{Running}
-use Rattle.check_ahead.specs.Strides.{Reaches, FixLaid, ExtraLaid, Long, FixKept, ExtraKept, LineTimed, Ready, Strode}
+use Rattle.check_ahead.specs.Strides.{Reaches, FixLaid, ExtraLaid, FixKept, ExtraKept, LineTimed, Ready, Strode}
 use Rattle.check_ahead.proofs.Lines.{good_taken}
 use Rattle.check_ahead.proofs.Runs.{count_most, pattern_long, running_first, running_next, running_on}
 
@@ -149,14 +149,6 @@ fixes_laid pattern r e = record { low = ap (λ (x : Places). x.low) e; span = ap
 
 pub extras_laid : (pattern : List ℕ) (r : Places) → ExtraPlaces pattern r → ExtraLaid pattern r.low r.span r.other
 extras_laid pattern r e = record { low = ap (λ (x : Places). x.low) e; span = ap (λ (x : Places). x.span) e; other = ap (λ (x : Places). x.other) e }
-
-pub fix_long : {pattern a s o : List ℕ} → FixLaid pattern a s o → Long a s o
-fix_long {pattern} q =
-    record { low = rw q.low (laid_long fix_lows low_marks pattern); span = rw q.span (laid_long fix_spans span_marks pattern); other = rw q.other (laid_long fix_others other_marks pattern) }
-
-pub extra_long : {pattern a s o : List ℕ} → ExtraLaid pattern a s o → Long a s o
-extra_long {pattern} q =
-    record { low = rw q.low (laid_long extra_lows low_marks pattern); span = rw q.span (laid_long extra_spans span_marks pattern); other = rw q.other (laid_long extra_lows other_marks pattern) }
 
 module _ {lent : Bool} {file table₀ table : List ℕ} {from : ℕ} {st : State} {p : Pace} (g : Running lent file table₀ from st table p) where
   module _ {fixes extras low span other : List ℕ} {b : ℕ} {low' span' other' : List ℕ} {k : ℕ} (known : Known family.B st b fixes) (known' : Known (family.Extra extra.K) st k extras)

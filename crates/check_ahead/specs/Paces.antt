@@ -1,5 +1,5 @@
 -- A line taken by the numbers that it moves.
-use Rattle.std.specs.Prelude.{ℕ, ◌≤◌, true, List, ◌≡◌, length, get_or}
+use Rattle.std.specs.Prelude.{ℕ, ◌≤◌, true, List, ◌≡◌, length, get_or, None, Option, Some}
 use Rattle.rules.specs.Families.{first_start, line_letter, layout_of}
 use Rattle.rules.specs.Roles.{after_h, in_body}
 use Rattle.rules.specs.Layouts.{allowed, line_length, entries_of}
@@ -13,8 +13,6 @@ use Rattle.check_table.specs.Turns.{Passed}
 use Rattle.byte_sweep.specs.Plain.{is_mild, every}
 use Rattle.check_sure.specs.Sure.{pattern_of}
 use Rattle.check_clock.specs.declared.Pace.{Pace}
-use Rattle.check_clock.specs.declared.Taken.{Taken}
-use Rattle.check_clock.specs.declared.Taken.TheVariants as taken
 
 -- the state with the numbers of a pace
 abbrev pub paced : State → Pace → State
@@ -46,22 +44,22 @@ pub record Judges (l : List ℕ) (st : State) (p : Pace) (next : ℕ) (q : Pace)
   pub at : q.at ≡ next
   pub stage : q.stage ≡ in_body
 
-abbrev pub JudgedAs : List ℕ → State → Pace → ℕ → Taken → Type 0
-JudgedAs l st p next (taken.Next q) = Judges l st p next q
-JudgedAs l st p next taken.Unsure = Unit {0}
+abbrev pub JudgedAs : List ℕ → State → Pace → ℕ → Option Pace → Type 0
+JudgedAs l st p next (Some q) = Judges l st p next q
+JudgedAs l st p next None = Unit {0}
 
 -- the same, and the line's bytes are all mild
-abbrev pub MildAs : List ℕ → State → Pace → ℕ → Taken → Type 0
-MildAs l st p next (taken.Next q) = Judges l st p next q × (every is_mild l ≡ true)
-MildAs l st p next taken.Unsure = Unit {0}
+abbrev pub MildAs : List ℕ → State → Pace → ℕ → Option Pace → Type 0
+MildAs l st p next (Some q) = Judges l st p next q × (every is_mild l ≡ true)
+MildAs l st p next None = Unit {0}
 
 -- a line of a family, wherever it may come and its columns are known
-abbrev pub ColumnedTold : Family → List ℕ → ℕ → List ℕ → Pace → ℕ → Taken → Type 0
+abbrev pub ColumnedTold : Family → List ℕ → ℕ → List ℕ → Pace → ℕ → Option Pace → Type 0
 ColumnedTold f l size pattern p next r =
     (st : State) → Going st p → Known f st size pattern → get_or l 0 0 ≡ line_letter f → 1 ≤ length l → MildAs l st p next r
 
 -- any other line, wherever it may come
-abbrev pub OtherTold : ℕ → List ℕ → Pace → ℕ → Taken → Type 0
+abbrev pub OtherTold : ℕ → List ℕ → Pace → ℕ → Option Pace → Type 0
 OtherTold letter l p next r = (st : State) → Going st p → get_or l 0 0 ≡ letter → 1 ≤ length l → JudgedAs l st p next r
 
 -- the line behind the pace's bytes is passed
@@ -69,16 +67,16 @@ pub record Takes (file : List ℕ) (st : State) (p q : Pace) : Type 0 where
   pub passed : Passed file p.at (paced st p) q.at (paced st q)
   pub stage : q.stage ≡ in_body
 
-abbrev pub TakenAs : List ℕ → State → Pace → Taken → Type 0
-TakenAs file st p (taken.Next q) = Takes file st p q
-TakenAs file st p taken.Unsure = Unit {0}
+abbrev pub TakenAs : List ℕ → State → Pace → Option Pace → Type 0
+TakenAs file st p (Some q) = Takes file st p q
+TakenAs file st p None = Unit {0}
 
-abbrev pub FamilyTaken : Family → List ℕ → Pace → ℕ → List ℕ → Taken → Type 0
+abbrev pub FamilyTaken : Family → List ℕ → Pace → ℕ → List ℕ → Option Pace → Type 0
 FamilyTaken f file p size pattern r = (st : State) → Going st p → Known f st size pattern → TakenAs file st p r
 
-abbrev pub OtherTaken : List ℕ → Pace → Taken → Type 0
+abbrev pub OtherTaken : List ℕ → Pace → Option Pace → Type 0
 OtherTaken file p r = (st : State) → Going st p → TakenAs file st p r
 
-abbrev pub LineTaken : List ℕ → Pace → ℕ → List ℕ → ℕ → List ℕ → ℕ → List ℕ → Taken → Type 0
+abbrev pub LineTaken : List ℕ → Pace → ℕ → List ℕ → ℕ → List ℕ → ℕ → List ℕ → Option Pace → Type 0
 LineTaken file p b fixes k extras n unsigned r =
     (st : State) → Going st p → Known family.B st b fixes → Known (family.Extra extra.K) st k extras → Known (family.Extra extra.N) st n unsigned → TakenAs file st p r

@@ -31,11 +31,6 @@ pub record ExtraLaid (pattern a s o : List ℕ) : Type 0 where
   pub span : s ≡ laid extra_spans span_marks pattern
   pub other : o ≡ laid extra_lows other_marks pattern
 
-pub record Long (a s o : List ℕ) : Type 0 where
-  pub low : length a ≡ 112
-  pub span : length s ≡ 112
-  pub other : length o ≡ 112
-
 -- each byte of a line that is `size` bytes long, and of CR LF, may stand at its place
 pub record KeptTo (size : ℕ) (low span other l : List ℕ) : Type 0 where
   pub n : ℕ

@@ -15,8 +15,10 @@ ghost use Rattle.check_ahead.specs.Paces.{paced, Known};
 ghost use Rattle.check_ahead.specs.Runs.{MayRun, AllAllowed, Gauged, Ran};
 ghost use Rattle.check_ahead.specs.Strides.{Reaches, FixLaid, ExtraLaid};
 
-use check_clock::{Pace, Taken};
-use rules::{Extra, Family, Layout, State};
+use check_clock::Pace;
+use check_places::Places;
+use pace::Form;
+use rules::{Extra, Family, Flight, Layout, State};
 
 // The place after a run, and the state there.
 #[derive(Clone, Copy)]
@@ -29,67 +31,71 @@ pub struct Ahead {
 fn ahead_at(p: Pace, st: State) -> Ahead
     ensures { result ≡ record { at = p.at; state = paced st p } }
 {
-    let counts = p.counts;
-    let mut flight = st.flight;
-    flight.lines = p.lines;
-    flight.counts = counts;
-    let mut state = st;
-    state.stage = p.stage;
-    state.clock = p.clock;
-    state.flight = flight;
-    Ahead { at: p.at, state }
+    let flight = Flight {
+        lines: p.lines,
+        counts: p.counts,
+        ..st.flight
+    };
+    Ahead {
+        at: p.at,
+        state: State {
+            stage: p.stage,
+            clock: p.clock,
+            flight,
+            ..st
+        },
+    }
 }
 
 // The numbers of a state, at a place.
 fn pace_of(at: usize, st: State) -> Pace
     ensures { result ≡ record { at = at; stage = st.stage; clock = st.clock; lines = st.flight.lines; counts = st.flight.counts } }
 {
-    let flight = st.flight;
-    let counts = flight.counts;
     Pace {
         at,
         stage: st.stage,
         clock: st.clock,
-        lines: flight.lines,
-        counts,
+        lines: st.flight.lines,
+        counts: st.flight.counts,
     }
 }
 
 // The lines from a place on, as far as they are surely good and the table has room: B and K lines by their places as long as they can be, then one line by its kind.
 fn run_strides(
-    low: &[u8],
-    span: &[u8],
-    other: &[u8],
-    lowest: &[u8],
-    spread: &[u8],
-    beside: &[u8],
+    fix_places: &Places,
+    extra_places: &Places,
     file: &[u8],
     lent: bool,
     table: &mut [u32],
     from: usize,
-    b: usize,
-    fixes: &[u8],
-    k: usize,
-    extras: &[u8],
-    n: usize,
-    unsigned: &[u8],
+    fixes: Form<'_>,
+    extras: Form<'_>,
+    unsigned: Form<'_>,
     st: State,
 ) -> Ahead
     requires { (from ≤ length file.now) × (length file.now ≤ 16777216) × Few st × (st.points ≡ 0) × (after_h ≤ st.stage) × (st.stage ≤ in_body)
-        × Known family.B st b fixes.now × Known (family.Extra extra.K) st k extras.now × Known (family.Extra extra.N) st n unsigned.now
-        × FixLaid fixes.now low.now span.now other.now × ExtraLaid extras.now lowest.now spread.now beside.now
-        × Reaches family.B st b × Reaches (family.Extra extra.K) st k }
+        × Known family.B st fixes.size fixes.pattern.now × Known (family.Extra extra.K) st extras.size extras.pattern.now × Known (family.Extra extra.N) st unsigned.size unsigned.pattern.now
+        × FixLaid fixes.pattern.now fix_places.now.low fix_places.now.span fix_places.now.other × ExtraLaid extras.pattern.now extra_places.now.low extra_places.now.span extra_places.now.other
+        × Reaches family.B st fixes.size × Reaches (family.Extra extra.K) st extras.size }
     ensures { Ran lent file.now table.old from st result table.new }
 {
     let mut p = pace_of(from, st);
+    // No `for`: the place jumps from line to line.
     while p.at < file.len() {
         p = placed::run_placed(
-            low, span, other, lowest, spread, beside, file, lent, table, p, b, k,
+            fix_places,
+            extra_places,
+            file,
+            lent,
+            table,
+            p,
+            fixes.size,
+            extras.size,
         );
         if file.len() <= p.at {
             return ahead_at(p, st);
         }
-        let Taken::Next(next) = pace::take_line(file, p, b, fixes, k, extras, n, unsigned) else {
+        let Some(next) = pace::take_line(file, p, fixes, extras, unsigned) else {
             return ahead_at(p, st);
         };
         if !check_table::put_entry(lent, table, p.lines, p.at as u32) {
@@ -106,29 +112,28 @@ fn run_lines(
     lent: bool,
     table: &mut [u32],
     from: usize,
-    b: usize,
-    fixes: &[u8],
-    k: usize,
-    extras: &[u8],
-    n: usize,
-    unsigned: &[u8],
+    fixes: Form<'_>,
+    extras: Form<'_>,
+    unsigned: Form<'_>,
     st: State,
 ) -> Ahead
     requires { (from ≤ length file.now) × (length file.now ≤ 16777216) × Few st × (st.points ≡ 0) × (after_h ≤ st.stage) × (st.stage ≤ in_body)
-        × Known family.B st b fixes.now × Known (family.Extra extra.K) st k extras.now × Known (family.Extra extra.N) st n unsigned.now }
+        × Known family.B st fixes.size fixes.pattern.now × Known (family.Extra extra.K) st extras.size extras.pattern.now × Known (family.Extra extra.N) st unsigned.size unsigned.pattern.now }
     ensures { Ran lent file.now table.old from st result table.new }
 {
-    let fix_places = check_places::fix_places(fixes);
-    let extra_places = check_places::extra_places(extras);
-    let low = fix_places.low;
-    let span = fix_places.span;
-    let other = fix_places.other;
-    let lowest = extra_places.low;
-    let spread = extra_places.span;
-    let beside = extra_places.other;
+    let fix_places = check_places::fix_places(fixes.pattern);
+    let extra_places = check_places::extra_places(extras.pattern);
     run_strides(
-        &low, &span, &other, &lowest, &spread, &beside, file, lent, table, from, b, fixes, k,
-        extras, n, unsigned, st,
+        &fix_places,
+        &extra_places,
+        file,
+        lent,
+        table,
+        from,
+        fixes,
+        extras,
+        unsigned,
+        st,
     )
 }
 
@@ -136,19 +141,12 @@ fn run_lines(
 fn may_run(file: &[u8], from: usize, st: State) -> bool
     ensures { result ≡ true → MayRun file.now from st }
 {
-    if st.points != 0 {
-        return false;
-    }
-    if st.stage < line_order::AFTER_H {
-        return false;
-    }
-    if line_order::IN_BODY < st.stage {
-        return false;
-    }
-    if 16777216 < file.len() {
-        return false;
-    }
-    if file.len() < from {
+    if st.points != 0
+        || st.stage < line_order::AFTER_H
+        || line_order::IN_BODY < st.stage
+        || 16777216 < file.len()
+        || file.len() < from
+    {
         return false;
     }
     check_state::has_few(st)
@@ -158,18 +156,10 @@ fn may_run(file: &[u8], from: usize, st: State) -> bool
 fn are_allowed(st: State) -> bool
     ensures { result ≡ true → AllAllowed st }
 {
-    let flight = st.flight;
-    let layouts = flight.layouts;
-    let fixes = layouts.b;
-    let extras = layouts.k;
-    let unsigned = layouts.n;
-    if !layout::allowed(Family::B, fixes) {
-        return false;
-    }
-    if !layout::allowed(Family::Extra(Extra::K), extras) {
-        return false;
-    }
-    layout::allowed(Family::Extra(Extra::N), unsigned)
+    let layouts = st.flight.layouts;
+    layout::allowed(Family::B, layouts.b)
+        && layout::allowed(Family::Extra(Extra::K), layouts.k)
+        && layout::allowed(Family::Extra(Extra::N), layouts.n)
 }
 
 // What a run knows of the lines of a family: their length, and the pattern of their columns, in the first `end` bytes.
@@ -196,37 +186,28 @@ fn run_known(
     lent: bool,
     table: &mut [u32],
     from: usize,
-    fixes: Gauge,
-    extras: Gauge,
-    unsigned: Gauge,
+    fix_gauge: Gauge,
+    extra_gauge: Gauge,
+    unsigned_gauge: Gauge,
     st: State,
 ) -> Ahead
-    requires { MayRun file.now from st × AllAllowed st × Gauged family.B st.flight.layouts.b fixes
-        × Gauged (family.Extra extra.K) st.flight.layouts.k extras × Gauged (family.Extra extra.N) st.flight.layouts.n unsigned }
+    requires { MayRun file.now from st × AllAllowed st × Gauged family.B st.flight.layouts.b fix_gauge
+        × Gauged (family.Extra extra.K) st.flight.layouts.k extra_gauge × Gauged (family.Extra extra.N) st.flight.layouts.n unsigned_gauge }
     ensures { Ran lent file.now table.old from st result table.new }
 {
-    let b = fixes.size;
-    let in_fixes = fixes.end;
-    let fix_columns = fixes.pattern;
-    let k = extras.size;
-    let in_extras = extras.end;
-    let extra_columns = extras.pattern;
-    let n = unsigned.size;
-    let in_unsigned = unsigned.end;
-    let unsigned_columns = unsigned.pattern;
-    run_lines(
-        file,
-        lent,
-        table,
-        from,
-        b,
-        &fix_columns[..in_fixes],
-        k,
-        &extra_columns[..in_extras],
-        n,
-        &unsigned_columns[..in_unsigned],
-        st,
-    )
+    let fixes = Form {
+        size: fix_gauge.size,
+        pattern: &fix_gauge.pattern[..fix_gauge.end],
+    };
+    let extras = Form {
+        size: extra_gauge.size,
+        pattern: &extra_gauge.pattern[..extra_gauge.end],
+    };
+    let unsigned = Form {
+        size: unsigned_gauge.size,
+        pattern: &unsigned_gauge.pattern[..unsigned_gauge.end],
+    };
+    run_lines(file, lent, table, from, fixes, extras, unsigned, st)
 }
 
 // The lines from a place on where they may come, with what the layouts say of them.
@@ -234,14 +215,10 @@ fn run_body(file: &[u8], lent: bool, table: &mut [u32], from: usize, st: State) 
     requires { MayRun file.now from st × AllAllowed st }
     ensures { Ran lent file.now table.old from st result table.new }
 {
-    let flight = st.flight;
-    let layouts = flight.layouts;
-    let fixes = layouts.b;
-    let extras = layouts.k;
-    let unsigned = layouts.n;
-    let b = gauge_of(Family::B, fixes);
-    let k = gauge_of(Family::Extra(Extra::K), extras);
-    let n = gauge_of(Family::Extra(Extra::N), unsigned);
+    let layouts = st.flight.layouts;
+    let b = gauge_of(Family::B, layouts.b);
+    let k = gauge_of(Family::Extra(Extra::K), layouts.k);
+    let n = gauge_of(Family::Extra(Extra::N), layouts.n);
     run_known(file, lent, table, from, b, k, n, st)
 }
 
@@ -250,13 +227,7 @@ fn run_body(file: &[u8], lent: bool, table: &mut [u32], from: usize, st: State) 
 pub fn run_ahead(file: &[u8], lent: bool, table: &mut [u32], from: usize, st: State) -> Ahead
     ensures { Ran lent file.now table.old from st result table.new }
 {
-    if !may_run(file, from, st) {
-        return Ahead {
-            at: from,
-            state: st,
-        };
-    }
-    if !are_allowed(st) {
+    if !may_run(file, from, st) || !are_allowed(st) {
         return Ahead {
             at: from,
             state: st,

@@ -3,120 +3,90 @@ ghost use Rattle.std.specs.Prelude.{◌<◌, ◌≡◌, length, get_or};
 ghost use Rattle.rules.specs.Families.{line_letter};
 ghost use Rattle.check_ahead.specs.Paces.{ColumnedTold, OtherTold, FamilyTaken, OtherTaken, LineTaken};
 
-use check_clock::{Pace, Taken};
+use check_clock::Pace;
 use file_lines::Ended;
-use rules::{Extra, Family, Outcome, Time, TimeRead};
+use rules::{Extra, Family, Refusal};
 
-// A line of a family, by its length and the pattern of its columns.
-fn columned_line(
-    family: Family,
-    line: &[u8],
-    size: usize,
-    pattern: &[u8],
-    p: Pace,
-    next: usize,
-) -> Taken
-    ensures { ColumnedTold family line.now size pattern.now p next result }
+// The form of a family's lines: their length, and the pattern of their columns.
+#[derive(Clone, Copy)]
+pub(crate) struct Form<'a> {
+    pub size: usize,
+    pub pattern: &'a [u8],
+}
+
+// A line of a family, by the form of its lines.
+fn columned_line(family: Family, line: &[u8], form: Form<'_>, p: Pace, next: usize) -> Option<Pace>
+    ensures { ColumnedTold family line.now form.entry.size form.entry.pattern.now p next result }
 {
-    let time = check_sure::sure_line(family, line, size, pattern);
+    let time = check_sure::sure_line(family, line, form.size, form.pattern);
     check_clock::after_time(time, p, next, check_counts::one_more(family, p.counts))
 }
 
 // The line behind the pace's bytes, of a family, with its CR LF behind `size` bytes.
-fn take_columned(file: &[u8], p: Pace, family: Family, size: usize, pattern: &[u8]) -> Taken
+fn take_columned(file: &[u8], p: Pace, family: Family, form: Form<'_>) -> Option<Pace>
     requires { (p.at < length file.now) × (get_or file.now p.at 0 ≡ line_letter family) }
-    ensures { FamilyTaken family file.now p size pattern.now result }
+    ensures { FamilyTaken family file.now p form.entry.size form.entry.pattern.now result }
 {
+    let size = form.size;
     let at = p.at;
-    if size < 1 {
-        return Taken::Unsure;
-    }
     let left = file.len() - at;
-    if left < 2 {
-        return Taken::Unsure;
-    }
-    if left - 2 < size {
-        return Taken::Unsure;
+    if size < 1 || left < 2 || left - 2 < size {
+        return None;
     }
     let end = at + size;
-    if file[end] != 13 {
-        return Taken::Unsure;
+    if file[end] != 13 || file[end + 1] != 10 {
+        return None;
     }
-    if file[end + 1] != 10 {
-        return Taken::Unsure;
-    }
-    columned_line(family, &file[at..end], size, pattern, p, end + 2)
+    columned_line(family, &file[at..end], form, p, end + 2)
 }
 
 // An E, F or L line, by its first byte; any other is left to the check.
-fn other_line(letter: u8, line: &[u8], p: Pace, next: usize) -> Taken
+fn other_line(letter: u8, line: &[u8], p: Pace, next: usize) -> Option<Pace>
     ensures { OtherTold letter line.now p next result }
 {
-    if letter == b'L' {
-        if let Outcome::Refused(_) = byte_shape::shaped(line, 1, 99, false) {
-            return Taken::Unsure;
+    let time = match letter {
+        b'L' => {
+            byte_shape::shaped(line, 1, 99, false).ok()?;
+            p.clock
         }
-        return check_clock::after_time(Time::Secs(p.clock), p, next, p.counts);
-    }
-    if letter == b'E' {
-        let TimeRead::Secs(t) = line_check::event(line) else {
-            return Taken::Unsure;
-        };
-        return check_clock::after_time(Time::Secs(t), p, next, p.counts);
-    }
-    if letter == b'F' {
-        let TimeRead::Secs(t) = line_check::satellites(line) else {
-            return Taken::Unsure;
-        };
-        return check_clock::after_time(Time::Secs(t), p, next, p.counts);
-    }
-    Taken::Unsure
+        b'E' => line_check::event(line).ok()?,
+        b'F' => line_check::satellites(line).ok()?,
+        _ => return None,
+    };
+    check_clock::after_time(Some(time), p, next, p.counts)
 }
 
 // The line behind the pace's bytes, of a kind that has no columns.
-fn take_other(file: &[u8], p: Pace) -> Taken
+fn take_other(file: &[u8], p: Pace) -> Option<Pace>
     requires { p.at < length file.now }
     ensures { OtherTaken file.now p result }
 {
     let at = p.at;
     match file_lines::line_end(file, at) {
-        Ended::Broken(_) => Taken::Unsure,
-        Ended::At(end) => {
-            if end <= at {
-                return Taken::Unsure;
-            }
-            other_line(file[at], &file[at..end], p, end + 2)
-        }
+        Ended::At(end) if at < end => other_line(file[at], &file[at..end], p, end + 2),
+        _ => None,
     }
 }
 
-// The line behind the pace's bytes, by its first one: the numbers after it where it is surely good, by the lengths of B, K and N lines and the patterns of their columns.
-// Unsure for a line that is refused, and for any line that is not B, K, N, E, F or L.
+// The line behind the pace's bytes, by its first one: the numbers after it where it is surely good, by the forms of B, K and N lines.
+// None for a line that is refused, and for any line that is not B, K, N, E, F or L.
 pub(crate) fn take_line(
     file: &[u8],
     p: Pace,
-    b: usize,
-    fixes: &[u8],
-    k: usize,
-    extras: &[u8],
-    n: usize,
-    unsigned: &[u8],
-) -> Taken
-    ensures { LineTaken file.now p b fixes.now k extras.now n unsigned.now result }
+    fixes: Form<'_>,
+    extras: Form<'_>,
+    unsigned: Form<'_>,
+) -> Option<Pace>
+    ensures { LineTaken file.now p fixes.entry.size fixes.entry.pattern.now extras.entry.size extras.entry.pattern.now unsigned.entry.size unsigned.entry.pattern.now result }
 {
     let at = p.at;
     if file.len() <= at {
-        return Taken::Unsure;
+        return None;
     }
-    let letter = file[at];
-    if letter == b'B' {
-        return take_columned(file, p, Family::B, b, fixes);
+    match file[at] {
+        b'B' => take_columned(file, p, Family::B, fixes),
+        b'K' => take_columned(file, p, Family::Extra(Extra::K), extras),
+        b'N' => take_columned(file, p, Family::Extra(Extra::N), unsigned),
+        _ => take_other(file, p),
     }
-    if letter == b'K' {
-        return take_columned(file, p, Family::Extra(Extra::K), k, extras);
-    }
-    if letter == b'N' {
-        return take_columned(file, p, Family::Extra(Extra::N), n, unsigned);
-    }
-    take_other(file, p)
 }

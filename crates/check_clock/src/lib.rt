@@ -4,19 +4,14 @@
 ghost use Rattle.std.specs.Prelude.{◌≡◌};
 ghost use Rattle.check_clock.specs.Times.{BackTest, has_room, AfterTime};
 
-use rules::{Counts, Time};
+use rules::Counts;
 
 // Whether a time falls from the one before it, and not to the next day.
+#[tactic(auto, unfolding(rules::specs::Order::passing))]
 pub fn is_back(before: u32, now: u32) -> bool
     ensures { BackTest before «now» result }
 {
-    if before <= now {
-        return false;
-    }
-    if 43200 < before - now {
-        return false;
-    }
-    true
+    now < before && before - now <= 43200
 }
 
 // The numbers that a body line moves: the place of the next line, the part of the file, the last time, and the counts of lines and of each family's.
@@ -29,37 +24,26 @@ pub struct Pace {
     pub counts: Counts,
 }
 
-// The numbers after a line; or that it is not sure to be good.
-#[derive(Clone, Copy)]
-pub enum Taken {
-    Next(Pace),
-    Unsure,
-}
-
 // Whether the counts have room for one line more.
+#[tactic(auto, unfolding(crate::specs::Times::has_room))]
 fn has_room(p: Pace) -> bool
     ensures { result ≡ has_room p }
 {
-    if 33554432 < p.lines {
-        return false;
-    }
-    check_counts::are_few(p.counts)
+    p.lines <= 33554432 && check_counts::are_few(p.counts)
 }
 
 // After a line of this time, with these counts. Unsure where the counts before it have no room for one line more.
-pub fn after_time(time: Time, p: Pace, next: usize, counts: Counts) -> Taken
+pub fn after_time(time: Option<u32>, p: Pace, next: usize, counts: Counts) -> Option<Pace>
     ensures { AfterTime time p next counts result }
 {
     if !has_room(p) {
-        return Taken::Unsure;
+        return None;
     }
-    let Time::Secs(t) = time else {
-        return Taken::Unsure;
-    };
+    let t = time?;
     if is_back(p.clock, t) {
-        return Taken::Unsure;
+        return None;
     }
-    Taken::Next(Pace {
+    Some(Pace {
         at: next,
         stage: line_order::IN_BODY,
         clock: t,

@@ -6,19 +6,15 @@ ghost use Rattle.check_counts.specs.Counting.{FewCounts, OneCounted};
 use rules::{Counts, Extra, Family};
 
 // Whether the counts of each family are few.
+#[tactic(auto, unfolding(crate::specs::Counting::are_few))]
 pub fn are_few(counts: Counts) -> bool
     ensures { FewCounts counts result }
 {
-    if 16777216 < counts.b {
-        return false;
-    }
-    if 16777216 < counts.k {
-        return false;
-    }
-    counts.n <= 16777216
+    counts.b <= 16777216 && counts.k <= 16777216 && counts.n <= 16777216
 }
 
 // The counts with one line of a family more. Counts that are not few are left.
+#[tactic(auto, unfolding(crate::specs::Counting::more_of))]
 pub fn one_more(family: Family, counts: Counts) -> Counts
     ensures { OneCounted family counts result }
 {
@@ -28,20 +24,15 @@ pub fn one_more(family: Family, counts: Counts) -> Counts
     match family {
         Family::B => Counts {
             b: counts.b + 1,
-            k: counts.k,
-            n: counts.n,
+            ..counts
         },
-        Family::Extra(e) => match e {
-            Extra::K => Counts {
-                b: counts.b,
-                k: counts.k + 1,
-                n: counts.n,
-            },
-            Extra::N => Counts {
-                b: counts.b,
-                k: counts.k,
-                n: counts.n + 1,
-            },
+        Family::Extra(Extra::K) => Counts {
+            k: counts.k + 1,
+            ..counts
+        },
+        Family::Extra(Extra::N) => Counts {
+            n: counts.n + 1,
+            ..counts
         },
     }
 }

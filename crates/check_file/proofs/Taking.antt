@@ -1,19 +1,19 @@
 -- Laws of a turn: a line cut off and judged, or torn, is what the turn says of the lines. Assumes nothing.
+use Rattle.rules.specs.declared.Refusal.{Refusal}
+use Rattle.std.specs.Prelude.{Option, Result}
 use Prim.Native.Nat.{ℕ, ◌+◌, ◌-◌}
 use mathlib.Core.Bool.{true, ◌&&◌}
 use mathlib.Core.List.{List}
-use mathlib.Core.Option.{Option}
 use mathlib.Core.Path.{◌≡◌}
 use native.Mathlib.Omega.{arith}
 use borrow.Author.Tests.{le-leb, leb-true}
 use lib.Dec.{leb}
 use lib.ListN.{length, take, drop, length-drop, length-take}
 use Rattle.rules.specs.Order.{judge}
-use Rattle.rules.specs.Refusals.{Said, says, refuses, in_line, and_then, outcome_told}
+use Rattle.rules.specs.Refusals.{Said, in_line, and_then, result_told}
 use Rattle.rules.specs.Split.{lines_of}
-use Rattle.rules.specs.declared.Judged.{Judged}
-use Rattle.rules.specs.declared.Reason.TheVariants.{LineEnd}
 use Rattle.rules.specs.declared.State.{State}
+use Rattle.rules.specs.declared.Reason.TheVariants.{LineEnd}
 use Rattle.rules.proofs.Inverse.{and_inv}
 use Rattle.file_lines.proofs.Cuts.{Cut, Torn}
 use Rattle.check_state.specs.States.{Few, has_few}
@@ -21,7 +21,8 @@ use Rattle.check_state.proofs.States.{few_has, has_few_lem}
 use Rattle.check_settle.specs.Settled.{JudgedTold, RefusedAt}
 use Rattle.check_judge.specs.Lines.{judge_few}
 use Rattle.check_judge.proofs.Judging.{judge_few_lem}
-use Rattle.check_table.specs.Entering.{Reached, good_line, left_few}
+use Rattle.check_table.specs.declared.Reached.{Reached}
+use Rattle.check_table.specs.Entering.{good_line, left_few}
 use Rattle.check_table.proofs.Entering.{left_few_lem}
 use Rattle.check_file.specs.Turns.{turn_in, may_take, MayTake}
 
@@ -40,12 +41,11 @@ may_known file at st e =
 
 -- ---- a line judged, as the code has it
 
-as_judged : (n : ℕ) (x : Said State) (j : Judged) (f : State → Said Reached) → JudgedTold x j → and_then (in_line n x) f ≡ and_then (in_line n (outcome_told j.outcome)) λ _. f j.state
-as_judged n (says v) j f t = rw (t.answer, t.state)
-as_judged n (refuses k l b) j f t = rw t.answer
+as_judged : (n : ℕ) (x : Said State) (j : Result State Refusal) (f : State → Said Reached) → JudgedTold x j → and_then (in_line n x) f ≡ and_then (in_line n (result_told j)) f
+as_judged n x j f t = rw t
 
 -- a line that is cut off and judged
-pub turn_line : {file : List ℕ} {at e : ℕ} (room : Option ℕ) (st : State) → Few st → Cut file at e → (j : Judged) → JudgedTold (judge_few (take (e - at) (drop at file)) st) j
+pub turn_line : {file : List ℕ} {at e : ℕ} (room : Option ℕ) (st : State) → Few st → Cut file at e → (j : Result State Refusal) → JudgedTold (judge_few (take (e - at) (drop at file)) st) j
     → turn_in room at st (lines_of (drop at file)) ≡ left_few room j st (e + 2)
 unfolding turn_in
 turn_line {file} {at} {e} room st few k j t =
@@ -53,7 +53,7 @@ turn_line {file} {at} {e} room st few k j t =
     rw (left_few_lem room j st (e + 2) few.lines, k.lines, long) (as_judged (st.flight.lines + 1) (judge (take (e - at) (drop at file)) st) j (good_line room st (e + 2)) (rw (judge_few_lem (take (e - at) (drop at file)) st few) at t))
 
 -- one that is torn
-pub turn_torn : {file : List ℕ} {at e : ℕ} (room : Option ℕ) (st : State) → Few st → Torn file at e → (j : Judged) (next : ℕ) → RefusedAt LineEnd (e - at + 1) j
+pub turn_torn : {file : List ℕ} {at e : ℕ} (room : Option ℕ) (st : State) → Few st → Torn file at e → (j : Result State Refusal) (next : ℕ) → RefusedAt LineEnd (e - at + 1) j
     → turn_in room at st (lines_of (drop at file)) ≡ left_few room j st next
 unfolding turn_in
-turn_torn room st few k j next t = rw (left_few_lem room j st next few.lines, k.lines, t.answer)
+turn_torn room st few k j next t = rw (left_few_lem room j st next few.lines, k.lines, t)

@@ -1,8 +1,8 @@
 -- What a turn means for the rest of the file: a line passed, or a refusal of the whole file in that line. Assumes nothing.
+use Rattle.std.specs.Prelude.{Option}
 use Prim.Native.Nat.{ℕ, ◌+◌, ◌<◌}
 use mathlib.Core.Bool.{Bool, true, false}
 use mathlib.Core.List.{List}
-use mathlib.Core.Option.{Option}
 use mathlib.Core.Path.{◌≡◌, refl, ap}
 use native.Mathlib.Omega.{arith}
 use lib.ListN.{length, drop, length-drop}
@@ -18,7 +18,8 @@ use Rattle.rules_laws.proofs.Splitting.{none_left, line_at}
 use Rattle.check_state.specs.States.{in_next}
 use Rattle.check_table.specs.Turns.{Passed}
 use Rattle.check_table.proofs.Turns.{passed_count}
-use Rattle.check_table.specs.Entering.{Reached, good_line}
+use Rattle.check_table.specs.declared.Reached.{Reached}
+use Rattle.check_table.specs.Entering.{good_line}
 use Rattle.check_file.specs.Turns.{turn_in, turn_at, MayTake}
 use Rattle.check_file.proofs.Taking.{may_so}
 

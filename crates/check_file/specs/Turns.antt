@@ -1,6 +1,5 @@
 -- One turn of the check of a file: a line passed and entered in the table, or what stops the check.
-use Rattle.std.specs.Prelude.{ℕ, ◌+◌, ◌≤◌, ◌<◌, Bool, ◌&&◌, List, leb, length, drop}
-use Rattle.std.proofs.Math.Option.{Option}
+use Rattle.std.specs.Prelude.{ℕ, ◌+◌, ◌≤◌, ◌<◌, Bool, ◌&&◌, List, leb, length, drop, Option, Result}
 use Rattle.rules.specs.Choice.{need}
 use Rattle.rules.specs.Order.{judge}
 use Rattle.rules.specs.Refusals.{Said, no, refusal, in_line, and_then}
@@ -9,8 +8,9 @@ use Rattle.rules.specs.declared.Reason.TheVariants.{LineEnd, BadValue}
 use Rattle.rules.specs.declared.State.{State}
 use Rattle.check_state.specs.States.{Few, has_few, in_next}
 use Rattle.check_table.specs.Turns.{room_of}
-use Rattle.check_table.specs.Entering.{Reached, good_line, Turned}
-use Rattle.check_table.specs.declared.Turn.{Turn}
+use Rattle.check_table.specs.Entering.{good_line, Turned}
+use Rattle.check_table.specs.declared.Reached.{Reached}
+use Rattle.rules.specs.declared.Refusal.{Refusal}
 
 -- "Checks go line by line, in a line 3 to 15 in this order": the first of the lines, behind `at` bytes. Where none is left, the place is not allowed.
 unfoldable pub turn_in : Option ℕ → ℕ → State → Lines → Said Reached
@@ -32,6 +32,6 @@ pub record MayTake (file : List ℕ) (at : ℕ) (st : State) : Type 0 where
 unfoldable pub turn_at : Option ℕ → List ℕ → ℕ → State → Said Reached
 turn_at room file at st = need (may_take file at st) (no BadValue 0) λ _. turn_in room at st (lines_of (drop at file))
 
--- the turn that is said, with the entry of a good line in the table; where refused, place, state and table as they were
-abbrev pub TurnTaken : List ℕ → Bool → List ℕ → ℕ → State → Turn → List ℕ → Type 0
+-- the turn that is said, with the entry of a good line in the table; where refused, the table as it was
+abbrev pub TurnTaken : List ℕ → Bool → List ℕ → ℕ → State → Result Reached Refusal → List ℕ → Type 0
 TurnTaken file lent table at st r after = Turned (turn_at (room_of lent table) file at st) lent table at st r after

@@ -2,7 +2,7 @@
 ghost use Rattle.std.specs.Prelude.{◌≤◌, length};
 ghost use Rattle.check_file.specs.Checks.{LinesChecked};
 
-use rules::{Checked, Outcome, Seal};
+use rules::{Checked, Refusal, Seal};
 
 pub(crate) fn check_lines(seal: Seal, file: &[u8], lent: bool, table: &mut [u32]) -> Checked
     requires { (1 ≤ length file.now) × (length file.now ≤ 16777216) }
@@ -10,6 +10,7 @@ pub(crate) fn check_lines(seal: Seal, file: &[u8], lent: bool, table: &mut [u32]
 {
     let mut at: usize = 0;
     let mut st = check_state::start_state();
+    // No `for`: the place jumps from line to line.
     while at < file.len() {
         let run = check_ahead::run_ahead(file, lent, table, at, st);
         let from = run.at;
@@ -17,14 +18,12 @@ pub(crate) fn check_lines(seal: Seal, file: &[u8], lent: bool, table: &mut [u32]
         if file.len() <= from {
             return check_finish::finished(seal, reached);
         }
-        let taken = crate::turn::take(file, lent, table, from, reached);
-        let outcome = taken.outcome;
-        match outcome {
-            Outcome::Accepted => {
+        match crate::turn::take(file, lent, table, from, reached) {
+            Ok(taken) => {
                 st = taken.state;
                 at = taken.at;
             }
-            Outcome::Refused(why) => {
+            Err(why) => {
                 return check_finish::refused(why);
             }
         }

@@ -6,14 +6,14 @@ ghost use Rattle.rules.specs.declared.Reason.TheVariants.{EndsEarly};
 ghost use Rattle.check_state.specs.States.{in_next};
 ghost use Rattle.check_finish.specs.Finishes.{FileRefused, Finished};
 
-use rules::{Checked, Outcome, Reason, Refusal, Seal, State};
+use rules::{Checked, Reason, Refusal, Seal, State};
 
 // The answer on a file that is refused.
 pub fn refused(why: Refusal) -> Checked
     ensures { FileRefused why result }
 {
     Checked {
-        outcome: Outcome::Refused(why),
+        outcome: Err(why),
         flight: check_state::no_flight(),
     }
 }
@@ -46,7 +46,7 @@ pub fn finished(seal: Seal, st: State) -> Checked
     }
     let flight = st.flight;
     Checked {
-        outcome: Outcome::Accepted,
+        outcome: Ok(()),
         flight,
     }
 }

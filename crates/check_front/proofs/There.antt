@@ -1,8 +1,8 @@
 -- A line with a good front has its position, which is below both limits, its validity and both its altitudes: bytes within bounds that are digits spell a number, and it is no more than what the upper bounds spell. Assumes nothing.
+use Rattle.std.specs.Prelude.{Option, Some}
 use Prim.Native.Nat.{ℕ, zero, suc, ◌+◌, ◌-◌, ◌*◌, ◌≤◌, ◌<◌}
 use mathlib.Core.Bool.{Bool, true, false, ◌&&◌, ◌||◌}
 use mathlib.Core.List.{List, [], ◌∷◌}
-use mathlib.Core.Option.{Option, some}
 use mathlib.Core.Path.{◌≡◌, refl}
 use native.Mathlib.Omega.{arith}
 use borrow.Author.Tests.{le-leb, leb-true, eqb-true}
@@ -25,7 +25,7 @@ use Rattle.check_front.proofs.Laws.{between_drop}
 -- a number of at most `most` is spelt
 pub record Spelt (o : Option ℕ) (most : ℕ) : Type 0 where
   pub value : ℕ
-  pub read : o ≡ some value
+  pub read : o ≡ Some value
   pub below : value ≤ most
 
 digit_within : (a z b : ℕ) → is_digit a ≡ true → is_digit z ≡ true → a ≤ b → b ≤ z → is_digit b ≡ true
@@ -33,7 +33,7 @@ unfolding is_digit
 digit_within a z b d f g h = rw (le-leb 48 b (omega (arith, digit_low a d)), le-leb b 57 (omega (arith, digit_high z f)))
 
 -- n digits within bounds, after u, spell no more than the upper bounds do after v
-spelt : (n u v most : ℕ) (low high l : List ℕ) → u ≤ v → leads is_digit n low ≡ true → between low high l ≡ true → spell n v high ≡ some most → Spelt (spell n u l) most
+spelt : (n u v most : ℕ) (low high l : List ℕ) → u ≤ v → leads is_digit n low ≡ true → between low high l ≡ true → spell n v high ≡ Some most → Spelt (spell n u l) most
 unfolding spell leads between is_within
 spelt zero u v most low high l h d e s = let q : v ≡ most = cc in record { value = u; read = refl; below = omega arith }
 spelt (suc n) u v most [] high l h d e s = let z : ◌≡◌ {A = ℕ} 0 1 = cc in absurd (omega arith)
@@ -50,7 +50,7 @@ spelt (suc n) u v most (a ∷ low) (z ∷ high) (b ∷ l) h d e s =
     record { value = r.value; read = rw (digit_within a z b first.0 top.0 from upto) r.read; below = r.below }
 
 -- the n digits behind k others within bounds
-pub number_there : (low high l : List ℕ) (at k n most : ℕ) → n ≤ 18 → between low high (drop at l) ≡ true → leads is_digit n (drop k low) ≡ true → spell n 0 (drop k high) ≡ some most → Spelt (number_at l (at + k) n) most
+pub number_there : (low high l : List ℕ) (at k n most : ℕ) → n ≤ 18 → between low high (drop at l) ≡ true → leads is_digit n (drop k low) ≡ true → spell n 0 (drop k high) ≡ Some most → Spelt (number_at l (at + k) n) most
 unfolding number_at
 number_there low high l at k n most h e d s =
     let r = spelt n 0 0 most (drop k low) (drop k high) (drop k (drop at l)) (omega arith) d (between_drop k low high (drop at l) e) s in
@@ -60,12 +60,12 @@ number_there low high l at k n most h e d s =
 
 pub record There {A : Type 0} (o : Option A) : Type 0 where
   pub value : A
-  pub read : o ≡ some value
+  pub read : o ≡ Some value
 
 -- a position below its limit is read
 pub record Below (o : Option Position) (most : ℕ) : Type 0 where
   pub value : Position
-  pub read : o ≡ some value
+  pub read : o ≡ Some value
   pub below : value.count < most
 
 module _ (l : List ℕ) (at : ℕ) where
@@ -81,7 +81,7 @@ module _ (l : List ℕ) (at : ℕ) where
         below = omega arith;
       }
 
-  pub no_minus : (v : ℕ) (t : Bool) → number_at l at 5 ≡ some v → eqb (get_or l at 0) 45 ≡ t → t ≡ false
+  pub no_minus : (v : ℕ) (t : Bool) → number_at l at 5 ≡ Some v → eqb (get_or l at 0) 45 ≡ t → t ≡ false
   unfolding number_at is_digit
   no_minus v false e f = refl
   no_minus v true e f =
@@ -104,8 +104,8 @@ pub record Front (l : List ℕ) : Type 0 where
 -- whichever upper bounds are kept, their longitude being below 180 degrees
 module _ (l : List ℕ) (north : is_either (get_or l 14 0) 78 83 ≡ true) (east : is_either (get_or l 23 0) 69 87 ≡ true) (valid : is_either (get_or l 24 0) 65 86 ≡ true) where
   front_by : (high : List ℕ) (degrees : ℕ) → between lows high (drop 3 l) ≡ true → degrees ≤ 179
-      → spell 2 0 (drop 4 high) ≡ some 89 → spell 5 0 (drop 6 high) ≡ some 59999 → spell 3 0 (drop 12 high) ≡ some degrees → spell 5 0 (drop 15 high) ≡ some 59999
-      → spell 5 0 (drop 22 high) ≡ some 99999 → spell 5 0 (drop 27 high) ≡ some 99999 → Front l
+      → spell 2 0 (drop 4 high) ≡ Some 89 → spell 5 0 (drop 6 high) ≡ Some 59999 → spell 3 0 (drop 12 high) ≡ Some degrees → spell 5 0 (drop 15 high) ≡ Some 59999
+      → spell 5 0 (drop 22 high) ≡ Some 99999 → spell 5 0 (drop 27 high) ≡ Some 99999 → Front l
   unfolding bytes leads is_digit
   front_by high degrees e h lat north_minutes lon east_minutes p g =
       record {

@@ -1,4 +1,5 @@
 -- One line judged, as the code goes through `judge`. Assumes nothing.
+use Rattle.std.specs.Prelude.{None, Option, Some}
 use Prim.Native.Nat.{ℕ, ◌≤◌, ◌<◌}
 use mathlib.Core.Bool.{true, false}
 use mathlib.Core.List.{List}
@@ -13,10 +14,7 @@ use Rattle.rules.specs.Refusals.{no}
 use Rattle.rules.specs.declared.Reason.TheVariants as reason
 use Rattle.rules.specs.declared.Role.{Role}
 use Rattle.rules.specs.declared.State.{State}
-use Rattle.line_order.specs.Following.{leading_told}
 use Rattle.check_state.specs.States.{Few, has_few}
-use Rattle.line_order.specs.declared.Leading.{Leading}
-use Rattle.line_order.specs.declared.Leading.TheVariants as leading
 use Rattle.check_state.proofs.States.{few_has}
 use Rattle.check_judge.specs.Lines.{judge_few}
 
@@ -44,11 +42,11 @@ module _ (l : List ℕ) (st : State) (one : 1 ≤ length l) (r : Role) (q : r �
   unfolding judge on
   judge_roleless e = rw (le-leb 1 (length l) one, ← q, e)
 
-  module _ (some : is_role r ≡ true) (x : Leading) (o : leading_told x ≡ order_of r st) where
-    pub judge_misplaced : x ≡ leading.Nowhere → judge l st ≡ no reason.Order 1
-    unfolding judge on leading_told
+  module _ (some : is_role r ≡ true) (x : Option ℕ) (o : x ≡ order_of r st) where
+    pub judge_misplaced : x ≡ None → judge l st ≡ no reason.Order 1
+    unfolding judge on
     judge_misplaced e = rw (le-leb 1 (length l) one, ← q, some, ← o, e)
 
-    pub judge_ruled : (stage : ℕ) → x ≡ leading.To stage → judge l st ≡ ruled r l (moved stage st)
-    unfolding judge on leading_told
+    pub judge_ruled : (stage : ℕ) → x ≡ Some stage → judge l st ≡ ruled r l (moved stage st)
+    unfolding judge on
     judge_ruled stage e = rw (le-leb 1 (length l) one, ← q, some, ← o, e)

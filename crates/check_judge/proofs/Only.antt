@@ -2,9 +2,9 @@
 use Prim.Native.Nat.{ℕ}
 use mathlib.Core.List.{List}
 use Rattle.rules.specs.declared.State.{State}
-use Rattle.rules_only.proofs.Only.{Only}
-use Rattle.check_settle.proofs.Only.{judged_only}
+use Rattle.rules_only.proofs.Told.{result_one}
+use Rattle.rules_only.proofs.Only.{Only, alike}
 use Rattle.check_judge.specs.Lines.{LineJudged}
 
 pub only_line_judged : (l : List ℕ) (st : State) → Only (LineJudged l st)
-only_line_judged l st = judged_only
+only_line_judged l st = alike result_one

@@ -1,11 +1,11 @@
 -- One line judged after those before it, in the paper's terms.
-use Rattle.std.specs.Prelude.{ℕ, List}
+use Rattle.rules.specs.declared.Refusal.{Refusal}
+use Rattle.std.specs.Prelude.{ℕ, List, Result}
 use Rattle.rules.specs.Choice.{need}
 use Rattle.rules.specs.Order.{judge}
 use Rattle.rules.specs.Refusals.{Said, no}
-use Rattle.rules.specs.declared.Judged.{Judged}
-use Rattle.rules.specs.declared.Reason.TheVariants.{BadValue}
 use Rattle.rules.specs.declared.State.{State}
+use Rattle.rules.specs.declared.Reason.TheVariants.{BadValue}
 use Rattle.check_state.specs.States.{has_few}
 use Rattle.check_settle.specs.Settled.{JudgedTold}
 
@@ -13,5 +13,5 @@ use Rattle.check_settle.specs.Settled.{JudgedTold}
 unfoldable pub judge_few : List ℕ → State → Said State
 judge_few l st = need (has_few st) (no BadValue 0) λ _. judge l st
 
-abbrev pub LineJudged : List ℕ → State → Judged → Type 0
+abbrev pub LineJudged : List ℕ → State → Result State Refusal → Type 0
 LineJudged l st r = JudgedTold (judge_few l st) r

@@ -9,11 +9,10 @@ ghost use Rattle.check_state.specs.States.{Few};
 ghost use Rattle.check_settle.specs.Settled.{JudgedTold};
 ghost use Rattle.check_judge.specs.Lines.{LineJudged};
 
-use line_order::Leading;
-use rules::{Judged, Reason, Role, State};
+use rules::{Reason, Refusal, Role, State};
 
 // A line by its role: 7 to 14 or 22 to 25. The state counts it already.
-fn ruled_line(r: Role, line: &[u8], st: State) -> Judged
+fn ruled_line(r: Role, line: &[u8], st: State) -> Result<State, Refusal>
     requires { (f : Family) → count_of f st.flight.counts ≤ 16777216 }
     ensures { JudgedTold (ruled r line.now st) result }
 {
@@ -34,7 +33,7 @@ fn ruled_line(r: Role, line: &[u8], st: State) -> Judged
 }
 
 // One line after those before it: 4 to 14 or 22 to 25. Refused with 17 where the state's counts are not few.
-pub fn judge_line(line: &[u8], st: State) -> Judged
+pub fn judge_line(line: &[u8], st: State) -> Result<State, Refusal>
     ensures { LineJudged line.now st result }
 {
     if !check_state::has_few(st) {
@@ -43,7 +42,7 @@ pub fn judge_line(line: &[u8], st: State) -> Judged
     judge_few(line, st)
 }
 
-fn judge_few(line: &[u8], st: State) -> Judged
+fn judge_few(line: &[u8], st: State) -> Result<State, Refusal>
     requires { Few st }
     ensures { JudgedTold (judge line.now st) result }
 {
@@ -54,7 +53,7 @@ fn judge_few(line: &[u8], st: State) -> Judged
     if !line_order::is_role(role) {
         return check_settle::refused_at(Reason::Kind, 1);
     }
-    let Leading::To(stage) = line_order::order_of(role, st) else {
+    let Some(stage) = line_order::order_of(role, st) else {
         return check_settle::refused_at(Reason::Order, 1);
     };
     ruled_line(role, line, check_state::moved_to(stage, st))

@@ -1,7 +1,7 @@
 -- A B or K line whose bytes may stand at the places of its layout is surely good, and its seconds are its time. Assumes nothing.
-use Rattle.std.proofs.Common.{◌≡◌, ℕ, zero, suc, ◌+◌, ◌-◌, ◌*◌, ◌<◌, ◌≤◌, Bool, true, false, cond, ◌&&◌, eqb, leb, List, [], ◌∷◌, ◌++◌, length, get_or, take, drop, replicate, sym, refl, ap, ◌∙◌, arith, length-append, length-take, length-take-le, drop-cons, get_or-take, take_at, eq-eqb, ne_eqb, le-leb, leb-true}
+use Rattle.std.specs.Prelude.{None, Some}
+use Rattle.std.proofs.Common.{◌≡◌, ℕ, zero, suc, ◌+◌, ◌-◌, ◌*◌, ◌<◌, ◌≤◌, Bool, true, false, cond, ◌&&◌, eqb, leb, List, [], ◌∷◌, ◌++◌, length, get_or, take, drop, replicate, sym, refl, ap, ◌∙◌, arith, length-append, length-take-le, drop-cons, get_or-take, take_at, eq-eqb, ne_eqb, le-leb, leb-true}
 use mathlib.Core.Bool.{or-true}
-use mathlib.Core.Option.{none, some}
 use borrow.Author.Tests.{eqb-false}
 use lib.ListN.{length-replicate}
 use lib.Seq.{sets, sets-eq, length-sets, take-append-add}
@@ -21,7 +21,7 @@ use Rattle.rules.proofs.Inverse.{and_inv}
 use Rattle.byte_sweep.specs.Plain.{is_plain, is_mild}
 use Rattle.check_front.specs.Front.{is_within, between, lows, wides, is_below, is_front}
 use Rattle.check_front.proofs.Below.{front_below}
-use Rattle.check_sure.specs.Sure.{pattern_of, keeps_pattern, fields_time}
+use Rattle.check_sure.specs.Sure.{pattern_of, fields_time}
 use Rattle.check_sure.proofs.Easy.{joined}
 use Rattle.check_sure.proofs.Laws.{front_time}
 use Rattle.check_sure.proofs.Said.{SureParts}
@@ -195,11 +195,11 @@ Digit s b = (48 ≤ b) × (b ≤ 48 + s)
 digit : (s b : ℕ) → s ≤ 9 → may_stand 48 s 48 b ≡ true → Digit s b
 digit s b h e = stands 48 s 48 b (omega arith) e (λ f g. (f, g)) (λ q. (omega arith, omega arith))
 
-two_at : (l : List ℕ) (at : ℕ) → at + 2 ≤ length l → (a b : ℕ) → get_or l at 0 ≡ a → get_or l (suc at) 0 ≡ b → 48 ≤ a → a ≤ 57 → 48 ≤ b → b ≤ 57 → number_at l at 2 ≡ some ((0 * 10 + (a - 48)) * 10 + (b - 48))
+two_at : (l : List ℕ) (at : ℕ) → at + 2 ≤ length l → (a b : ℕ) → get_or l at 0 ≡ a → get_or l (suc at) 0 ≡ b → 48 ≤ a → a ≤ 57 → 48 ≤ b → b ≤ 57 → number_at l at 2 ≡ Some ((0 * 10 + (a - 48)) * 10 + (b - 48))
 unfolding number_at spell is_digit
 two_at l at h a b e f g i j k = rw (drop-cons l at 0 (omega arith), drop-cons l (suc at) 0 (omega arith), e, f, le-leb 48 a g, le-leb a 57 i, le-leb 48 b j, le-leb b 57 k)
 
-clock : (h m x v : ℕ) → m ≤ 59 → x ≤ 59 → h * 3600 + m * 60 + x ≡ v → v ≤ 86399 → (need (leb h 23) none λ _. need (leb m 59) none λ _. need (is_second h m x) none λ _. some (h * 3600 + m * 60 + x)) ≡ some v
+clock : (h m x v : ℕ) → m ≤ 59 → x ≤ 59 → h * 3600 + m * 60 + x ≡ v → v ≤ 86399 → (need (leb h 23) None λ _. need (leb m 59) None λ _. need (is_second h m x) None λ _. Some (h * 3600 + m * 60 + x)) ≡ Some v
 unfolding is_second
 clock h m x v a b e f = rw (le-leb h 23 (omega arith), le-leb m 59 a, le-leb x 59 b, e)
 
@@ -210,7 +210,7 @@ record Digits (l : List ℕ) : Type 0 where
   minutes : Digit 5 (get_or l 3 0) × Digit 9 (get_or l 4 0)
   rest : Digit 5 (get_or l 5 0) × Digit 9 (get_or l 6 0)
 
-time_by : (l : List ℕ) (v : ℕ) → Digits l → v + 1933008 ≡ worth l → v ≤ 86399 → time_at l 1 ≡ some v
+time_by : (l : List ℕ) (v : ℕ) → Digits l → v + 1933008 ≡ worth l → v ≤ 86399 → time_at l 1 ≡ Some v
 unfolding time_at worth
 time_by l v d e h =
     let long = d.long in
@@ -285,7 +285,7 @@ extra_digits_lem l n e =
     }
 
 -- what a line that is held from its columns on needs yet
-good_by : (f : Family) (l : List ℕ) (from t : ℕ) (es : List Entry) → 1 ≤ from → Held l from es → leads is_mild from l ≡ true → fields_time f (take (end_of es from) l) ≡ some t → get_or l 0 0 ≡ line_letter f
+good_by : (f : Family) (l : List ℕ) (from t : ℕ) (es : List Entry) → 1 ≤ from → Held l from es → leads is_mild from l ≡ true → fields_time f (take (end_of es from) l) ≡ Some t → get_or l 0 0 ≡ line_letter f
     → Good f l (end_of es from) (pattern_of es) t
 good_by f l from t es one h m e k =
     let size = end_of es from in

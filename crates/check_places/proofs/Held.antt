@@ -1,9 +1,8 @@
 -- A line whose bytes may stand at their places keeps the rules of its columns, is mild, and ends there. Assumes nothing.
-use Rattle.std.proofs.Common.{◌≡◌, ℕ, zero, suc, ◌+◌, ◌-◌, ◌<◌, ◌≤◌, Bool, true, false, cond, not, ◌&&◌, ◌||◌, eqb, leb, List, [], ◌∷◌, ◌++◌, length, get_or, take, drop, replicate, sym, refl, ap, ◌∙◌, arith, length-drop, get_or-drop, drop-drop, take_at, eqb-true, le-leb, leb-false, leb-true}
+use Rattle.std.proofs.Common.{◌≡◌, ℕ, zero, suc, ◌+◌, ◌-◌, ◌<◌, ◌≤◌, Bool, true, false, cond, not, ◌&&◌, ◌||◌, eqb, leb, List, [], ◌∷◌, ◌++◌, length, get_or, take, drop, replicate, sym, refl, ap, ◌∙◌, arith, length-drop, get_or-drop, drop-drop, eqb-true, le-leb, leb-false, leb-true}
 use mathlib.Core.Bool.{or-true}
 use borrow.Author.Tests.{eqb-false, not-true}
 use lib.ListN.{length-replicate}
-use lib.Seq.{sets, sets-eq, take-append-add, length-sets}
 use Rattle.rules.specs.Choice.{leads, part, byte}
 use Rattle.rules.specs.Chars.{is_digit}
 use Rattle.rules.specs.Layouts.{placed, all_placed, is_spelt, is_said, with_entry}
@@ -17,7 +16,7 @@ use Rattle.byte_sweep.proofs.Laws.{plain_mild}
 use Rattle.check_sure.specs.Sure.{rule_of, keeps_as, pattern_of, keeps_pattern}
 use Rattle.check_sure.proofs.Easy.{joined}
 use Rattle.check_sure.proofs.Said.{need_said}
-use Rattle.check_places.specs.Places.{is_near, may_stand, kept, first_mark, next_mark, column_marks, end_marks, columns_marks, low_marks, span_marks, other_marks, laid, end_of}
+use Rattle.check_places.specs.Places.{is_near, may_stand, kept, first_mark, next_mark, column_marks, columns_marks, low_marks, span_marks, other_marks, end_of}
 use Rattle.check_places.specs.declared.Marks.{Marks}
 
 -- ---- a byte that may stand at a place

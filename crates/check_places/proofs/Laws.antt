@@ -1,5 +1,5 @@
 -- Marks put one after the other, and a text held against its places a byte at a time. Assumes nothing.
-use Rattle.std.proofs.Common.{◌≡◌, ℕ, zero, suc, ◌+◌, ◌-◌, ◌*◌, ◌/◌, ◌%◌, ◌<◌, ◌≤◌, Bool, true, false, cond, ◌&&◌, leb, List, [], ◌∷◌, ◌++◌, length, get_or, drop, set, replicate, sym, refl, ap, ◌∙◌, arith, length-drop, length-set, drop_of_length-le, drop-cons, le-leb, leb-false, leb-true}
+use Rattle.std.proofs.Common.{◌≡◌, ℕ, zero, suc, ◌+◌, ◌-◌, ◌*◌, ◌/◌, ◌%◌, ◌<◌, ◌≤◌, Bool, true, false, cond, ◌&&◌, leb, List, [], ◌∷◌, length, get_or, drop, set, replicate, sym, refl, ap, ◌∙◌, arith, length-drop, length-set, drop_of_length-le, drop-cons, le-leb, leb-false, leb-true}
 use mathlib.Core.Bool.{and-true, and_assoc}
 use lib.ListN.{length-replicate}
 use lib.Seq.{sets, length-sets}

@@ -35,6 +35,7 @@ const EXTRA_SPANS: [u8; 7] = [0, 2, 9, 5, 9, 5, 9];
 // ---- a list of marks
 
 // A mark put at a place; where the list ends before it, the list stays.
+#[tactic(auto, using(crate::proofs::Laws::set_past))]
 fn mark(list: &mut [u8], at: usize, v: u8)
     ensures { list.new ≡ slice_set list.old at v }
 {
@@ -44,62 +45,51 @@ fn mark(list: &mut [u8], at: usize, v: u8)
 }
 
 // The same mark put so many times.
+#[tactic(auto, using(crate::proofs::Laws::run_end, crate::proofs::Laws::run_first))]
 fn mark_run(list: &mut [u8], at: usize, n: usize, v: u8)
     requires { (at ≤ 65536) × (n ≤ 255) }
     ensures { list.new ≡ sets list.old at (replicate n v) }
 {
-    let mut i = 0;
-    while i < n {
+    for i in 0..n {
         mark(list, at + i, v);
-        i += 1;
     }
 }
 
 // The marks of the bytes before the columns.
+#[tactic(auto, using(crate::proofs::Laws::long_set, crate::proofs::Laws::front_step, crate::proofs::Laws::front_end))]
 fn mark_front(list: &mut [u8], front: &[u8])
     ensures { list.new ≡ sets list.old 0 front.now }
 {
-    let mut i = 0;
-    while i < front.len() {
-        mark(list, i, front[i]);
-        i += 1;
+    for (i, v) in front.iter().enumerate() {
+        mark(list, i, *v);
     }
 }
 
 // The mark of a column's first byte, by what the column must hold. A minus alone is no number.
+#[tactic(auto, unfolding(crate::specs::Places::first_mark))]
 fn first_mark(m: Marks, rule: u8, more: usize) -> u8
     ensures { result ≡ first_mark m rule more }
 {
-    if rule == 0 {
-        return m.text;
+    match rule {
+        0 => m.text,
+        2 if 1 <= more => m.minus,
+        _ => m.digit,
     }
-    if rule != 2 {
-        return m.digit;
-    }
-    if more < 1 {
-        return m.digit;
-    }
-    m.minus
 }
 
 // The mark of a column's other bytes.
+#[tactic(auto, unfolding(crate::specs::Places::next_mark))]
 fn next_mark(m: Marks, rule: u8) -> u8
     ensures { result ≡ next_mark m rule }
 {
-    if rule == 0 {
-        return m.text;
-    }
-    m.digit
+    if rule == 0 { m.text } else { m.digit }
 }
 
 // How many bytes a column has behind its first one.
 fn more_of(first: u8, last: u8) -> usize
     ensures { (result ≡ last - first) × (result ≤ 255) }
 {
-    if last < first {
-        return 0;
-    }
-    (last - first) as usize
+    usize::from(last.saturating_sub(first))
 }
 
 // The marks of a column.
@@ -125,22 +115,20 @@ fn mark_columns(list: &mut [u8], from: usize, m: Marks, pattern: &[u8])
     requires { (from ≤ 35) × (length pattern.now ≤ 39) }
     ensures { list.new ≡ sets list.old from (columns_marks m pattern.now) }
 {
-    let n = pattern.len() / 3;
     let mut at = from;
-    let mut k = 0;
-    while k < n {
+    for k in 0..pattern.len() / 3 {
         let first = pattern[3 * k];
         let last = pattern[3 * k + 1];
         let rule = pattern[3 * k + 2];
         let more = more_of(first, last);
         mark_column(list, at, m, more, rule);
         at += more + 1;
-        k += 1;
     }
     mark_end(list, at, m);
 }
 
 // A list of marks: those of the bytes before the columns, of the columns of a pattern, and of CR and LF.
+#[tactic(auto, unfolding(crate::specs::Places::laid))]
 fn lay(front: &[u8], m: Marks, pattern: &[u8]) -> [u8; 112]
     requires { length front.now ≤ 35 }
     ensures { result ≡ laid front.now m pattern.now }
@@ -196,6 +184,7 @@ fn other_marks() -> Marks
 }
 
 // The places of a B line whose columns have this pattern. Longitudes up to 199 degrees may stand there.
+#[tactic(auto, unfolding(rules::specs::Choice::bytes))]
 pub fn fix_places(pattern: &[u8]) -> Places
     ensures { FixPlaces pattern.now result }
 {
@@ -210,6 +199,7 @@ pub fn fix_places(pattern: &[u8]) -> Places
 }
 
 // The places of a K line.
+#[tactic(auto, unfolding(rules::specs::Choice::bytes))]
 pub fn extra_places(pattern: &[u8]) -> Places
     ensures { ExtraPlaces pattern.now result }
 {
@@ -222,6 +212,7 @@ pub fn extra_places(pattern: &[u8]) -> Places
 // ---- a line held against them
 
 // Whether a byte may stand at a place. The two bytes from the minus to the closing brace that are not mild stand nowhere.
+#[tactic(auto, using(crate::proofs::Laws::near_is), unfolding(crate::specs::Places::may_stand))]
 fn may_stand(low: u8, span: u8, other: u8, b: u8) -> bool
     ensures { result ≡ may_stand low span other b }
 {
@@ -237,24 +228,17 @@ fn still(ok: bool, low: u8, span: u8, other: u8, b: u8) -> bool
 
 // Whether each byte at the front of a text may stand at its place, as many places as `low` has. It has no way out before the last one, so that the compiler takes many bytes at a
 // time.
+#[tactic(auto, using(crate::proofs::Laws::kept_short, crate::proofs::Laws::kept_few, crate::proofs::Laws::kept_ended))]
 pub fn is_placed(text: &[u8], low: &[u8], span: &[u8], other: &[u8]) -> bool
     ensures { PlacedTest text.now low.now span.now other.now result }
 {
     let n = low.len();
-    if span.len() < n {
-        return false;
-    }
-    if other.len() < n {
-        return false;
-    }
-    if text.len() < n {
+    if span.len() < n || other.len() < n || text.len() < n {
         return false;
     }
     let mut ok = true;
-    let mut i = 0;
-    while i < n {
+    for i in 0..n {
         ok = still(ok, low[i], span[i], other[i], text[i]);
-        i += 1;
     }
     ok
 }
@@ -263,10 +247,11 @@ pub fn is_placed(text: &[u8], low: &[u8], span: &[u8], other: &[u8]) -> bool
 fn pair(a: u8, b: u8) -> u32
     ensures { (result ≡ a * 10 + b) × (result ≤ 2805) }
 {
-    a as u32 * 10 + b as u32
+    u32::from(a) * 10 + u32::from(b)
 }
 
 // The seconds of the day that the six bytes behind a line's first one tell, where they are digits; 86,400 where there are fewer bytes or they are worth less than zeros are.
+#[tactic(auto, using(crate::proofs::Laws::seconds_less, crate::proofs::Laws::seconds_enough), unfolding(crate::specs::Places::seconds_of))]
 pub fn seconds(line: &[u8]) -> u32
     ensures { SecondsGiven line.now result }
 {

@@ -1,10 +1,7 @@
--- A state's few counts: the test agrees with the record; and where no point is to come, none is taken. Assumes nothing.
-use Prim.Native.Nat.{ℕ, ◌-◌, ◌<◌}
+-- A state's few counts: the test agrees with the record. Assumes nothing.
 use mathlib.Core.Bool.{true}
-use mathlib.Core.Path.{◌≡◌, ap}
-use native.Mathlib.Omega.{arith}
+use mathlib.Core.Path.{◌≡◌}
 use borrow.Author.Tests.{le-leb, leb-true}
-use Rattle.rules.specs.Order.{pointed}
 use Rattle.rules.specs.declared.State.{State}
 use Rattle.rules.proofs.Inverse.{and_inv}
 use Rattle.check_counts.specs.Counting.{is_few, are_few}
@@ -20,10 +17,3 @@ unfolding has_few
 has_few_lem st e =
     let t = and_inv (is_few st.flight.lines) (are_few st.flight.counts) e in
     record { lines = leb-true _ _ t.0; count = are_few_lem st.flight.counts t.1 }
-
-with_points : State → ℕ → State
-with_points st n = record { stage = st.stage; declared = st.declared; points = n; clock = st.clock; flight = st.flight }
-
-pub none_to_come : (st : State) → st.points < 1 → st ≡ pointed st
-unfolding with_points
-none_to_come st h = let e : st.points ≡ st.points - 1 = omega arith in ap (with_points st) e

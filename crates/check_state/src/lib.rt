@@ -8,33 +8,29 @@ ghost use Rattle.check_state.specs.States.{FewTest, NoFlight, BeforeAll, Moved, 
 use rules::{Counts, Date, Extra, Family, Flight, Head, Layout, Layouts, State};
 
 // Whether the counts are few: no more than a file has bytes, at most.
+#[tactic(auto, unfolding(crate::specs::States::has_few))]
 pub fn has_few(st: State) -> bool
     ensures { FewTest st result }
 {
-    let flight = st.flight;
-    if 16777216 < flight.lines {
-        return false;
-    }
-    check_counts::are_few(flight.counts)
+    st.flight.lines <= 16777216 && check_counts::are_few(st.flight.counts)
 }
 
 // What stands beside a refused file.
 pub fn no_flight() -> Flight
     ensures { NoFlight result }
 {
-    let date = Date {
-        day: 0,
-        month: 0,
-        year: 0,
-    };
-    let layouts = Layouts {
-        b: rules_values::empty_layout(),
-        k: rules_values::empty_layout(),
-        n: rules_values::empty_layout(),
-    };
+    let empty = rules_values::empty_layout();
     Flight {
-        date,
-        layouts,
+        date: Date {
+            day: 0,
+            month: 0,
+            year: 0,
+        },
+        layouts: Layouts {
+            b: empty,
+            k: empty,
+            n: empty,
+        },
         lines: 0,
         counts: Counts { b: 0, k: 0, n: 0 },
         signed: false,
@@ -62,21 +58,21 @@ pub fn moved_to(stage: u8, st: State) -> State
         return st;
     }
     let lines = st.flight.lines + 1;
-    let mut next = st;
-    next.stage = stage;
-    next.flight.lines = lines;
-    next
+    State {
+        stage,
+        flight: Flight { lines, ..st.flight },
+        ..st
+    }
 }
 
 // The state with the date of the file.
 pub fn dated_to(date: Date, st: State) -> State
     ensures { Dated date st result }
 {
-    let mut flight = st.flight;
-    flight.date = date;
-    let mut next = st;
-    next.flight = flight;
-    next
+    State {
+        flight: Flight { date, ..st.flight },
+        ..st
+    }
 }
 
 // The layout of a family among those of a file.
@@ -85,73 +81,80 @@ pub fn layout_of(family: Family, layouts: Layouts) -> Layout
 {
     match family {
         Family::B => layouts.b,
-        Family::Extra(e) => match e {
-            Extra::K => layouts.k,
-            Extra::N => layouts.n,
-        },
+        Family::Extra(Extra::K) => layouts.k,
+        Family::Extra(Extra::N) => layouts.n,
     }
 }
 
 fn with_layout(family: Family, layout: Layout, layouts: Layouts) -> Layouts
     ensures { result ≡ with_layout family layout layouts }
 {
-    let mut next = layouts;
     match family {
-        Family::B => {
-            next.b = layout;
-        }
-        Family::Extra(e) => match e {
-            Extra::K => {
-                next.k = layout;
-            }
-            Extra::N => {
-                next.n = layout;
-            }
+        Family::B => Layouts {
+            b: layout,
+            ..layouts
+        },
+        Family::Extra(Extra::K) => Layouts {
+            k: layout,
+            ..layouts
+        },
+        Family::Extra(Extra::N) => Layouts {
+            n: layout,
+            ..layouts
         },
     }
-    next
 }
 
 // The state with the layout of a family.
 pub fn laid_out(family: Family, layout: Layout, st: State) -> State
     ensures { LaidOut family layout st result }
 {
-    let mut flight = st.flight;
-    flight.layouts = with_layout(family, layout, flight.layouts);
-    let mut next = st;
-    next.flight = flight;
-    next
+    let layouts = with_layout(family, layout, st.flight.layouts);
+    State {
+        flight: Flight {
+            layouts,
+            ..st.flight
+        },
+        ..st
+    }
 }
 
 // The state with one line of a family more.
 pub fn counted_in(family: Family, st: State) -> State
     ensures { CountedIn family st result }
 {
-    let mut flight = st.flight;
-    flight.counts = check_counts::one_more(family, flight.counts);
-    let mut next = st;
-    next.flight = flight;
-    next
+    let counts = check_counts::one_more(family, st.flight.counts);
+    State {
+        flight: Flight {
+            counts,
+            ..st.flight
+        },
+        ..st
+    }
 }
 
 // The state after a G line.
 pub fn signed_off(st: State) -> State
     ensures { SignedOff st result }
 {
-    let mut next = st;
-    next.flight.signed = true;
-    next
+    State {
+        flight: Flight {
+            signed: true,
+            ..st.flight
+        },
+        ..st
+    }
 }
 
 // The state in a declaration, of whose points none has come.
 pub fn begun_by(head: Head, st: State) -> State
     ensures { Begun head st result }
 {
-    let points = head.turns as u32 + 4;
-    let mut next = st;
-    next.declared = true;
-    next.points = points;
-    next
+    State {
+        declared: true,
+        points: u32::from(head.turns) + 4,
+        ..st
+    }
 }
 
 // The state with one point less to come.
@@ -161,17 +164,15 @@ pub fn pointed_by(st: State) -> State
     if st.points < 1 {
         return st;
     }
-    let points = st.points - 1;
-    let mut next = st;
-    next.points = points;
-    next
+    State {
+        points: st.points - 1,
+        ..st
+    }
 }
 
 // The state after a line of this time.
 pub fn clocked_to(t: u32, st: State) -> State
     ensures { Clocked t st result }
 {
-    let mut next = st;
-    next.clock = t;
-    next
+    State { clock: t, ..st }
 }

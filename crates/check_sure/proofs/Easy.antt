@@ -1,8 +1,8 @@
 -- A line whose columns are mild and whose other bytes are read as a time or within bounds has mild bytes alone: digits are mild, and so are the bounds. Assumes nothing.
+use Rattle.std.specs.Prelude.{None, Option, Some}
 use Prim.Native.Nat.{ℕ, zero, suc, ◌+◌, ◌-◌, ◌*◌, ◌≤◌}
 use mathlib.Core.Bool.{Bool, true, false, ◌&&◌, ◌||◌}
 use mathlib.Core.List.{List, [], ◌∷◌}
-use mathlib.Core.Option.{Option, none, some}
 use mathlib.Core.Path.{◌≡◌, refl, sym, ◌∙◌}
 use native.Mathlib.Omega.{arith}
 use borrow.Author.Tests.{leb-true, le-leb, eq-eqb}
@@ -11,12 +11,11 @@ use lib.ListN.{length, get_or, drop, length-drop}
 use Rattle.rules.specs.Families.{first_start}
 use Rattle.rules.specs.Choice.{leads, given, need, byte, bytes}
 use Rattle.rules.specs.Chars.{is_digit}
-use Rattle.rules.specs.Fields.{time_at, time_told}
+use Rattle.rules.specs.Fields.{time_at}
 use Rattle.rules.specs.Listed.{is_digits}
 use Rattle.rules.specs.Numbers.{spell, number_at}
 use Rattle.rules.specs.declared.Family.{Family}
 use Rattle.rules.specs.declared.Family.TheVariants as family
-use Rattle.rules.specs.declared.Time.{Time}
 use Rattle.byte_number.proofs.Laws.{digit_low, digit_high, cond_some}
 use Rattle.byte_sweep.specs.Plain.{is_plain, is_mild, every}
 use Rattle.rules.proofs.Inverse.{and_inv}
@@ -72,7 +71,7 @@ long (suc n) (b ∷ l) e = let h = long n l (and_inv (is_mild b) (leads is_mild 
 
 -- ---- what is read as a number, and what is within bounds
 
-spelt_mild : (n u v : ℕ) (l : List ℕ) → spell n u l ≡ some v → Mild n l
+spelt_mild : (n u v : ℕ) (l : List ℕ) → spell n u l ≡ Some v → Mild n l
 unfolding spell leads
 spelt_mild zero u v l e = refl
 spelt_mild (suc n) u v [] e = let z : ◌≡◌ {A = ℕ} 0 1 = cc in absurd (omega arith)
@@ -81,15 +80,15 @@ spelt_mild (suc n) u v (b ∷ l) e =
     rw (digit_mild b d.0) (spelt_mild n (u * 10 + (b - 48)) v l d.1)
 
 -- two digits, where they are asked for, and what is asked after them
-two_mild : (l : List ℕ) (at t : ℕ) (f : ℕ → Option ℕ) → given (number_at l at 2) none f ≡ some t → (v : ℕ) × (f v ≡ some t) × Mild 2 (drop at l)
+two_mild : (l : List ℕ) (at t : ℕ) (f : ℕ → Option ℕ) → given (number_at l at 2) None f ≡ Some t → (v : ℕ) × (f v ≡ Some t) × Mild 2 (drop at l)
 unfolding number_at
 two_mild l at t f e = by (spell 2 0 (drop at l)) refl e
   where
-    by : (o : Option ℕ) → spell 2 0 (drop at l) ≡ o → given o none f ≡ some t → (v : ℕ) × (f v ≡ some t) × Mild 2 (drop at l)
-    by (some v) q e = (v, e, spelt_mild 2 0 v (drop at l) q)
-    by none q e = let z : ◌≡◌ {A = ℕ} 0 1 = cc in absurd (omega arith)
+    by : (o : Option ℕ) → spell 2 0 (drop at l) ≡ o → given o None f ≡ Some t → (v : ℕ) × (f v ≡ Some t) × Mild 2 (drop at l)
+    by (Some v) q e = (v, e, spelt_mild 2 0 v (drop at l) q)
+    by None q e = let z : ◌≡◌ {A = ℕ} 0 1 = cc in absurd (omega arith)
 
-time_mild : (l : List ℕ) (t : ℕ) → time_at l 1 ≡ some t → Mild 2 (drop 1 l) × Mild 2 (drop 3 l) × Mild 2 (drop 5 l)
+time_mild : (l : List ℕ) (t : ℕ) → time_at l 1 ≡ Some t → Mild 2 (drop 1 l) × Mild 2 (drop 3 l) × Mild 2 (drop 5 l)
 unfolding time_at
 time_mild l t e =
     let h = two_mild l 1 t _ e in
@@ -131,7 +130,7 @@ ended n l e d =
     let k : n + length (drop n l) ≡ length l = rw length-drop (omega (arith, long n l e)) in
     rw k at r
 
-mild_by : (f : Family) (l : List ℕ) (t : ℕ) → is_easy f l ≡ true → every is_mild (drop (first_start f - 1) l) ≡ true → time_at l 1 ≡ some t → every is_mild l ≡ true
+mild_by : (f : Family) (l : List ℕ) (t : ℕ) → is_easy f l ≡ true → every is_mild (drop (first_start f - 1) l) ≡ true → time_at l 1 ≡ Some t → every is_mild l ≡ true
 unfolding is_easy
 mild_by family.B l t e d h =
     let s = and_inv (is_plain (get_or l 0 0)) (is_front l) e in
@@ -154,36 +153,36 @@ pub easy_time : (f : Family) (l : List ℕ) → is_easy f l ≡ true → every i
 unfolding clean_time
 easy_time f l e d = rw (fields_by f l e) (by (time_at l 1) refl (every is_mild l) refl)
   where
-    by : (o : Option ℕ) → time_at l 1 ≡ o → (t : Bool) → every is_mild l ≡ t → o ≡ need t none λ _. o
-    by none h true m = refl
-    by none h false m = refl
-    by (some t) h true m = refl
-    by (some t) h false m = let z : ◌≡◌ {A = Bool} false true = sym m ∙ mild_by f l t e d h in let y : ◌≡◌ {A = ℕ} 0 1 = cc in absurd (omega arith)
+    by : (o : Option ℕ) → time_at l 1 ≡ o → (t : Bool) → every is_mild l ≡ t → o ≡ need t None λ _. o
+    by None h true m = refl
+    by None h false m = refl
+    by (Some t) h true m = refl
+    by (Some t) h false m = let z : ◌≡◌ {A = Bool} false true = sym m ∙ mild_by f l t e d h in let y : ◌≡◌ {A = ℕ} 0 1 = cc in absurd (omega arith)
 
 -- a line whose columns are not mild is not sure
-pub tail_not : (f : Family) (l : List ℕ) → every is_mild (drop (first_start f - 1) l) ≡ false → none ≡ clean_time f l
+pub tail_not : (f : Family) (l : List ℕ) → every is_mild (drop (first_start f - 1) l) ≡ false → None ≡ clean_time f l
 unfolding clean_time
 tail_not f l n = by (every is_mild l) refl
   where
-    by : (t : Bool) → every is_mild l ≡ t → none ≡ need t none λ _. fields_time f l
+    by : (t : Bool) → every is_mild l ≡ t → None ≡ need t None λ _. fields_time f l
     by true m = let z : ◌≡◌ {A = Bool} false true = sym n ∙ behind (first_start f - 1) l m in let y : ◌≡◌ {A = ℕ} 0 1 = cc in absurd (omega arith)
     by false m = refl
 
 -- ---- the tests in another order
 
-turned : (c m : Bool) (o : Option ℕ) → (need c none λ _. need m none λ _. o) ≡ (need m none λ _. given o none λ t. need c none λ _. some t)
-turned true true (some t) = refl
-turned true true none = refl
+turned : (c m : Bool) (o : Option ℕ) → (need c None λ _. need m None λ _. o) ≡ (need m None λ _. given o None λ t. need c None λ _. Some t)
+turned true true (Some t) = refl
+turned true true None = refl
 turned true false o = refl
-turned false true (some t) = refl
-turned false true none = refl
+turned false true (Some t) = refl
+turned false true None = refl
 turned false false o = refl
 
-module _ (f : Family) (l : List ℕ) (size : ℕ) (pattern : List ℕ) (r : Time) (n : length l ≡ size) where
-  pub by_digits : is_digits (drop (byte (first_start f)) l) ≡ true → time_told r ≡ clean_time f l → time_told r ≡ sure_time f l size pattern
+module _ (f : Family) (l : List ℕ) (size : ℕ) (pattern : List ℕ) (r : Option ℕ) (n : length l ≡ size) where
+  pub by_digits : is_digits (drop (byte (first_start f)) l) ≡ true → r ≡ clean_time f l → r ≡ sure_time f l size pattern
   unfolding clean_time sure_time
   by_digits d e = e ∙ turned true (every is_mild l) (fields_time f l) ∙ rw (eq-eqb (length l) size n, d)
 
-  pub by_pattern : is_digits (drop (byte (first_start f)) l) ≡ false → time_told r ≡ pattern_time f l pattern → time_told r ≡ sure_time f l size pattern
+  pub by_pattern : is_digits (drop (byte (first_start f)) l) ≡ false → r ≡ pattern_time f l pattern → r ≡ sure_time f l size pattern
   unfolding clean_time pattern_time sure_time
   by_pattern d e = e ∙ turned (keeps_pattern l pattern) (every is_mild l) (fields_time f l) ∙ rw (eq-eqb (length l) size n, d)

@@ -1,25 +1,22 @@
 -- The pattern of a layout, an entry at a time; and a pattern that is kept, a column at a time. Assumes nothing.
+use Rattle.std.specs.Result.{result_ok}
+use Rattle.std.specs.Prelude.{Err, None, Ok, Option, Result, Some}
 use Prim.Native.Nat.{ℕ, suc, ◌+◌, ◌*◌, ◌/◌, ◌≤◌, ◌<◌}
 use mathlib.Core.Bool.{Bool, true, false}
 use mathlib.Core.List.{List, [], ◌∷◌}
-use mathlib.Core.Option.{Option, none, some}
 use mathlib.Core.Path.{◌≡◌, refl, sym, ◌∙◌}
 use native.Mathlib.Omega.{arith}
 use borrow.Author.Tests.{ne_eqb}
 use lib.ListN.{length, get_or, set, drop, length-take, length-drop, drop_of_length-le}
 use lib.Seq.{sets, drop-cons, get_or-take}
 use Rattle.rules.specs.Choice.{given, on, part, byte}
-use Rattle.rules.specs.Fields.{most_latitude, most_longitude, time_at, time_told}
+use Rattle.rules.specs.Fields.{most_latitude, most_longitude, time_at}
 use Rattle.rules.specs.Layouts.{unused, entries_of}
 use Rattle.rules.specs.Lines.{fix_fields, at_limit}
-use Rattle.rules.specs.Reads.{fix_fields_told}
-use Rattle.rules.specs.Refusals.{Said, breaks}
+use Rattle.rules.specs.Refusals.{Said, breaks, result_told}
 use Rattle.rules.specs.declared.FixFields.{FixFields}
-use Rattle.rules.specs.declared.FixFieldsRead.{FixFieldsRead}
-use Rattle.rules.specs.declared.FixFieldsRead.TheVariants as fix_fields_read
 use Rattle.rules.specs.declared.Layout.{Layout}
 use Rattle.rules.specs.declared.Refusal.{Refusal}
-use Rattle.rules.specs.declared.Time.{Time}
 use Rattle.byte_sweep.specs.Plain.{is_plain, is_mild, every}
 use Rattle.byte_sweep.proofs.Laws.{plain_is_mild}
 use Rattle.check_front.specs.Front.{is_front}
@@ -86,19 +83,20 @@ module _ (l p : List ℕ) (i : ℕ) where
 pub clean_plain : (l : List ℕ) (r : Bool) → r ≡ every is_plain l → r ≡ true → true ≡ every is_mild l
 clean_plain l r e t = sym (plain_is_mild l (sym e ∙ t))
 
-pub time_is : (l : List ℕ) (r : FixFieldsRead) (f : FixFields) (t : Time) → fix_fields_told r ≡ fix_fields l → r ≡ fix_fields_read.Is f → time_told t ≡ below_time f → time_told t ≡ time_of (fix_fields l)
-unfolding fix_fields_told
+pub time_is : (l : List ℕ) (r : Result FixFields Refusal) (f : FixFields) (t : Option ℕ) → result_told r ≡ fix_fields l → r ≡ Ok f → t ≡ below_time f → t ≡ time_of (fix_fields l)
+unfolding result_told
 time_is l r f t e g h = rw (← e, g) h
 
-pub time_not : (l : List ℕ) (r : FixFieldsRead) (w : Refusal) → fix_fields_told r ≡ fix_fields l → r ≡ fix_fields_read.Refused w → none ≡ time_of (fix_fields l)
-unfolding fix_fields_told
-time_not l r w e g = rw (← e, g)
+pub time_not : (l : List ℕ) (r : Result FixFields Refusal) → result_told r ≡ fix_fields l → result_ok r ≡ None → None ≡ time_of (fix_fields l)
+unfolding result_told
+time_not l (Ok f) e g = let z : ◌≡◌ {A = ℕ} 0 1 = cc in absurd (omega arith)
+time_not l (Err w) e g = rw (← e)
 
 -- ---- a line with a good front is read where its time is
 
-timed : (o : Option ℕ) (f : ℕ → Said FixFields) → ((t : ℕ) → time_of (f t) ≡ some t) → time_of (given o (breaks class.Time 2) f) ≡ o
-timed none f e = refl
-timed (some t) f e = e t
+timed : (o : Option ℕ) (f : ℕ → Said FixFields) → ((t : ℕ) → time_of (f t) ≡ Some t) → time_of (given o (breaks class.Time 2) f) ≡ o
+timed None f e = refl
+timed (Some t) f e = e t
 
 pub front_time : (l : List ℕ) → is_front l ≡ true → time_of (fix_fields l) ≡ time_at l 1
 unfolding fix_fields on below_time at_limit
@@ -108,5 +106,5 @@ front_time l e =
     let lon = ne_eqb p.lon.value.count most_longitude (λ z. omega (arith, p.lon.below)) in
     timed (time_at l 1) _ (λ t. rw (p.lat.read, p.lon.read, p.valid, p.pressure.read, p.gnss.read, lat, lon))
 
-pub quick_time : (l : List ℕ) (t : Bool) (r : Time) → t ≡ is_front l → t ≡ true → time_told r ≡ time_at l 1 → time_told r ≡ time_of (fix_fields l)
+pub quick_time : (l : List ℕ) (t : Bool) (r : Option ℕ) → t ≡ is_front l → t ≡ true → r ≡ time_at l 1 → r ≡ time_of (fix_fields l)
 quick_time l t r e h q = q ∙ sym (front_time l (sym e ∙ h))

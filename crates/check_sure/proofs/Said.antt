@@ -1,8 +1,8 @@
 -- A line that is surely good is said to be good: what is mild has its shape, and digits or a kept pattern keep every column's rule. Assumes nothing.
+use Rattle.std.specs.Prelude.{None, Option, Some}
 use Prim.Native.Nat.{ℕ, zero, suc, ◌+◌, ◌-◌, ◌≤◌}
 use mathlib.Core.Bool.{Bool, true, false, not, cond, ◌&&◌, ◌||◌}
 use mathlib.Core.List.{List, [], ◌∷◌}
-use mathlib.Core.Option.{Option, none, some}
 use mathlib.Core.Path.{◌≡◌, refl, sym, ap, ◌∙◌}
 use native.Mathlib.Omega.{arith}
 use borrow.Author.Tests.{leb-true, le-leb, eqb-true, not-true}
@@ -50,8 +50,8 @@ abbrev rule : Option ℕ → List ℕ → Bool
 rule o t = given o true λ n. keeps_sign (get_or listed n unlisted).sign t
 
 held_rule : (o : Option ℕ) (t : List ℕ) → held (rule o) t ≡ rule o t
-held_rule none t = refl
-held_rule (some n) t = held_sign (get_or listed n unlisted).sign t
+held_rule None t = refl
+held_rule (Some n) t = held_sign (get_or listed n unlisted).sign t
 
 -- what a column must hold is the rule of its code
 as_rule : (x : ℕ) (t : List ℕ) → keeps_as (rule_of x) t ≡ keeps_rule x t
@@ -62,7 +62,7 @@ as_rule x t = held_rule (listed_number x) t
 abbrev bad : List ℕ → Entry → Bool
 bad l e = not (keeps_rule e.code (column_text l (span_of e)))
 
-none_by_pattern : (l : List ℕ) (es : List Entry) (n : ℕ) → keeps_pattern l (pattern_of es) ≡ true → first_of (bad l) (λ k e. e.first) es n ≡ none
+none_by_pattern : (l : List ℕ) (es : List Entry) (n : ℕ) → keeps_pattern l (pattern_of es) ≡ true → first_of (bad l) (λ k e. e.first) es n ≡ None
 unfolding first_of keeps_pattern pattern_of
 none_by_pattern l [] n h = refl
 none_by_pattern l (e ∷ es) n h =
@@ -85,8 +85,8 @@ digits_take (suc n) (b ∷ l) e = let s = and_inv (is_digit b) (leads is_digit (
 
 rule_by : (o : Option ℕ) (t : List ℕ) → is_digits t ≡ true → rule o t ≡ true
 unfolding keeps_sign
-rule_by (some n) t e = rw e
-rule_by none t e = refl
+rule_by (Some n) t e = rw e
+rule_by None t e = refl
 
 digits_rule : (x : ℕ) (t : List ℕ) → is_digits t ≡ true → keeps_rule x t ≡ true
 unfolding keeps_rule
@@ -104,7 +104,7 @@ module _ (l : List ℕ) (least : ℕ) (one : 1 ≤ least) (d : is_digits (drop (
       let q : drop (e.first - least) (drop (least - 1) l) ≡ drop (e.first - 1) l = drop-drop (e.first - least) (least - 1) l ∙ ap (λ (k : ℕ). drop k l) n in
       digits_rule e.code _ (digits_take (e.last - (e.first - 1)) (drop (e.first - 1) l) (rw q at (digits_drop (e.first - least) (drop (least - 1) l) d)))
 
-  none_by_digits : (es : List Entry) (start : ℕ) (before : Layout) (n : ℕ) → least ≤ start → all_placed es start before ≡ true → first_of (bad l) (λ k e. e.first) es n ≡ none
+  none_by_digits : (es : List Entry) (start : ℕ) (before : Layout) (n : ℕ) → least ≤ start → all_placed es start before ≡ true → first_of (bad l) (λ k e. e.first) es n ≡ None
   unfolding first_of all_placed placed
   none_by_digits [] start before n h a = refl
   none_by_digits (e ∷ es) start before n h a =
@@ -121,7 +121,7 @@ columns_said_lem : (f : Family) (l : List ℕ) (layout : Layout) → allowed (fi
 unfolding columns bad_column keeps_limit is_past allowed
 columns_said_lem f l layout a e =
     let p = (and_inv (leb layout.count 13) _ (and_inv _ _ a).0).1 in
-    let none : first_of (bad l) (λ k x. x.first) (entries_of layout) 0 ≡ none =
+    let none : first_of (bad l) (λ k x. x.first) (entries_of layout) 0 ≡ None =
     or_inv (is_digits (drop (byte (first_start f)) l)) _ e (λ d. none_by_digits l (first_start f) (least f) d (entries_of layout) (first_start f) _ 0 (omega arith) p) (none_by_pattern l (entries_of layout) 0) in
     rw none
   where
@@ -132,22 +132,22 @@ columns_said_lem f l layout a e =
 -- ---- the whole line
 
 -- the parts of a chain that came to a value
-need_some : {A : Type 0} (t : Bool) (f : Unit {0} → Option A) (v : A) → need t none f ≡ some v → (t ≡ true) × (f tt ≡ some v)
+need_some : {A : Type 0} (t : Bool) (f : Unit {0} → Option A) (v : A) → need t None f ≡ Some v → (t ≡ true) × (f tt ≡ Some v)
 need_some true f v e = (refl, e)
 need_some false f v e = let z : ◌≡◌ {A = ℕ} 0 1 = cc in absurd (omega arith)
 
 pub record SureParts (f : Family) (l : List ℕ) (size : ℕ) (pattern : List ℕ) (t : ℕ) : Type 0 where
   pub long : length l ≡ size
   pub mild : every is_mild l ≡ true
-  pub fields : fields_time f l ≡ some t
+  pub fields : fields_time f l ≡ Some t
   pub columns : (is_digits (drop (byte (first_start f)) l) || keeps_pattern l pattern) ≡ true
 
-given_parts : (o : Option ℕ) (c : Bool) (t : ℕ) → (given o none λ s. need c none λ _. some s) ≡ some t → (o ≡ some t) × (c ≡ true)
-given_parts none c t e = let z : ◌≡◌ {A = ℕ} 0 1 = cc in absurd (omega arith)
-given_parts (some s) true t e = (e, refl)
-given_parts (some s) false t e = let z : ◌≡◌ {A = ℕ} 0 1 = cc in absurd (omega arith)
+given_parts : (o : Option ℕ) (c : Bool) (t : ℕ) → (given o None λ s. need c None λ _. Some s) ≡ Some t → (o ≡ Some t) × (c ≡ true)
+given_parts None c t e = let z : ◌≡◌ {A = ℕ} 0 1 = cc in absurd (omega arith)
+given_parts (Some s) true t e = (e, refl)
+given_parts (Some s) false t e = let z : ◌≡◌ {A = ℕ} 0 1 = cc in absurd (omega arith)
 
-pub parts : (f : Family) (l : List ℕ) (size : ℕ) (pattern : List ℕ) (t : ℕ) → sure_time f l size pattern ≡ some t → SureParts f l size pattern t
+pub parts : (f : Family) (l : List ℕ) (size : ℕ) (pattern : List ℕ) (t : ℕ) → sure_time f l size pattern ≡ Some t → SureParts f l size pattern t
 unfolding sure_time
 parts f l size pattern t e =
     let a = need_some (eqb (length l) size) _ t e in
@@ -165,12 +165,12 @@ record FieldsTimed (s : Said FixFields) (t : ℕ) : Type 0 where
 limits : (a b : AtLimit) → a.lat ≡ b.lat → a.lon ≡ b.lon → a ≡ b
 limits a b e f = ap (λ (x : Bool). record { lat = x; lon = a.lon }) e ∙ ap (λ (y : Bool). record { lat = b.lat; lon = y }) f
 
-fields_timed : (s : Said FixFields) (t : ℕ) → time_of s ≡ some t → FieldsTimed s t
+fields_timed : (s : Said FixFields) (t : ℕ) → time_of s ≡ Some t → FieldsTimed s t
 unfolding below_time
 fields_timed (says f) t e =
     let a = need_some (not (at_limit f).lat) _ t e in
     let b = need_some (not (at_limit f).lon) _ t a.1 in
-    let same : some f.time ≡ some t = b.1 in
+    let same : Some f.time ≡ Some t = b.1 in
     record { fix = f; read = refl; time = cc; off = limits (at_limit f) off_limit (not-true (at_limit f).lat a.0) (not-true (at_limit f).lon b.0) }
 fields_timed (refuses n l b) t e = let z : ◌≡◌ {A = ℕ} 0 1 = cc in absurd (omega arith)
 

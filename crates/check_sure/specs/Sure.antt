@@ -1,11 +1,10 @@
 -- A line with columns that is surely good: its bytes are mild, and so valid in every line, its fields keep their rules, its position is below the limits, and its columns hold what the
 -- pattern of their layout says.
-use Rattle.std.specs.Prelude.{ℕ, Bool, true, not, cond, ◌&&◌, ◌||◌, List, [], ◌∷◌, ◌≡◌, eqb, length, get_or, drop, replicate}
-use Rattle.std.proofs.Math.Option.{Option, none, some}
+use Rattle.std.specs.Prelude.{ℕ, Bool, true, not, cond, ◌&&◌, ◌||◌, List, [], ◌∷◌, ◌≡◌, eqb, length, get_or, drop, replicate, None, Option, Some}
 use Rattle.std.proofs.lemmas.List.Edits.{sets}
 use Rattle.rules.specs.Families.{first_start}
 use Rattle.rules.specs.Choice.{given, need, part, byte}
-use Rattle.rules.specs.Fields.{time_at, time_told}
+use Rattle.rules.specs.Fields.{time_at}
 use Rattle.rules.specs.Layouts.{entries_of}
 use Rattle.rules.specs.Lines.{fix_fields, at_limit}
 use Rattle.rules.specs.Listed.{is_digits, keeps_sign, keeps_rule}
@@ -15,7 +14,6 @@ use Rattle.rules.specs.declared.Family.{Family}
 use Rattle.rules.specs.declared.Family.TheVariants as family
 use Rattle.rules.specs.declared.FixFields.{FixFields}
 use Rattle.rules.specs.declared.Layout.{Layout}
-use Rattle.rules.specs.declared.Time.{Time}
 use Rattle.byte_sweep.specs.Plain.{is_plain, is_mild, every}
 use Rattle.check_front.specs.Front.{is_front}
 
@@ -42,13 +40,13 @@ keeps_pattern l (a ∷ e ∷ rule ∷ rest) = keeps_as rule (part (byte a) e l) 
 -- the time of a fix with both coordinates below their limits: at a limit the digits of LAD and LOD would have to be looked at
 unfoldable pub below_time : FixFields → Option ℕ
 below_time f =
-    need (not (at_limit f).lat) none λ _.
-    need (not (at_limit f).lon) none λ _.
-    some f.time
+    need (not (at_limit f).lat) None λ _.
+    need (not (at_limit f).lon) None λ _.
+    Some f.time
 
 abbrev pub time_of : Said FixFields → Option ℕ
 time_of (says f) = below_time f
-time_of (refuses n l b) = none
+time_of (refuses n l b) = None
 
 -- the time of a line whose fields before the columns keep their rules, below the limits
 unfoldable pub fields_time : Family → List ℕ → Option ℕ
@@ -57,11 +55,11 @@ fields_time (family.Extra e) l = time_at l 1
 
 -- the time of a line with mild bytes alone whose fields before the columns keep their rules
 unfoldable pub clean_time : Family → List ℕ → Option ℕ
-clean_time f l = need (every is_mild l) none λ _. fields_time f l
+clean_time f l = need (every is_mild l) None λ _. fields_time f l
 
 -- the same, where its columns hold what a pattern says
 unfoldable pub pattern_time : Family → List ℕ → List ℕ → Option ℕ
-pattern_time f l pattern = need (keeps_pattern l pattern) none λ _. clean_time f l
+pattern_time f l pattern = need (keeps_pattern l pattern) None λ _. clean_time f l
 
 -- the bytes between the time and the columns tell that the fields there keep their rules; a K or an N line has none there
 abbrev pub is_open : Family → List ℕ → Bool
@@ -75,14 +73,14 @@ is_easy f l = is_plain (get_or l 0 0) && is_open f l
 -- the time of a line that is surely good, by its length and the pattern of its columns
 unfoldable pub sure_time : Family → List ℕ → ℕ → List ℕ → Option ℕ
 sure_time f l size pattern =
-    need (eqb (length l) size) none λ _.
-    need (every is_mild l) none λ _.
-    given (fields_time f l) none λ t.
-    need (is_digits (drop (byte (first_start f)) l) || keeps_pattern l pattern) none λ _.
-    some t
+    need (eqb (length l) size) None λ _.
+    need (every is_mild l) None λ _.
+    given (fields_time f l) None λ t.
+    need (is_digits (drop (byte (first_start f)) l) || keeps_pattern l pattern) None λ _.
+    Some t
 
 abbrev pub PatternGiven : Layout → List ℕ → Type 0
 PatternGiven l r = r ≡ sets (replicate 39 0) 0 (pattern_of (entries_of l))
 
-abbrev pub SureTold : Family → List ℕ → ℕ → List ℕ → Time → Type 0
-SureTold f l size pattern r = time_told r ≡ sure_time f l size pattern
+abbrev pub SureTold : Family → List ℕ → ℕ → List ℕ → Option ℕ → Type 0
+SureTold f l size pattern r = r ≡ sure_time f l size pattern

@@ -1,6 +1,5 @@
 -- A line passed in the check of a file, and what holds at each turn of the check.
-use Rattle.std.specs.Prelude.{ℕ, ◌+◌, ◌≤◌, Bool, true, false, cond, List, ◌++◌, ◌≡◌, length, set, drop}
-use Rattle.std.proofs.Math.Option.{Option, none, some}
+use Rattle.std.specs.Prelude.{ℕ, ◌+◌, ◌≤◌, Bool, true, false, cond, List, ◌++◌, ◌≡◌, length, set, drop, None, Option, Some}
 use Rattle.rules.specs.Families.{count_of}
 use Rattle.rules.specs.Files.{has_room, run}
 use Rattle.rules.specs.Order.{start, judge}
@@ -22,8 +21,8 @@ pub record Passed (file : List ℕ) (at : ℕ) (st : State) (next : ℕ) (s : St
 
 -- how many entries it has
 abbrev pub room_of : Bool → List ℕ → Option ℕ
-room_of true table = some (length table)
-room_of false table = none
+room_of true table = Some (length table)
+room_of false table = None
 
 -- the first entries put into it
 abbrev pub entered : Bool → List ℕ → List ℕ → List ℕ

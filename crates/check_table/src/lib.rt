@@ -4,9 +4,9 @@
 ghost use Rattle.std.specs.Prelude.{◌≤◌, ◌≡◌};
 ghost use Rattle.check_state.specs.States.{in_next};
 ghost use Rattle.check_table.specs.Turns.{room_of, EntryPut};
-ghost use Rattle.check_table.specs.Entering.{halt, good_line, Turned, LineLeft};
+ghost use Rattle.check_table.specs.Entering.{good_line, Turned, LineLeft};
 
-use rules::{Judged, Outcome, Reason, Refusal, State};
+use rules::{Reason, Refusal, State};
 
 // Puts a line's offset into the lent table, if one is lent, behind those of the lines before it: whether the table has room for it. Where it has none, the table stays.
 pub fn put_entry(lent: bool, table: &mut [u32], lines: u32, at: u32) -> bool
@@ -35,61 +35,52 @@ fn in_next(reason: Reason, byte: u32, st: State) -> Refusal
     }
 }
 
-// What a turn comes to, with the place of the next line and the state there; where the check stops, the place and the state are the old ones.
+// How far the check has come: the place of the next line, and the state there.
 #[derive(Clone, Copy)]
-pub struct Turn {
-    pub outcome: Outcome,
+pub struct Reached {
     pub at: usize,
     pub state: State,
 }
 
-// A turn that stops the check in the line at the place.
-fn halted(reason: Reason, byte: u32, at: u32, st: State) -> Turn
-    requires { st.flight.lines ≤ 16777216 }
-    ensures { result ≡ halt (in_next reason byte st) at st }
-{
-    Turn {
-        outcome: Outcome::Refused(in_next(reason, byte, st)),
-        at: at as usize,
-        state: st,
-    }
-}
-
 // A good line gets its entry in the table, or stops the check where none is left.
-fn enter(lent: bool, table: &mut [u32], at: u32, st: State, next: usize, after: State) -> Turn
+fn enter(
+    lent: bool,
+    table: &mut [u32],
+    at: u32,
+    st: State,
+    next: usize,
+    after: State,
+) -> Result<Reached, Refusal>
     requires { st.flight.lines ≤ 16777216 }
     ensures { Turned (good_line (room_of lent table.old) st next after) lent table.old at st result table.new }
 {
     let lines = st.flight.lines;
     if !put_entry(lent, table, lines, at) {
-        return halted(Reason::TableFull, 0, at, st);
+        return Err(in_next(Reason::TableFull, 0, st));
     }
-    Turn {
-        outcome: Outcome::Accepted,
+    Ok(Reached {
         at: next,
         state: after,
-    }
+    })
 }
 
 // A line that was judged after those of the state, with the place behind it: it is entered, or it stops the check. Refused with 17 where the state's count of lines
 // is past a file's most bytes.
-pub fn leave(judged: Judged, lent: bool, table: &mut [u32], at: u32, st: State, next: usize) -> Turn
+pub fn leave(
+    judged: Result<State, Refusal>,
+    lent: bool,
+    table: &mut [u32],
+    at: u32,
+    st: State,
+    next: usize,
+) -> Result<Reached, Refusal>
     ensures { LineLeft judged lent table.old at st next result table.new }
 {
     if 16777216 < st.flight.lines {
-        return Turn {
-            outcome: Outcome::Refused(file_lines::unplaced(Reason::BadValue)),
-            at: at as usize,
-            state: st,
-        };
+        return Err(file_lines::unplaced(Reason::BadValue));
     }
-    let outcome = judged.outcome;
-    let after = judged.state;
-    match outcome {
-        Outcome::Accepted => enter(lent, table, at, st, next, after),
-        Outcome::Refused(why) => {
-            let reason = why.reason;
-            halted(reason, why.byte, at, st)
-        }
+    match judged {
+        Ok(after) => enter(lent, table, at, st, next, after),
+        Err(why) => Err(in_next(why.reason, why.byte, st)),
     }
 }

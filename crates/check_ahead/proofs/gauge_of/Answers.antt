@@ -1,6 +1,5 @@
 -- `check_ahead::gauge_of` meets its contract. Assumes nothing.
 use native.Mathlib.Omega.{arith}
-use borrow.Author.Rules.{rules}
 use Rattle.layout_coded.proofs.Turns.{unmapped}
 use Rattle.check_ahead.proofs.Runs.{count_most, pattern_put, pattern_fits}
 use Rattle.check_ahead.proofs.gauge_of.Goals as goal

@@ -8,7 +8,7 @@ pub run_strides-requires : goal.run_strides-requires
 run_strides-requires c =
     let pre = c.requires in
     -- what the state tells by its type, field by field: each layout has 13 entries
-    let state = c.well_formed.1.1.1.1.1.1.1.1.1.1.0.1.1 in
+    let state = c.well_formed.1.1.1.1.1.1.1.0.1.1 in
     let flight = state.1.1.1.1.0.1.1 in
     let layouts = flight.1.0.1.1 in
     let fixes : length c.args.st.flight.layouts.b.entries ≡ 13 = layouts.0.1.1.1.0.1.0.1 in

@@ -1,14 +1,11 @@
 -- `check_ahead::run_strides` meets its contract: at each turn, what holds before the run leads to what holds here. Assumes nothing.
-use Prim.Native.Nat.{◌-◌}
 use mathlib.Core.Path.{refl, ap, ◌∙◌}
 use native.Mathlib.Omega.{arith}
-use borrow.Author.Rules.{rules}
 use borrow.Author.Tests.{not-true, not-false}
 use lib.ListN.{length}
 use Rattle.check_table.proofs.Turns.{put_none}
-use Rattle.check_ahead.specs.Runs.{Running}
 use Rattle.check_ahead.proofs.Runs.{taken_is, running_first, running_next, running_less, running_end}
-use Rattle.check_ahead.proofs.Strides.{fix_long, extra_long, strode, running_strode, running_few}
+use Rattle.check_ahead.proofs.Strides.{strode, running_strode, running_few}
 use Rattle.check_ahead.proofs.run_strides.Goals as goal
 
 pub loop-p-init : goal.loop-p-init
@@ -20,7 +17,7 @@ pub run_placed-p-requires : goal.run_placed-p-requires
 run_placed-p-requires c =
     let g = c.loop-p.invariant in
     let pre = c.requires in
-    (fix_long pre.9, extra_long pre.10, pre.1, running_few g pre.1 pre.2, g.within)
+    (pre.1, running_few g pre.1 pre.2, g.within)
 
 pub shape_of-table-then-file-p : goal.shape_of-table-then-file-p
 shape_of-table-then-file-p c =
@@ -77,7 +74,7 @@ loop-p-smaller c =
     let pre = c.requires in
     let h = running_strode g pre.6 pre.7 pre.11 pre.12 pre.9 pre.10 c.run_placed-p.ensures in
     let r = strode g pre.6 pre.7 pre.11 pre.12 pre.9 pre.10 c.run_placed-p.ensures in
-    let t = taken_is _ (c.take_line.ensures _ h.going pre.6 pre.7 pre.8) c.in-Next.is in
+    let t = taken_is _ (c.take_line.ensures _ h.going pre.6 pre.7 pre.8) c.in-Some.is in
     omega (arith, r.begun, running_less h t, t.passed.within)
 
 pub loop-p-preserved : goal.loop-p-preserved
@@ -85,7 +82,7 @@ loop-p-preserved c =
     let g = c.loop-p.invariant in
     let pre = c.requires in
     let h = running_strode g pre.6 pre.7 pre.11 pre.12 pre.9 pre.10 c.run_placed-p.ensures in
-    let t = taken_is _ (c.take_line.ensures _ h.going pre.6 pre.7 pre.8) c.in-Next.is in
+    let t = taken_is _ (c.take_line.ensures _ h.going pre.6 pre.7 pre.8) c.in-Some.is in
     running_next h t _ _ c.put_entry.ensures (not-false _ c.if-not-put_entry.false-raw)
 
 pub shape_of-table : goal.shape_of-table

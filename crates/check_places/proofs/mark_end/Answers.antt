@@ -1,5 +1,5 @@
 -- `check_places::mark_end` meets its contract. Assumes nothing.
-use Rattle.std.proofs.Common.{◌≡◌, suc, ◌+◌, arith, rules}
+use Rattle.std.proofs.Common.{◌≡◌, suc, ◌+◌, arith}
 use Rattle.check_places.proofs.mark_end.Goals as goal
 
 pub returns : goal.returns

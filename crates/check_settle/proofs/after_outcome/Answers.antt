@@ -1,12 +1,13 @@
 -- `check_settle::after_outcome` meets its contract. Assumes nothing.
-use borrow.Author.Rules.{rules}
-use Rattle.rules.specs.Refusals.{outcome_told}
+use mathlib.Core.Path.{refl}
+use Rattle.rules.specs.Refusals.{result_told}
+use Rattle.rules.proofs.Handed.{handed_on}
 use Rattle.check_settle.proofs.after_outcome.Goals as goal
 
-pub returns-in-Accepted : goal.returns-in-Accepted
-unfolding outcome_told
-returns-in-Accepted c = rw c.in-Accepted.is c.passed.ensures
+pub returns-in_err-outcome : goal.returns-in_err-outcome
+unfolding result_told
+returns-in_err-outcome c = handed_on _ _ _ c.from_residual.ensures.1 (rw c.in_err-outcome.was refl)
 
-pub returns-in-Refused : goal.returns-in-Refused
-unfolding outcome_told
-returns-in-Refused c = rw c.in-Refused.is c.refused.ensures
+pub returns : goal.returns
+unfolding result_told
+returns c = rw c.in_ok-outcome.was refl

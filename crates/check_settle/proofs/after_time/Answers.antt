@@ -1,12 +1,13 @@
 -- `check_settle::after_time` meets its contract. Assumes nothing.
-use borrow.Author.Rules.{rules}
-use Rattle.rules.specs.Reads.{time_read_told}
+use mathlib.Core.Path.{refl}
+use Rattle.rules.specs.Refusals.{result_told}
+use Rattle.rules.proofs.Handed.{handed_on}
 use Rattle.check_settle.proofs.after_time.Goals as goal
 
-pub returns-in-Secs : goal.returns-in-Secs
-unfolding time_read_told
-returns-in-Secs c = rw c.in-Secs.is c.timed_at.ensures
+pub returns-in_err-read : goal.returns-in_err-read
+unfolding result_told
+returns-in_err-read c = handed_on _ _ _ c.from_residual.ensures.1 (rw c.in_err-read.was refl)
 
-pub returns-in-Refused : goal.returns-in-Refused
-unfolding time_read_told
-returns-in-Refused c = rw c.in-Refused.is c.refused.ensures
+pub returns : goal.returns
+unfolding result_told
+returns c = rw c.in_ok-read.was c.timed_at.ensures

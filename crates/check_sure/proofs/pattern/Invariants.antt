@@ -1,18 +1,12 @@
 -- `check_sure::pattern` meets its contract: what is left to put behind the entries so far gives the whole pattern. Assumes nothing.
-use Prim.Native.Nat.{◌*◌, ◌-◌, ◌≤◌}
-use mathlib.Core.Path.{◌≡◌, refl, sym, ◌∙◌}
-use lib.ListN.{length, drop, replicate}
+use Prim.Native.Nat.{◌*◌}
+use mathlib.Core.Path.{◌≡◌}
+use lib.ListN.{drop, replicate}
 use lib.Seq.{sets}
 use Rattle.rules.specs.Layouts.{entries_of}
-use Rattle.layout_coded.proofs.Turns.{unmapped}
 use Rattle.check_sure.specs.Sure.{pattern_of}
-use Rattle.check_sure.proofs.Laws.{pattern_turn, pattern_past, pattern_end}
-use borrow.Author.Rules.{rules}
 use Rattle.check_sure.proofs.pattern.Given as goal
 
 abbrev pub invariant-loop-i : goal.invariant-loop-i
 invariant-loop-i l =
-    (l.i ≤ 13) × (sets l.p (3 * l.i) (pattern_of (drop l.i (entries_of l.layout))) ≡ sets (replicate 39 0) 0 (pattern_of (entries_of l.layout)))
-
-abbrev pub decreases-loop-i : goal.decreases-loop-i
-decreases-loop-i l = 13 - l.i
+    (sets l.p (3 * l.i) (pattern_of (drop l.i (entries_of l.fn.layout))) ≡ sets (replicate 39 0) 0 (pattern_of (entries_of l.fn.layout)))

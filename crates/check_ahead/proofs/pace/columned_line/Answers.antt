@@ -1,5 +1,4 @@
 -- `check_ahead::pace::columned_line` meets its contract: a line that is taken is one that the check judges good. Assumes nothing.
-use borrow.Author.Rules.{rules}
 use Rattle.check_ahead.proofs.Lines.{columned_told_lem}
 use Rattle.check_ahead.proofs.pace.columned_line.Goals as goal
 

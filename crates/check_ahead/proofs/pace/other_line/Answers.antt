@@ -1,14 +1,13 @@
--- `check_ahead::pace::other_line` meets its contract: a line that is taken is one that the check judges good. Assumes nothing.
-use mathlib.Core.Path.{◌∙◌}
-use borrow.Author.Rules.{rules}
-use Rattle.check_ahead.proofs.Lines.{remark_told, event_told, satellites_told}
+-- `check_ahead::pace::other_line` meets its contract: each kind is judged as the check judges it. Assumes nothing.
+use mathlib.Core.Path.{sym, ◌∙◌}
+use Rattle.check_ahead.proofs.Lines.{ok_is, remark_told, event_told, satellites_told}
 use Rattle.check_ahead.proofs.pace.other_line.Goals as goal
+use Rattle.check_ahead.proofs.pace.other_line.Goals.{in-76+in_ok-ok-in-76, in-69+in_ok-time-in-69, in-70+in_ok-time-in-70}
 
-pub returns-then-letter-eq76 : goal.returns-then-letter-eq76
-returns-then-letter-eq76 c = λ st g e n. remark_told _ st _ _ g n _ _ (e ∙ c.if-letter-eq76.true) c.shaped.ensures c.in_default.is c.after_time.ensures
-
-pub returns-then-letter-eq69 : goal.returns-then-letter-eq69
-returns-then-letter-eq69 c = λ st g e n. event_told _ st _ _ g n _ _ _ (e ∙ c.if-letter-eq69.true) c.event.ensures c.in-Secs.is c.after_time-then-letter-eq69.ensures
-
-pub returns-then-letter-eq70 : goal.returns-then-letter-eq70
-returns-then-letter-eq70 c = λ st g e n. satellites_told _ st _ _ g n _ _ _ (e ∙ c.if-letter-eq70.true) c.satellites.ensures c.in-Secs-satellites.is c.after_time-then-letter-eq70.ensures
+pub returns : goal.returns
+returns c = λ st g e n.
+    elim c.match-letter.branch [
+      | in-76+in_ok-ok-in-76 w ↦ remark_told _ st _ _ g n _ _ (e ∙ w.in-76.is) w.shaped.ensures (ok_is _ _ (sym w.ok.ensures.value ∙ w.in_ok-ok-in-76.was)) (rw w.time-is at c.after_time.ensures)
+      | in-69+in_ok-time-in-69 w ↦ event_told _ st _ _ g n _ _ _ (e ∙ w.in-69.is) w.event.ensures (ok_is _ _ (sym w.ok-in-69.ensures.value ∙ w.in_ok-time-in-69.was)) (rw w.time-is at c.after_time.ensures)
+      | in-70+in_ok-time-in-70 w ↦ satellites_told _ st _ _ g n _ _ _ (e ∙ w.in-70.is) w.satellites.ensures (ok_is _ _ (sym w.ok-in-70.ensures.value ∙ w.in_ok-time-in-70.was)) (rw w.time-is at c.after_time.ensures)
+    ]

@@ -21,23 +21,23 @@ returns-then-file-from c =
 pub loop-at-smaller : goal.loop-at-smaller
 loop-at-smaller c =
     let h = c.run_ahead-run.ensures.reach _ _ c.loop-at.invariant in
-    let o = here_on h c.requires.0 c.requires.1 c.if-file-from.false c.take-taken.ensures c.in-Accepted.is in
+    let o = here_on h c.requires.0 c.requires.1 c.if-file-from.false c.take.ensures _ c.in-Ok.is in
     omega (arith, o.less, o.here.within, c.run_ahead-run.ensures.onward)
 
 pub loop-at-preserved : goal.loop-at-preserved
 loop-at-preserved c =
     let h = c.run_ahead-run.ensures.reach _ _ c.loop-at.invariant in
-    (here_on h c.requires.0 c.requires.1 c.if-file-from.false c.take-taken.ensures c.in-Accepted.is).here
+    (here_on h c.requires.0 c.requires.1 c.if-file-from.false c.take.ensures _ c.in-Ok.is).here
 
-pub shape_of-table-in-Refused : goal.shape_of-table-in-Refused
-shape_of-table-in-Refused c =
+pub shape_of-table-in-Err : goal.shape_of-table-in-Err
+shape_of-table-in-Err c =
     let h = c.run_ahead-run.ensures.reach _ _ c.loop-at.invariant in
-    here_long h c.requires.0 c.requires.1 c.if-file-from.false c.take-taken.ensures
+    here_long h c.requires.0 c.requires.1 c.if-file-from.false c.take.ensures
 
-pub returns-in-Refused : goal.returns-in-Refused
-returns-in-Refused c =
+pub returns-in-Err : goal.returns-in-Err
+returns-in-Err c =
     let h = c.run_ahead-run.ensures.reach _ _ c.loop-at.invariant in
-    here_stop h c.requires.0 c.requires.1 c.if-file-from.false c.take-taken.ensures _ c.in-Refused.is _ c.refused.ensures
+    here_stop h c.requires.0 c.requires.1 c.if-file-from.false c.take.ensures _ c.in-Err.is _ c.refused.ensures
 
 pub returns : goal.returns
 returns c = here_end c.loop-at.invariant c.requires.0 c.requires.1 c.loop-at-test.false _ c.finished-2.ensures

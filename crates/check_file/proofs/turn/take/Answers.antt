@@ -9,7 +9,7 @@ use Rattle.check_file.proofs.turn.take.Goals as goal
 
 pub returns-then-not-may_take : goal.returns-then-not-may_take
 unfolding turn_at
-returns-then-not-may_take c = rw (sym c.may_take.ensures ∙ not-true _ c.if-not-may_take.true-raw, c.unplaced.ensures) (halts _ refl refl refl)
+returns-then-not-may_take c = rw (sym c.may_take.ensures ∙ not-true _ c.if-not-may_take.true-raw, c.unplaced.ensures) (halts c.args.st _ refl refl)
 
 pub take_line-requires : goal.take_line-requires
 unfolding turn_at
