@@ -1,8 +1,8 @@
 -- An accepted file is the part up to the end of its last G line, and then its notes, each a text with CR LF. Assumes nothing.
+use Rattle.std.specs.Prelude.{None, Option}
 use Prim.Native.Nat.{ℕ, ◌≤◌}
 use mathlib.Core.Bool.{Bool, true, false, ◌||◌, cond}
 use mathlib.Core.List.{List, [], ◌∷◌, ◌++◌, append_assoc}
-use mathlib.Core.Option.{Option, none}
 use mathlib.Core.Path.{◌≡◌, refl, sym, ◌∙◌, ap}
 use native.Mathlib.Omega.{arith}
 use borrow.Author.Tests.{leb-true, ne_eqb}
@@ -53,12 +53,12 @@ run_filled seal room (line t ls) st f e =
     let g = ran seal room st t ls f e in
     ((judged t st g.after g.judges).long, run_filled seal room ls g.after f g.runs)
 
-pub accepted_filled : (seal : Seal) (file : List ℕ) (f : Flight) → verdict seal file none ≡ says f → Filled (lines_of file)
+pub accepted_filled : (seal : Seal) (file : List ℕ) (f : Flight) → verdict seal file None ≡ says f → Filled (lines_of file)
 unfolding verdict
 accepted_filled seal file f e =
     let a = need_inv (leb 1 (length file)) _ (says f) _ refuses_says e in
     let b = need_inv (leb (length file) 16777216) _ (says f) _ refuses_says a.1 in
-    run_filled seal none (lines_of file) start f b.1
+    run_filled seal None (lines_of file) start f b.1
 
 plain_text : (t : List ℕ) → Text t → Plain t
 plain_text [] h = tt
@@ -87,12 +87,12 @@ pub record Copy (file : List ℕ) : Type 0 where
   -- what stands behind the common part
   pub behind : drop (length (common_part (lines_of file))) file ≡ joined (notes_in (lines_of file))
 
-pub copy : (seal : Seal) (file : List ℕ) (f : Flight) → verdict seal file none ≡ says f → Copy file
+pub copy : (seal : Seal) (file : List ℕ) (f : Flight) → verdict seal file None ≡ says f → Copy file
 unfolding verdict
 copy seal file f e =
     let a = need_inv (leb 1 (length file)) _ (says f) _ refuses_says e in
     let b = need_inv (leb (length file) 16777216) _ (says f) _ refuses_says a.1 in
-    let w = accepted_whole seal file none f e in
+    let w = accepted_whole seal file None f e in
     let p : file ≡ common_part (lines_of file) ++ joined (notes_in (lines_of file)) = sym (file_is_its_lines file w) ∙ parted (lines_of file) w in
     record {
       most = leb-true _ _ b.0;

@@ -1,17 +1,17 @@
 -- The part of a file up to the end of its last G line: it is the file's front; it is counted line by line; and two files have it alike where the bytes of it are the same.
 -- Assumes nothing.
+use Rattle.std.specs.Prelude.{None, Option, Some}
 use Prim.Native.Nat.{ℕ, suc, ◌+◌, ◌-◌, ◌≤◌, ◌<◌}
-use mathlib.Core.Bool.{Bool, true, false, ◌&&◌, ◌||◌, cond}
+use mathlib.Core.Bool.{Bool, true, false, not, ◌&&◌, ◌||◌, cond}
 use mathlib.Core.List.{List, [], ◌∷◌, ◌++◌, append_assoc}
 use mathlib.Core.Logic.{◌⊎◌, inl, inr}
-use mathlib.Core.Option.{Option, none, some}
 use mathlib.Core.Path.{◌≡◌, refl, sym, ◌∙◌, ap}
-use native.Mathlib.Numerals.{add-one}
 use native.Mathlib.Omega.{arith}
-use borrow.Author.Tests.{eq-eqb, ne_eqb, eqb-true}
+use borrow.Author.Tests.{eq-eqb, ne_eqb, eqb-true, not-true, not-false}
 use lib.Dec.{eqb}
 use lib.ListN.{length, take, drop, get_or, length-append, length-drop, drop_of_length-le}
-use lib.Seq.{drop-cons, get_or-drop, take-append_seam, length-take-le}
+use lib.Pointwise.{pointwise}
+use lib.Seq.{get_or-drop, take-append_seam, length-take-le}
 use Rattle.rules.specs.Split.{Lines, end, broken, line, lines_of}
 use Rattle.rules.proofs.Inverse.{false_true, and_inv}
 use Rattle.rules_laws.proofs.Splitting.{cut}
@@ -140,26 +140,12 @@ module _ (f : List ℕ) where
 
 -- ---- two files compared
 
--- what is left to compare
-abbrev pub left : List ℕ → List ℕ → ℕ → ℕ → Bool
-left f g n i = is_same (take (n - i) (drop i f)) (take (n - i) (drop i g))
-
-pub left_first : (f g : List ℕ) (n : ℕ) → left f g n 0 ≡ is_same (take n f) (take n g)
-left_first f g n = let z : n - 0 ≡ n = omega arith in rw z
-
-module _ (f g : List ℕ) (n i : ℕ) where
-  pub same_end : n ≤ i → true ≡ left f g n i
-  same_end h = let z : n - i ≡ 0 = omega arith in rw z
-
-  module _ (h : i < n) (a : n ≤ length f) (b : n ≤ length g) where
-    opened : left f g n i ≡ (eqb (get_or f i 0) (get_or g i 0) && left f g n (i + 1))
-    opened = let s : n - i ≡ suc (n - (i + 1)) = omega arith in rw (s, drop-cons f i 0 (omega arith), drop-cons g i 0 (omega arith), ← add-one i)
-
-    pub same_differ : (get_or f i 0 ≡ get_or g i 0 → ⊥) → false ≡ left f g n i
-    same_differ d = rw (opened, ne_eqb (get_or f i 0) (get_or g i 0) d)
-
-    pub same_next : get_or f i 0 ≡ get_or g i 0 → left f g n (i + 1) ≡ left f g n i
-    same_next e = rw (opened, eq-eqb (get_or f i 0) (get_or g i 0) e)
+-- as `==` compares them
+pub bytes_same : (x y : List ℕ) → pointwise eqb x y ≡ is_same x y
+bytes_same [] [] = refl
+bytes_same [] (b ∷ y) = refl
+bytes_same (a ∷ x) [] = refl
+bytes_same (a ∷ x) (b ∷ y) = rw (bytes_same x y)
 
 -- texts of other lengths are not the same
 pub same_length : (x y : List ℕ) → (length x ≡ length y → ⊥) → is_same x y ≡ false
@@ -196,9 +182,9 @@ module _ (first second : List ℕ) where
 
   -- what is found
   abbrev alike : Option ℕ
-  alike = cond (is_same one two) (some (length one)) none
+  alike = cond (is_same one two) (Some (length one)) None
 
-  pub not_alike : (n m : ℕ) → n ≡ length one → m ≡ length two → (n ≡ m → ⊥) → none ≡ alike
+  pub not_alike : (n m : ℕ) → n ≡ length one → m ≡ length two → (n ≡ m → ⊥) → None ≡ alike
   not_alike n m e g d = rw (same_length one two (λ z. d (e ∙ z ∙ sym g)))
 
   module _ (n m : ℕ) (e : n ≡ length one) (g : m ≡ length two) (s : n ≡ m) where
@@ -208,8 +194,9 @@ module _ (first second : List ℕ) where
         let b : take n second ≡ two = ap (λ (k : ℕ). take k second) (s ∙ g) ∙ front_is second in
         rw (a, b) at q
 
-    pub other_bytes : (r : Bool) → r ≡ is_same (take n first) (take n second) → r ≡ false → none ≡ alike
-    other_bytes r q d = rw (sym (front_same r q) ∙ d)
+    -- `r` is what `!=` said of their bytes
+    pub other_bytes : (r : Bool) → r ≡ not (pointwise eqb (take n first) (take n second)) → r ≡ true → None ≡ alike
+    other_bytes r q d = rw (sym (front_same (pointwise eqb (take n first) (take n second)) (bytes_same (take n first) (take n second))) ∙ not-true _ (sym q ∙ d))
 
-    pub same_bytes : (r : Bool) → r ≡ is_same (take n first) (take n second) → r ≡ true → some n ≡ alike
-    same_bytes r q d = rw (sym (front_same r q) ∙ d, e)
+    pub same_bytes : (r : Bool) → r ≡ not (pointwise eqb (take n first) (take n second)) → r ≡ false → Some n ≡ alike
+    same_bytes r q d = rw (sym (front_same (pointwise eqb (take n first) (take n second)) (bytes_same (take n first) (take n second))) ∙ not-false _ (sym q ∙ d), e)

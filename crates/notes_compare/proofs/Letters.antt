@@ -1,6 +1,7 @@
 -- A text byte by byte, and two texts compared byte by byte. Assumes nothing.
-use Prim.Native.Nat.{ℕ, ◌+◌, ◌-◌, ◌≤◌, ◌<◌}
-use mathlib.Core.Bool.{Bool, true, false, not, cond}
+use Rattle.std.specs.Prelude.{None, Some}
+use Prim.Native.Nat.{ℕ, ◌+◌, ◌≤◌, ◌<◌}
+use mathlib.Core.Bool.{Bool, true, false, not}
 use mathlib.Core.List.{List, [], ◌∷◌}
 use mathlib.Core.Path.{◌≡◌, sym, ◌∙◌}
 use native.Mathlib.Numerals.{add-one}
@@ -38,20 +39,20 @@ module _ (s : List ℕ) (i : ℕ) where
       (λ e. g (ltb-true i (length s) h) (text_more (ltb-true i (length s) h) (eqb-false (get_or s i 0) 13 e))))
       (λ h. f (text_past (ltb-false i (length s) h)))
 
-  pub letter_more : (r : Bool) → r ≡ in_text (text_at s i) → r ≡ true → get_or s i 0 + 1 ≡ letter (text_at s i)
+  pub letter_more : (r : Bool) → r ≡ in_text (text_at s i) → r ≡ true → Some (get_or s i 0) ≡ letter (text_at s i)
   letter_more r e f = text_cases (λ t. clash (sym e ∙ f) (rw t)) (λ h t. rw t)
 
-  pub letter_end : (r : Bool) → r ≡ in_text (text_at s i) → r ≡ false → 0 ≡ letter (text_at s i)
+  pub letter_end : (r : Bool) → r ≡ in_text (text_at s i) → r ≡ false → None ≡ letter (text_at s i)
   letter_end r e f = text_cases (λ t. rw t) (λ h t. clash (rw t) (sym e ∙ f))
 
-  pub letter_inside : (b : ℕ) → b ≡ letter (text_at s i) → (b ≡ 0 → ⊥) → i < length s
-  letter_inside b e n = text_cases (λ t. absurd (n (rw t at e))) (λ h t. h)
+  pub letter_inside : (b : ℕ) → Some b ≡ letter (text_at s i) → i < length s
+  letter_inside b e = text_cases (λ t. let f : Some b ≡ None = rw t at e in cc) (λ h t. h)
 
-  letter_text : (b : ℕ) → b ≡ letter (text_at s i) → (b ≡ 0 → ⊥) → text_at s i ≡ (b - 1) ∷ text_at s (i + 1)
-  letter_text b e n = text_cases (λ t. absurd (n (rw t at e))) (λ h t. let k : get_or s i 0 ≡ b - 1 = omega (arith, rw t at e) in rw (← k) t)
+  letter_text : (b : ℕ) → Some b ≡ letter (text_at s i) → text_at s i ≡ b ∷ text_at s (i + 1)
+  letter_text b e = text_cases (λ t. let f : Some b ≡ None = rw t at e in cc) (λ h t. let f : Some b ≡ Some (get_or s i 0) = rw t at e in let k : get_or s i 0 ≡ b = cc in rw k at t)
 
-  letter_none : 0 ≡ letter (text_at s i) → text_at s i ≡ []
-  letter_none e = text_cases (λ t. t) (λ h t. absurd (omega (arith, rw t at e)))
+  letter_none : None ≡ letter (text_at s i) → text_at s i ≡ []
+  letter_none e = text_cases (λ t. t) (λ h t. let f : None ≡ Some (get_or s i 0) = rw t at e in cc)
 
   pub in_past : length s ≤ i → false ≡ in_text (text_at s i)
   in_past h = rw (text_past h)
@@ -70,30 +71,20 @@ module _ (s : List ℕ) (i : ℕ) where
 
 -- ---- two texts, byte by byte
 
-module _ (s t : List ℕ) (x y b : ℕ) (e : b ≡ letter (text_at s x)) where
-  pub most_none : b ≡ 0 → true ≡ not_after (text_at s x) (text_at t y)
-  most_none h = rw (letter_none s x (sym h ∙ e))
+module _ (s t : List ℕ) (x y : ℕ) where
+  pub most_none : None ≡ letter (text_at s x) → true ≡ not_after (text_at s x) (text_at t y)
+  most_none e = rw (letter_none s x e)
 
-  module _ (c : ℕ) (f : c ≡ letter (text_at t y)) (n : b ≡ 0 → ⊥) where
-    pub most_less : b < c → true ≡ not_after (text_at s x) (text_at t y)
-    most_less h =
-        rw (letter_text s x b e n, letter_text t y c f (λ z. omega arith), lt-ltb (b - 1) (c - 1) (let p : b ≡ 0 → ⊥ = n in omega arith))
+  module _ (b : ℕ) (e : Some b ≡ letter (text_at s x)) where
+    pub most_ended : None ≡ letter (text_at t y) → false ≡ not_after (text_at s x) (text_at t y)
+    most_ended f = rw (letter_text s x b e, letter_none t y f)
 
-    pub most_more : c < b → false ≡ not_after (text_at s x) (text_at t y)
-    most_more h =
-        text_cases t y (λ k. rw (letter_text s x b e n, k))
-        (λ i k. let g : c ≡ get_or t y 0 + 1 = f ∙ rw k in rw (letter_text s x b e n, k, le-ltb (b - 1) (get_or t y 0) (omega arith), lt-ltb (get_or t y 0) (b - 1) (omega arith)))
+    module _ (c : ℕ) (f : Some c ≡ letter (text_at t y)) where
+      pub most_other : (b ≡ c → ⊥) → ltb b c ≡ not_after (text_at s x) (text_at t y)
+      most_other n =
+          by_bool (ltb b c)
+          (λ l. rw (letter_text s x b e, letter_text t y c f, l))
+          (λ l. rw (letter_text s x b e, letter_text t y c f, l, lt-ltb c b (let h = ltb-false b c l in omega arith)))
 
-    pub most_same : (b < c → ⊥) → (c < b → ⊥) → not_after (text_at s (x + 1)) (text_at t (y + 1)) ≡ not_after (text_at s x) (text_at t y)
-    most_same h k =
-        let d : b ≡ c = omega arith in
-        rw (letter_text s x b e n, letter_text t y c f (λ z. n (d ∙ z)), le-ltb (b - 1) (c - 1) (omega arith), le-ltb (c - 1) (b - 1) (omega arith))
-
--- ---- whose text comes first: r and t are what the two tests said
-
-module _ (p q r : Bool) (e : r ≡ p) where
-  pub whose_both : (t : Bool) → r ≡ true → t ≡ q → t ≡ true → ◌≡◌ {A = ℕ} 1 (cond p (cond q 1 0) 2)
-  whose_both t f g w = rw (← e, f, ← g, w)
-
-  pub whose_first : (t : Bool) → r ≡ true → t ≡ q → t ≡ false → ◌≡◌ {A = ℕ} 0 (cond p (cond q 1 0) 2)
-  whose_first t f g w = rw (← e, f, ← g, w)
+      pub most_same : b ≡ c → not_after (text_at s (x + 1)) (text_at t (y + 1)) ≡ not_after (text_at s x) (text_at t y)
+      most_same d = rw (letter_text s x b e, letter_text t y c f, le-ltb b c (omega arith), le-ltb c b (omega arith))

@@ -1,21 +1,23 @@
 -- A text byte by byte: its first byte, or that it has ended.
-use Rattle.std.specs.Prelude.{ℕ, ◌+◌, Bool, true, false, cond, List, [], ◌∷◌, ◌≡◌}
+use Rattle.std.specs.Prelude.{ℕ, Bool, true, false, cond, List, [], ◌∷◌, ◌≡◌, Option, Some, None}
+use Rattle.std.specs.declared.cmp.Ordering.{Ordering}
+use Rattle.std.specs.declared.cmp.Ordering.TheVariants.{Less, Equal, Greater}
 use Rattle.notes_rules.specs.Notes.{not_after}
 use Rattle.notes_rules.specs.Places.{text_at, earlier}
 
--- a text's first byte and one more, or 0
-abbrev pub letter : List ℕ → ℕ
-letter [] = 0
-letter (b ∷ t) = b + 1
+-- a text's first byte, if it has one
+abbrev pub letter : List ℕ → Option ℕ
+letter [] = None
+letter (b ∷ t) = Some b
 
 -- the text has not ended
 abbrev pub in_text : List ℕ → Bool
 in_text [] = false
 in_text (b ∷ t) = true
 
--- whose text comes first of two: 0 the first's, 2 the second's, 1 that of both
-abbrev pub whose_of : List ℕ → List ℕ → ℕ
-whose_of u v = cond (not_after u v) (cond (not_after v u) 1 0) 2
+-- whose text comes first of two: `Less` the first's, `Greater` the second's, `Equal` that of both
+abbrev pub whose_of : List ℕ → List ℕ → Ordering
+whose_of u v = cond (not_after u v) (cond (not_after v u) Equal Less) Greater
 
 -- ---- promises
 
@@ -24,7 +26,7 @@ abbrev pub TextsCompared : List ℕ → ℕ → List ℕ → ℕ → Bool → Ty
 TextsCompared s i t j r = r ≡ not_after (text_at s i) (text_at t j)
 
 -- whose text comes first, of the one behind i bytes of s and the one behind j bytes of t
-abbrev pub WhoseGiven : List ℕ → ℕ → List ℕ → ℕ → ℕ → Type 0
+abbrev pub WhoseGiven : List ℕ → ℕ → List ℕ → ℕ → Ordering → Type 0
 WhoseGiven s i t j r = r ≡ whose_of (text_at s i) (text_at t j)
 
 -- the note at i does not come after the note at j

@@ -5,24 +5,20 @@ ghost use Rattle.std.specs.Prelude.{◌≡◌};
 ghost use Rattle.notes_rules.specs.Places.{text_at};
 ghost use Rattle.notes_compare.specs.Letters.{letter, TextsCompared, WhoseGiven, PlacesCompared, TextGoesOn};
 
+use std::cmp::Ordering;
+
 // Whether a byte of text stands behind i bytes: there is one, and it is not CR.
 pub fn in_text(s: &[u8], i: usize) -> bool
     ensures { TextGoesOn s.now i result }
 {
-    if s.len() <= i {
-        return false;
-    }
-    s[i] != 13
+    i < s.len() && s[i] != b'\r'
 }
 
-// The byte of the text there, and one more; 0 where the text has ended.
-fn letter_at(s: &[u8], i: usize) -> u32
+// The byte of the text there; none where the text has ended.
+fn letter_at(s: &[u8], i: usize) -> Option<u8>
     ensures { result ≡ letter (text_at s.now i) }
 {
-    if in_text(s, i) {
-        return s[i] as u32 + 1;
-    }
-    0
+    if in_text(s, i) { Some(s[i]) } else { None }
 }
 
 // Whether the text behind i bytes of s does not come after the text behind j bytes of t: by byte value, a text that begins the other first.
@@ -31,34 +27,33 @@ pub fn at_most(s: &[u8], i: usize, t: &[u8], j: usize) -> bool
 {
     let mut x = i;
     let mut y = j;
+    // counted by hand: it walks in two texts at once, and neither has an end of its own before its CR
     loop {
-        let b = letter_at(s, x);
-        if b == 0 {
+        let Some(b) = letter_at(s, x) else {
             return true;
-        }
-        let c = letter_at(t, y);
-        if b < c {
-            return true;
-        }
-        if c < b {
+        };
+        let Some(c) = letter_at(t, y) else {
             return false;
+        };
+        if b != c {
+            return b < c;
         }
         x += 1;
         y += 1;
     }
 }
 
-// Whose text comes first, of the one behind i bytes of s and the one behind j bytes of t: 0 the first's, 2 the second's, 1 that of both, which are the same.
-pub fn whose(s: &[u8], i: usize, t: &[u8], j: usize) -> u32
+// Whose text comes first, of the one behind i bytes of s and the one behind j bytes of t: `Less` the first's, `Greater` the second's, `Equal` that of both, which are the same.
+pub fn whose(s: &[u8], i: usize, t: &[u8], j: usize) -> Ordering
     ensures { WhoseGiven s.now i t.now j result }
 {
-    if at_most(s, i, t, j) {
-        if at_most(t, j, s, i) {
-            return 1;
-        }
-        return 0;
+    if !at_most(s, i, t, j) {
+        return Ordering::Greater;
     }
-    2
+    if at_most(t, j, s, i) {
+        return Ordering::Equal;
+    }
+    Ordering::Less
 }
 
 // Whether the note at i does not come after the note at j: by their texts, and then by where they stand.
@@ -66,7 +61,8 @@ pub fn is_earlier(s: &[u8], i: usize, j: usize) -> bool
     ensures { PlacesCompared s.now i j result }
 {
     if i <= j {
-        return at_most(s, i, s, j);
+        at_most(s, i, s, j)
+    } else {
+        !at_most(s, j, s, i)
     }
-    !at_most(s, j, s, i)
 }

@@ -1,8 +1,8 @@
 -- Two files merged: the notes that the code weaves are the notes brought together, and each way out is a way through `merge_said`. Assumes nothing.
+use Rattle.std.specs.Prelude.{Err, None, Ok, Option, Result, Some, ⊤}
 use Prim.Native.Nat.{ℕ, ◌+◌, ◌-◌, ◌≤◌, ◌<◌}
 use mathlib.Core.Bool.{Bool, true, false, cond}
 use mathlib.Core.List.{List, [], ◌∷◌, ◌++◌, append_assoc}
-use mathlib.Core.Option.{none, some}
 use mathlib.Core.Path.{◌≡◌, refl, sym, ◌∙◌, ap}
 use native.Mathlib.Numerals.{add-one}
 use native.Mathlib.Omega.{arith}
@@ -11,15 +11,10 @@ use lib.Dec.{leb}
 use lib.ListN.{length, take, drop, get_or, set, length-append, length-drop, drop_of_length-le}
 use lib.Seq.{sets, sets-eq, length-sets, length-take-le, take-suc, take_all, drop-append_seam}
 use Rattle.rules.specs.Choice.{need, Each}
-use Rattle.rules.specs.Refusals.{number, Said, says, refuses, refusal, outcome, outcome_told}
+use Rattle.rules.specs.Refusals.{number, Said, says, refuses, refusal, outcome, result_told}
 use Rattle.rules.specs.Split.{lines_of}
 use Rattle.rules.specs.Files.{verdict}
-use Rattle.rules.specs.Promises.{found_told}
 use Rattle.rules.specs.declared.Flight.{Flight}
-use Rattle.rules.specs.declared.Found.{Found}
-use Rattle.rules.specs.declared.Found.TheVariants as found
-use Rattle.rules.specs.declared.Outcome.{Outcome}
-use Rattle.rules.specs.declared.Outcome.TheVariants as outcomes
 use Rattle.rules.specs.declared.Reason.TheVariants.{TooLong, NoRoom, NotSame}
 use Rattle.rules.specs.declared.Refusal.{Refusal}
 use Rattle.rules.specs.declared.Seal.TheVariants as seal
@@ -121,25 +116,25 @@ refused_is (refuses n l b) r e =
     let t : r.byte ≡ b = cc in
     rw (p, q, t)
 
-pub accepted_is : (file : List ℕ) (o : Outcome) → outcome_told o ≡ outcome (verdict seal.Strict file none) → o ≡ outcomes.Accepted → StrictlyAccepted file
-unfolding outcome_told
-accepted_is file o e g = go (verdict seal.Strict file none) refl (rw g at e)
+pub accepted_is : (file : List ℕ) (o : Result ⊤ Refusal) → result_told o ≡ outcome (verdict seal.Strict file None) → o ≡ (Ok tt) → StrictlyAccepted file
+unfolding result_told
+accepted_is file o e g = go (verdict seal.Strict file None) refl (rw g at e)
   where
-    go : (s : Said Flight) → verdict seal.Strict file none ≡ s → says tt ≡ outcome s → StrictlyAccepted file
+    go : (s : Said Flight) → verdict seal.Strict file None ≡ s → says tt ≡ outcome s → StrictlyAccepted file
     go (says f) h k = (f, h)
     go (refuses n l b) h k = absurd (refuses_says (sym k))
 
-module _ (first second out : List ℕ) (o : Outcome) (r : Refusal) (g : o ≡ outcomes.Refused r) where
-  pub first_refused : outcome_told o ≡ outcome (verdict seal.Strict first none) → FilesMerged first second out (brought.First r) out
-  unfolding outcome_told merge_said merge_told
+module _ (first second out : List ℕ) (o : Result ⊤ Refusal) (r : Refusal) (g : o ≡ Err r) where
+  pub first_refused : result_told o ≡ outcome (verdict seal.Strict first None) → FilesMerged first second out (brought.First r) out
+  unfolding result_told merge_said merge_told
   first_refused e =
-      let v = refused_is (verdict seal.Strict first none) r (rw g at e) in
+      let v = refused_is (verdict seal.Strict first None) r (rw g at e) in
       made first second out (brought.First r) out (rw v) (rw v)
 
-  pub second_refused : StrictlyAccepted first → outcome_told o ≡ outcome (verdict seal.Strict second none) → FilesMerged first second out (brought.Second r) out
-  unfolding outcome_told merge_said merge_told
+  pub second_refused : StrictlyAccepted first → result_told o ≡ outcome (verdict seal.Strict second None) → FilesMerged first second out (brought.Second r) out
+  unfolding result_told merge_said merge_told
   second_refused a e =
-      let v = refused_is (verdict seal.Strict second none) r (rw g at e) in
+      let v = refused_is (verdict seal.Strict second None) r (rw g at e) in
       made first second out (brought.Second r) out (rw (a.1, v)) (rw (a.1, v))
 
 -- ---- two accepted files
@@ -152,22 +147,21 @@ module _ (first second out : List ℕ) (a : StrictlyAccepted first) (b : Strictl
   two = common_part (lines_of second)
 
   -- what `alike` finds
-  abbrev found_is : Found → Type 0
-  found_is r = found_told r ≡ cond (is_same one two) (some (length one)) none
+  abbrev found_is : Option ℕ → Type 0
+  found_is r = r ≡ cond (is_same one two) (Some (length one)) None
 
-  pub not_same : (r : Found) (u : Refusal) → found_is r → r ≡ found.Nothing → u ≡ record { reason = NotSame; line = 0; byte = 0 } → FilesMerged first second out (brought.Neither u) out
-  unfolding found_told merge_said merge_told
+  pub not_same : (r : Option ℕ) (u : Refusal) → found_is r → r ≡ None → u ≡ record { reason = NotSame; line = 0; byte = 0 } → FilesMerged first second out (brought.Neither u) out
+  unfolding merge_said merge_told
   not_same r u e g v = go (is_same one two) refl (rw g at e)
     where
-      go : (t : Bool) → is_same one two ≡ t → none ≡ cond t (some (length one)) none → FilesMerged first second out (brought.Neither u) out
+      go : (t : Bool) → is_same one two ≡ t → None ≡ cond t (Some (length one)) None → FilesMerged first second out (brought.Neither u) out
       go true h k = absurd (none_some k)
       go false h k = made first second out (brought.Neither u) out (rw (v, a.1, b.1, h)) (rw (a.1, b.1, h))
 
-  pub found_same : (r : Found) (n : ℕ) → found_is r → r ≡ found.At n → (is_same one two ≡ true) × (n ≡ length one)
-  unfolding found_told
+  pub found_same : (r : Option ℕ) (n : ℕ) → found_is r → r ≡ Some n → (is_same one two ≡ true) × (n ≡ length one)
   found_same r n e g = go (is_same one two) refl (rw g at e)
     where
-      go : (t : Bool) → is_same one two ≡ t → some n ≡ cond t (some (length one)) none → (is_same one two ≡ true) × (n ≡ length one)
+      go : (t : Bool) → is_same one two ≡ t → Some n ≡ cond t (Some (length one)) None → (is_same one two ≡ true) × (n ≡ length one)
       go true h k = (h, cc)
       go false h k = absurd (none_some (sym k))
 
@@ -270,7 +264,7 @@ module _ (first second out : List ℕ) (a : StrictlyAccepted first) (b : Strictl
             made first second out (brought.Whole k) out₂ t (rw (← t) (o ∙ front_put out one (joined notes) (omega (arith, fits.1, length-append one (joined notes)))))
 
   -- the ways out, behind what the parts found
-  module _ (fr : Found) (n : ℕ) (fe : found_is fr) (fg : fr ≡ found.At n) (x y : List ℕ) (ex : x ≡ drop n first) (ey : y ≡ drop n second) (r : Woven) (out₁ : List ℕ) (w : NotesWoven n x y out r out₁) where
+  module _ (fr : Option ℕ) (n : ℕ) (fe : found_is fr) (fg : fr ≡ Some n) (x y : List ℕ) (ex : x ≡ drop n first) (ey : y ≡ drop n second) (r : Woven) (out₁ : List ℕ) (w : NotesWoven n x y out r out₁) where
     same_n : (is_same one two ≡ true) × (n ≡ length one)
     same_n = found_same fr n fe fg
 

@@ -1,7 +1,7 @@
 -- A merge that was not refused: both files are accepted, they have the same common part, and the merged file keeps to the limit and has room. Assumes nothing.
+use Rattle.std.specs.Prelude.{None}
 use Prim.Native.Nat.{ℕ, ◌≤◌}
 use mathlib.Core.List.{List, ◌++◌}
-use mathlib.Core.Option.{none}
 use mathlib.Core.Path.{◌≡◌, refl, sym, ◌∙◌, ap}
 use native.Mathlib.Omega.{arith}
 use borrow.Author.Tests.{leb-true}
@@ -46,8 +46,8 @@ pub record NotRefused (first second file : List ℕ) (room n : ℕ) : Type 0 whe
 pub not_refused : (first second file : List ℕ) (room n : ℕ) → merge_said first second file room ≡ merged n → NotRefused first second file room n
 unfolding merge_said
 not_refused first second file room n e =
-    let a = first_merged (verdict seal.Strict first none) _ n e in
-    let b = second_merged (verdict seal.Strict second none) _ n a.2 in
+    let a = first_merged (verdict seal.Strict first None) _ n e in
+    let b = second_merged (verdict seal.Strict second None) _ n a.2 in
     let s = need_inv (is_same (common_part (lines_of first)) (common_part (lines_of second))) _ (merged n) _ (neither_merged (number NotSame) 0 0 n) b.2 in
     let l = need_inv (leb (length file) 16777216) _ (merged n) _ (neither_merged (number TooLong) 0 0 n) s.1 in
     let r = need_inv (leb (length file) room) _ (merged n) _ (neither_merged (number NoRoom) 0 0 n) l.1 in

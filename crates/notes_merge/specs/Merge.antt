@@ -1,6 +1,5 @@
 -- The answer of the merge of two files, in the paper's terms, and its promise.
-use Rattle.std.specs.Prelude.{ℕ, List, ◌≡◌, length}
-use Rattle.std.proofs.Math.Option.{none}
+use Rattle.std.specs.Prelude.{ℕ, List, ◌≡◌, length, None}
 use Rattle.rules.specs.Refusals.{number, says}
 use Rattle.rules.specs.Split.{lines_of}
 use Rattle.rules.specs.Files.{verdict}
@@ -14,7 +13,7 @@ use Rattle.notes_merge.specs.declared.Brought.TheVariants as brought
 
 -- "a separate strict check keeps the old rule, and .. the merge of CR 3 must now ask for it by name": the file passes the strict check, with no table
 abbrev pub StrictlyAccepted : List ℕ → Type 0
-StrictlyAccepted file = (f : Flight) × (verdict seal.Strict file none ≡ says f)
+StrictlyAccepted file = (f : Flight) × (verdict seal.Strict file None ≡ says f)
 
 -- the answer, in the paper's terms
 unfoldable pub merge_told : Brought → Merged

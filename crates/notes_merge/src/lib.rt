@@ -6,7 +6,7 @@ ghost use Rattle.std.proofs.lemmas.List.Edits.{sets};
 ghost use Rattle.notes_merge.specs.Merge.{StrictlyAccepted, FilesMerged};
 
 use notes_fit::Woven;
-use rules::{Found, Outcome, Reason, Refusal, Seal};
+use rules::{Reason, Refusal, Seal};
 
 // How many bytes the merged file has; or a refusal: of the first file, of the second, or of neither (26, 2 or 18, with line 0 and byte 0).
 #[derive(Clone, Copy)]
@@ -44,7 +44,7 @@ fn bring(first: &[u8], second: &[u8], out: &mut [u8]) -> Brought
     requires { StrictlyAccepted first.now × StrictlyAccepted second.now }
     ensures { FilesMerged first.now second.now out.old result out.new }
 {
-    let Found::At(n) = notes_common::alike(first, second) else {
+    let Some(n) = notes_common::alike(first, second) else {
         return Brought::Neither(file_lines::unplaced(Reason::NotSame));
     };
     let one = behind(first, n);
@@ -69,13 +69,13 @@ pub fn merge(first: &[u8], second: &[u8], out: &mut [u8]) -> Brought
     let one = check_file::check_untabled(Seal::Strict, first);
     let found = one.outcome;
     match found {
-        Outcome::Refused(why) => Brought::First(why),
-        Outcome::Accepted => {
+        Err(why) => Brought::First(why),
+        Ok(()) => {
             let two = check_file::check_untabled(Seal::Strict, second);
             let also = two.outcome;
             match also {
-                Outcome::Refused(why) => Brought::Second(why),
-                Outcome::Accepted => bring(first, second, out),
+                Err(why) => Brought::Second(why),
+                Ok(()) => bring(first, second, out),
             }
         }
     }

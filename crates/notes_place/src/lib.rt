@@ -15,8 +15,5 @@ pub struct Place {
 pub fn is_over(x: Place, y: Place) -> bool
     ensures { BothThrough x y result }
 {
-    if x.i < x.n {
-        return false;
-    }
-    y.n <= y.i
+    x.n <= x.i && y.n <= y.i
 }

@@ -1,6 +1,5 @@
 -- Document 02, 'Bring evening notes together': what the merge of two files says, and the output afterwards.
-use Rattle.std.specs.Prelude.{ℕ, List, ◌++◌, leb, length, drop}
-use Rattle.std.proofs.Math.Option.{none}
+use Rattle.std.specs.Prelude.{ℕ, List, ◌++◌, leb, length, drop, None}
 use Rattle.rules.specs.Choice.{need}
 use Rattle.rules.specs.Refusals.{number, Said, says, refuses}
 use Rattle.rules.specs.Split.{lines_of}
@@ -36,8 +35,8 @@ merged_file first notes = common_part (lines_of first) ++ joined notes
 -- for it by name"
 unfoldable pub merge_said : List ℕ → List ℕ → List ℕ → ℕ → Merged
 merge_said first second result room =
-    accept_first (verdict seal.Strict first none) λ _.
-    accept_second (verdict seal.Strict second none) λ _.
+    accept_first (verdict seal.Strict first None) λ _.
+    accept_second (verdict seal.Strict second None) λ _.
     need (is_same (common_part (lines_of first)) (common_part (lines_of second))) (of_neither (number NotSame) 0 0) λ _.
     need (leb (length result) 16777216) (of_neither (number TooLong) 0 0) λ _.
     need (leb (length result) room) (of_neither (number NoRoom) 0 0) λ _.

@@ -1,46 +1,60 @@
 -- A run of notes: how one more note is put into it, and that by one look at each note it becomes the first of all notes that come after one. Assumes nothing.
 use Prim.Native.Nat.{ℕ, zero, suc, ◌+◌, ◌-◌, ◌≤◌, ◌<◌}
-use mathlib.Core.Bool.{Bool, true, false}
-use mathlib.Core.List.{List, [], ◌∷◌, ◌++◌}
+use mathlib.Core.Bool.{Bool, true, false, not}
+use mathlib.Core.List.{List, [], ◌∷◌, ◌++◌, append_assoc}
 use mathlib.Core.Path.{◌≡◌, refl, sym, ◌∙◌, ap}
 use native.Mathlib.Numerals.{add-one}
 use native.Mathlib.Omega.{arith}
-use borrow.Author.Tests.{ltb-true, ltb-false, not-true, not-false}
+use borrow.Author.Tests.{ltb-false, not-true, not-false}
 use lib.Dec.{ltb, eqb}
 use lib.ListN.{length, take, drop, get_or, set, drop_of_length-le, length-append, length-take, length-drop}
-use lib.Seq.{drop-cons, drop-drop, sets, sets-eq, drop-set-lt, length-sets, length-take-le, get_or-take, take-take, take_at, take-append-add, take_all, take-nil, drop-append_seam}
+use lib.Seq.{drop-cons, drop-drop, sets, sets-eq, length-sets, length-take-le, get_or-take, take-take, take-suc, set_at, take_at, take-append-add, take_all, take-nil, drop-append_seam}
+use Rattle.std.specs.List.{position, position_or_len, copy_within}
+use Rattle.std.specs.List.Sorted.{IsPartitionedBy, IsPartitionPoint}
+use Rattle.std.specs.Option.{unwrap_or}
 use Rattle.rules.proofs.Inverse.{by_bool}
 use Rattle.notes_sorted.specs.Sorted.{Sorted}
 use Rattle.notes_sorted.specs.Ways.{keep, insert, gather}
 use Rattle.notes_sorted.proofs.Sorting.{by, clash, insert_sorted}
 use Rattle.notes_sorted.proofs.Streams.{insert_at, sorted_at, take_sorted, gather_is}
-use Rattle.notes_rules.specs.Places.{text_at, earlier, starts, inside, skip}
+use Rattle.notes_rules.specs.Places.{earlier, starts, inside, skip}
 use Rattle.notes_rules.proofs.Places.{places}
-use Rattle.notes_compare.specs.Letters.{in_text}
-use Rattle.notes_compare.proofs.Letters.{in_told, in_inside}
 use Rattle.notes_runs.specs.Runs.{LineAfter, PastLast, Found, pushed, Kept, Refilled}
 
 -- ---- from a line to the next
 
-module _ (s : List ℕ) (x : ℕ) where
-  pub inside_more : in_text (text_at s x) ≡ true → inside (x + 1) (drop (x + 1) s) ≡ inside x (drop x s)
-  inside_more e =
-      let h : x < length s = in_inside s x e in
-      rw (drop-cons s x 0 h, add-one x, not-true (eqb (get_or s x 0) 13) (in_told s x h ∙ e))
+skip_drop : (i : ℕ) (l : List ℕ) → skip i l ≡ starts (suc i) (drop 1 l)
+skip_drop i [] = refl
+skip_drop i (b ∷ l) = refl
 
-  skip_drop : (i : ℕ) (l : List ℕ) → skip i l ≡ starts (suc i) (drop 1 l)
-  skip_drop i [] = refl
-  skip_drop i (b ∷ l) = refl
+-- two bytes behind the first CR, or behind all bytes where there is none
+inside_to : (l : List ℕ) (i : ℕ) → inside i l ≡ starts (i + position_or_len (λ b. eqb b 13) l + 2) (drop (position_or_len (λ b. eqb b 13) l + 2) l)
+inside_to [] i = refl
+inside_to (b ∷ l) i =
+    let z : i + 0 + 2 ≡ suc (suc i) = omega arith in
+    by_bool (eqb b 13)
+    (λ e. rw (e, z) (skip_drop (suc i) l))
+    (λ e.
+    let n = position_or_len (λ b. eqb b 13) l in
+    let f : i + (1 + n) + 2 ≡ suc i + n + 2 = omega arith in
+    let g : 1 + n + 2 ≡ suc (n + 2) = omega arith in
+    rw (e, f, g) (inside_to l (suc i)))
 
-  pub inside_end : in_text (text_at s x) ≡ false → inside x (drop x s) ≡ starts (x + 2) (drop (x + 2) s)
-  inside_end e =
-      let g : x + 2 ≡ suc (suc x) = omega arith in
-      let g₁ : suc x + 1 ≡ x + 2 = omega arith in
-      by_bool (ltb x (length s))
-      (λ f. let h = ltb-true x (length s) f in
-      let d : drop 1 (drop (suc x) s) ≡ drop (x + 2) s = drop-drop 1 (suc x) s ∙ ap (λ (n : ℕ). drop n s) g₁ in
-      rw (drop-cons s x 0 h, not-false (eqb (get_or s x 0) 13) (in_told s x h ∙ e), ← d, g) (skip_drop (suc x) (drop (suc x) s)))
-      (λ f. let h = ltb-false x (length s) f in rw (drop_of_length-le s h, drop_of_length-le s {i = x + 2} (omega arith)))
+long_first : (p : ℕ → Bool) (l : List ℕ) → position_or_len p l ≤ length l
+long_first p [] = omega arith
+long_first p (b ∷ l) = by_bool (p b) (λ e. rw e (omega arith)) (λ e. rw e (omega (arith, long_first p l)))
+
+-- what `position` finds, or the length, where it finds none
+first_or : (p : ℕ → Bool) (l : List ℕ) → unwrap_or (position p l) (length l) ≡ position_or_len p l
+first_or p l =
+    by_bool (ltb (position_or_len p l) (length l)) (λ e. rw e) (λ e. let h = long_first p l in let g = ltb-false _ _ e in rw e (omega arith))
+
+pub line_after_is : (s : List ℕ) (i n : ℕ) → n ≡ unwrap_or (position (λ b. eqb b 13) (drop i s)) (length (drop i s)) → LineAfter s i (i + n + 2)
+line_after_is s i n e =
+    let k : n ≡ position_or_len (λ b. eqb b 13) (drop i s) = e ∙ first_or (λ b. eqb b 13) (drop i s) in
+    let d : n + 2 + i ≡ i + n + 2 = omega arith in
+    let q : drop (n + 2) (drop i s) ≡ drop (i + n + 2) s = drop-drop (n + 2) i s ∙ ap (λ (m : ℕ). drop m s) (let d : i + (n + 2) ≡ i + n + 2 = omega arith in d) in
+    record { is = rw (← q, k) (inside_to (drop i s) i); later = omega arith }
 
 -- ---- a place pushed in
 
@@ -48,11 +62,21 @@ pub pushed_none : (l : List ℕ) (p m x : ℕ) → m ≤ p → l ≡ pushed l p 
 unfolding pushed
 pushed_none l p m x h = let e : m - p ≡ 0 = omega arith in rw e
 
-pub pushed_more : (l : List ℕ) (k m x : ℕ) → k < m → m ≤ length l → pushed (set l k x) (k + 1) m (get_or l k 0) ≡ pushed l k m x
+pub pushed_some : (l : List ℕ) (p m x : ℕ) → p < m → m ≤ length l → set (copy_within l p (m - 1) (p + 1)) p x ≡ pushed l p m x
 unfolding pushed
-pushed_more l k m x h g =
-    let e : m - k ≡ suc (m - (k + 1)) = omega arith in
-    rw (e, add-one k, drop-set-lt (suc k) l k x (omega arith), drop-cons l k 0 (omega arith))
+pushed_some l p m x h g =
+    let k = m - 1 - p in
+    let v = take k (drop p l) in
+    let d = drop (p + 1 + k) l in
+    let a : m - p ≡ suc k = omega arith in
+    let n : length v ≡ k = length-take-le k (drop p l) (omega (arith, length-drop p l)) in
+    let b : p + length (x ∷ v) ≡ p + 1 + k = omega (arith, n) in
+    let t : take (p + 1) l ≡ take p l ++ (get_or l p 0 ∷ []) = rw add-one (take-suc l p 0 (omega arith)) in
+    let u : (take (p + 1) l ++ v) ++ d ≡ take p l ++ get_or l p 0 ∷ (v ++ d) = rw t (simp append_assoc) in
+    let w : set (take p l ++ get_or l p 0 ∷ (v ++ d)) p x ≡ take p l ++ x ∷ (v ++ d) = set_at (take p l) (get_or l p 0) (v ++ d) x p (length-take-le p l (omega arith)) in
+    let y : sets l p (x ∷ v) ≡ (take p l ++ x ∷ v) ++ d = rw b at (sets-eq (x ∷ v) l p (omega (arith, n))) in
+    let z : (take p l ++ x ∷ v) ++ d ≡ take p l ++ x ∷ (v ++ d) = simp append_assoc in
+    ap (λ (r : List ℕ). set r p x) u ∙ w ∙ rw a (sym z ∙ sym y)
 
 pub pushed_length : (l : List ℕ) (p m x : ℕ) → length (pushed l p m x) ≡ length l
 unfolding pushed
@@ -88,6 +112,23 @@ module _ (s heads : List ℕ) (n x : ℕ) (fit : n ≤ length heads) (so : Sorte
     before = λ k h. below_mid (n - 1) (omega (arith, q.some)) q.before k (omega arith);
     behind = λ h. absurd (omega arith);
   }
+
+-- no place that comes before x stands behind one that does not
+pub in_two : (s heads : List ℕ) (x : ℕ) → Sorted (earlier s) heads → IsPartitionedBy (λ y. not (earlier s x y)) heads
+in_two s heads x so i j d h k e =
+    by_bool (earlier s x (get_or heads i d))
+    (λ f. clash ((places s).trans x (get_or heads i d) (get_or heads j d) f (sorted_at (places s) d heads i j so h k)) (not-true (earlier s x (get_or heads j d)) e))
+    (λ f. rw f)
+
+pub found_by : (s heads : List ℕ) (n x p : ℕ) → n ≤ length heads → p ≤ length (take n heads)
+    → IsPartitionPoint (λ y. not (earlier s x y) ≡ true) (λ y. not (earlier s x y) ≡ false) (take n heads) p → Found s heads n x p
+found_by s heads n x p fit h q =
+    let e : length (take n heads) ≡ n = length-take-le n heads fit in
+    record {
+      few = omega arith;
+      before = λ k g. rw (get_or-take n heads k 0 (omega arith)) at (not-true (earlier s x (get_or (take n heads) k 0)) (q.0 k 0 (omega arith) g));
+      behind = λ g. rw (get_or-take n heads p 0 g) at (not-false (earlier s x (get_or (take n heads) p 0)) (q.1 p 0 (omega arith) (omega arith)));
+    }
 
 drop_take : (p n : ℕ) (l : List ℕ) → drop p (take n l) ≡ take (n - p) (drop p l)
 drop_take zero n l = let e : n - 0 ≡ n = omega arith in rw e

@@ -2,21 +2,25 @@
 // goes up to the first CR; the next one starts two bytes behind that.
 #![tactic(auto)]
 
-ghost use Rattle.std.specs.Prelude.{◌≡◌, true, ◌≤◌, ◌<◌, length, take};
+ghost use Rattle.std.specs.Prelude.{◌≡◌, eqb, true, ◌≤◌, ◌<◌, length, take, position};
 ghost use Rattle.notes_sorted.specs.Sorted.{Sorted};
 ghost use Rattle.notes_rules.specs.Places.{earlier};
 ghost use Rattle.notes_runs.specs.Runs.{LineAfter, PastLast, Found, pushed, Kept, Refilled};
+
+// Where the first CR stands.
+fn first_cr(rest: &[u8]) -> Option<usize>
+    ensures { result ≡ position (λ b. eqb b 13) rest.now }
+{
+    rest.iter().position(|b| *b == b'\r')
+}
 
 // Where the next note starts: two bytes past the first CR from there on, or past the end.
 fn line_after(s: &[u8], i: usize) -> usize
     requires { i < length s.now }
     ensures { LineAfter s.now i result }
 {
-    let mut x = i;
-    while notes_compare::in_text(s, x) {
-        x += 1;
-    }
-    x + 2
+    let rest = &s[i..];
+    i + first_cr(rest).unwrap_or(rest.len()) + 2
 }
 
 // Whether the last of the first n places comes before x; no where n is 0.
@@ -24,10 +28,7 @@ fn past_last(s: &[u8], heads: &[usize], n: usize, x: usize) -> bool
     requires { n ≤ length heads.now }
     ensures { result ≡ true → PastLast s.now heads.now n x }
 {
-    if n == 0 {
-        return false;
-    }
-    !notes_compare::is_earlier(s, x, heads[n - 1])
+    n != 0 && !notes_compare::is_earlier(s, x, heads[n - 1])
 }
 
 // How many of the first n places come before x.
@@ -38,17 +39,7 @@ fn place_of(s: &[u8], heads: &[usize], n: usize, x: usize) -> usize
     if past_last(s, heads, n, x) {
         return n;
     }
-    let mut lo = 0;
-    let mut hi = n;
-    while lo < hi {
-        let mid = lo + (hi - lo) / 2;
-        if notes_compare::is_earlier(s, x, heads[mid]) {
-            hi = mid;
-        } else {
-            lo = mid + 1;
-        }
-    }
-    lo
+    heads[..n].partition_point(|head| !notes_compare::is_earlier(s, x, *head))
 }
 
 // x put at p, and the others up to m moved on by one.
@@ -56,13 +47,9 @@ fn push(heads: &mut [usize], p: usize, m: usize, x: usize)
     requires { m ≤ length heads.old }
     ensures { heads.new ≡ pushed heads.old p m x }
 {
-    let mut k = p;
-    let mut c = x;
-    while k < m {
-        let t = heads[k];
-        heads[k] = c;
-        c = t;
-        k += 1;
+    if p < m {
+        heads.copy_within(p..m - 1, p + 1);
+        heads[p] = x;
     }
 }
 
@@ -89,6 +76,7 @@ pub fn refill(s: &[u8], last: usize, heads: &mut [usize]) -> usize
 {
     let mut n = 0;
     let mut i = 0;
+    // counted by hand: the place jumps from note to note
     while i < s.len() {
         n = keep_one(s, last, heads, n, i);
         i = line_after(s, i);

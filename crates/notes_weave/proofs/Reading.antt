@@ -1,12 +1,14 @@
 -- A slice read on, bytes put one after the other, and whose note comes next. Assumes nothing.
+use Rattle.std.specs.declared.cmp.Ordering.{Ordering}
+use Rattle.std.specs.declared.cmp.Ordering.TheVariants.{Less, Greater}
 use Prim.Native.Nat.{ℕ, suc, ◌+◌, ◌-◌, ◌≤◌, ◌<◌}
-use mathlib.Core.Bool.{Bool, true, false}
+use mathlib.Core.Bool.{true, false}
 use mathlib.Core.List.{List, [], ◌∷◌, ◌++◌, append-nil}
 use mathlib.Core.Path.{◌≡◌, refl, sym, ◌∙◌, ap}
 use native.Mathlib.Numerals.{add-one}
 use native.Mathlib.Omega.{arith}
-use lib.ListN.{length, take, drop, get_or, set, length-append, length-take, length-set}
-use lib.Seq.{drop-cons, sets, length-take-le, get_or-take, take-take, take_all, append_snoc, set_out}
+use lib.ListN.{length, take, drop, get_or, length-append, length-take}
+use lib.Seq.{drop-cons, sets, length-take-le, get_or-take, take-take, take_all, append_snoc}
 use Rattle.rules.proofs.Texts.{sets_append}
 use Rattle.notes_sorted.specs.Sorted.{count}
 use Rattle.notes_sorted.proofs.Streams.{follow}
@@ -119,21 +121,15 @@ module _ (s : List ℕ) (i : ℕ) (out₀ : List ℕ) (at : ℕ) where
 -- ---- whose note comes next
 
 module _ (a b ha hb : List ℕ) (x y : Place) (p : Fine a ha x) (q : Fine b hb y) where
-  pub chosen_second : x.n ≤ x.i → y.i < y.n → Chosen a b x y 2
+  pub chosen_second : x.n ≤ x.i → y.i < y.n → Chosen a b x y Greater
   unfolding choice
   chosen_second h k = record { is = rw (p.done h); first = λ z. absurd (z refl); second = λ z. k }
 
-  pub chosen_first : x.i < x.n → y.n ≤ y.i → Chosen a b x y 0
+  pub chosen_first : x.i < x.n → y.n ≤ y.i → Chosen a b x y Less
   unfolding choice
   chosen_first h k = record { is = rw (q.done k, next_is a ha x p.ready h); first = λ z. h; second = λ z. absurd (z refl) }
 
   module _ (h : x.i < x.n) (k : y.i < y.n) where
-    pub chosen_by : (r : ℕ) → r ≡ whose_of (text_at a (get_or ha x.i 0)) (text_at b (get_or hb y.i 0)) → Chosen a b x y r
+    pub chosen_by : (r : Ordering) → r ≡ whose_of (text_at a (get_or ha x.i 0)) (text_at b (get_or hb y.i 0)) → Chosen a b x y r
     unfolding choice
     chosen_by r e = record { is = rw (next_is a ha x p.ready h, next_is b hb y q.ready k) e; first = λ z. h; second = λ z. k }
-
-pub byte_past : (l : List ℕ) (at b : ℕ) → length l ≤ at → Fills l at (b ∷ []) l
-byte_past l at b h = record { size = refl; is = sym (set_out l at b h) }
-
-pub byte_there : (l : List ℕ) (at b : ℕ) → Fills l at (b ∷ []) (set l at b)
-byte_there l at b = record { size = length-set l at b; is = refl }

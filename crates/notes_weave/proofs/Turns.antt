@@ -1,11 +1,13 @@
 -- One note after the other of the two slices: a turn puts the next note of both, and all turns put all notes. Assumes nothing.
+use Rattle.std.specs.declared.cmp.Ordering.{Ordering}
+use Rattle.std.specs.declared.cmp.Ordering.TheVariants.{Less, Equal, Greater}
 use Prim.Native.Nat.{ℕ, suc, ◌+◌, ◌*◌, ◌≤◌, ◌<◌}
 use mathlib.Core.Bool.{Bool, true, false}
 use mathlib.Core.List.{List, [], ◌∷◌, ◌++◌, map, append_assoc, append-nil}
 use mathlib.Core.Path.{◌≡◌, refl, sym, ◌∙◌, ap}
 use native.Mathlib.Omega.{arith}
 use borrow.Author.Tests.{leb-true, leb-false, le-leb, lt-leb}
-use lib.Dec.{leb, eqb}
+use lib.Dec.{eqb}
 use lib.ListN.{length, drop, length-append, length-drop}
 use lib.Seq.{length-sets}
 use Rattle.rules.proofs.Inverse.{by_bool}
@@ -23,42 +25,41 @@ use Rattle.notes_weave.proofs.Reading.{fills_then}
 
 -- ---- the walk by the choice
 
-step_second : (A : List (List ℕ)) (v : List ℕ) (B : List (List ℕ)) → 2 ≡ choice A (v ∷ B) → weave not_after A (v ∷ B) ≡ v ∷ weave not_after A B
+step_second : (A : List (List ℕ)) (v : List ℕ) (B : List (List ℕ)) → Greater ≡ choice A (v ∷ B) → weave not_after A (v ∷ B) ≡ v ∷ weave not_after A B
 unfolding choice
 step_second [] v B e = refl
 step_second (u ∷ A) v B e =
     by_bool (not_after u v)
-    (λ f. by_bool (not_after v u) (λ g. absurd (omega (arith, rw (f, g) at e))) (λ g. absurd (omega (arith, rw (f, g) at e))))
+    (λ f. by_bool (not_after v u) (λ g. let z : Greater ≡ Equal = rw (f, g) at e in cc) (λ g. let z : Greater ≡ Less = rw (f, g) at e in cc))
     (λ f. rw f)
 
-step_first : (u : List ℕ) (A B : List (List ℕ)) → 0 ≡ choice (u ∷ A) B → weave not_after (u ∷ A) B ≡ u ∷ weave not_after A B
+step_first : (u : List ℕ) (A B : List (List ℕ)) → Less ≡ choice (u ∷ A) B → weave not_after (u ∷ A) B ≡ u ∷ weave not_after A B
 unfolding choice
 step_first u A [] e = refl
 step_first u A (v ∷ B) e =
     by_bool (not_after u v)
-    (λ f. by_bool (not_after v u) (λ g. absurd (omega (arith, rw (f, g) at e))) (λ g. rw (f, g)))
-    (λ f. absurd (omega (arith, rw f at e)))
+    (λ f. by_bool (not_after v u) (λ g. let z : Less ≡ Equal = rw (f, g) at e in cc) (λ g. rw (f, g)))
+    (λ f. let z : Less ≡ Greater = rw f at e in cc)
 
-step_both : (u : List ℕ) (A : List (List ℕ)) (v : List ℕ) (B : List (List ℕ)) → (0 ≡ choice (u ∷ A) (v ∷ B) → ⊥) → (2 ≡ choice (u ∷ A) (v ∷ B) → ⊥)
-    → weave not_after (u ∷ A) (v ∷ B) ≡ u ∷ weave not_after A B
+step_both : (u : List ℕ) (A : List (List ℕ)) (v : List ℕ) (B : List (List ℕ)) → Equal ≡ choice (u ∷ A) (v ∷ B) → weave not_after (u ∷ A) (v ∷ B) ≡ u ∷ weave not_after A B
 unfolding choice
-step_both u A v B e k =
+step_both u A v B e =
     by_bool (not_after u v)
-    (λ f. by_bool (not_after v u) (λ g. rw (f, g)) (λ g. absurd (e (rw (f, g)))))
-    (λ f. absurd (k (rw f)))
+    (λ f. by_bool (not_after v u) (λ g. rw (f, g)) (λ g. let z : Equal ≡ Less = rw (f, g) at e in cc))
+    (λ f. let z : Equal ≡ Greater = rw f at e in cc)
 
 joined_more : (u : List ℕ) (M : List (List ℕ)) → joined (u ∷ M) ≡ line u ++ joined M
 joined_more u M = sym (append_assoc u (13 ∷ 10 ∷ []) (joined M))
 
-put_second : (A B : List (List ℕ)) (v : List ℕ) (B₁ : List (List ℕ)) → B ≡ v ∷ B₁ → 2 ≡ choice A B → joined (weave not_after A B) ≡ line v ++ joined (weave not_after A B₁)
+put_second : (A B : List (List ℕ)) (v : List ℕ) (B₁ : List (List ℕ)) → B ≡ v ∷ B₁ → Greater ≡ choice A B → joined (weave not_after A B) ≡ line v ++ joined (weave not_after A B₁)
 put_second A B v B₁ e h = rw e (ap joined (step_second A v B₁ (rw e at h)) ∙ joined_more v (weave not_after A B₁))
 
-put_first : (A B : List (List ℕ)) (u : List ℕ) (A₁ : List (List ℕ)) → A ≡ u ∷ A₁ → 0 ≡ choice A B → joined (weave not_after A B) ≡ line u ++ joined (weave not_after A₁ B)
+put_first : (A B : List (List ℕ)) (u : List ℕ) (A₁ : List (List ℕ)) → A ≡ u ∷ A₁ → Less ≡ choice A B → joined (weave not_after A B) ≡ line u ++ joined (weave not_after A₁ B)
 put_first A B u A₁ e h = rw e (ap joined (step_first u A₁ B (rw e at h)) ∙ joined_more u (weave not_after A₁ B))
 
-put_both : (A B : List (List ℕ)) (u : List ℕ) (A₁ : List (List ℕ)) (v : List ℕ) (B₁ : List (List ℕ)) → A ≡ u ∷ A₁ → B ≡ v ∷ B₁ → (0 ≡ choice A B → ⊥) → (2 ≡ choice A B → ⊥)
+put_both : (A B : List (List ℕ)) (u : List ℕ) (A₁ : List (List ℕ)) (v : List ℕ) (B₁ : List (List ℕ)) → A ≡ u ∷ A₁ → B ≡ v ∷ B₁ → Equal ≡ choice A B
     → joined (weave not_after A B) ≡ line u ++ joined (weave not_after A₁ B₁)
-put_both A B u A₁ v B₁ e f h k = rw (e, f) (ap joined (step_both u A₁ v B₁ (rw (e, f) at h) (rw (e, f) at k)) ∙ joined_more u (weave not_after A₁ B₁))
+put_both A B u A₁ v B₁ e f h = rw (e, f) (ap joined (step_both u A₁ v B₁ (rw (e, f) at h)) ∙ joined_more u (weave not_after A₁ B₁))
 
 texts_next : (s heads : List ℕ) (p r : Place) → Taken s heads p r → texts s p.last ≡ text_at s r.last ∷ texts s r.last
 texts_next s heads p r t = ap (map (text_at s)) t.is
@@ -73,8 +74,8 @@ text_short s i = omega (arith, cut_short (drop i s), length-drop i s, length-app
 
 -- ---- one turn
 
-module _ (a b ha hb : List ℕ) (x y : Place) (out : List ℕ) (at : ℕ) (p : Fine a ha x) (q : Fine b hb y) (w : ℕ) (c : Chosen a b x y w) (out₁ : List ℕ) (to : ℕ) where
-  pub turned_second : w ≡ 2 → length b ≤ 16777216 → (y₁ : Place) → Taken b hb y y₁ → Emitted b y₁.last out at out₁ to → Turned a b ha hb x y out at out₁ x y₁ to
+module _ (a b ha hb : List ℕ) (x y : Place) (out : List ℕ) (at : ℕ) (p : Fine a ha x) (q : Fine b hb y) (w : Ordering) (c : Chosen a b x y w) (out₁ : List ℕ) (to : ℕ) where
+  pub turned_second : w ≡ Greater → length b ≤ 16777216 → (y₁ : Place) → Taken b hb y y₁ → Emitted b y₁.last out at out₁ to → Turned a b ha hb x y out at out₁ x y₁ to
   turned_second e s y₁ t m = record {
     first = p.ready;
     second = t.ready;
@@ -87,7 +88,7 @@ module _ (a b ha hb : List ℕ) (x y : Place) (out : List ℕ) (at : ℕ) (p : F
   }
 
   module _ (s : length a ≤ 16777216) (x₁ : Place) (t : Taken a ha x x₁) (m : Emitted a x₁.last out at out₁ to) where
-    pub turned_first : w ≡ 0 → Turned a b ha hb x y out at out₁ x₁ y to
+    pub turned_first : w ≡ Less → Turned a b ha hb x y out at out₁ x₁ y to
     turned_first e = record {
       first = t.ready;
       second = q.ready;
@@ -99,14 +100,14 @@ module _ (a b ha hb : List ℕ) (x y : Place) (out : List ℕ) (at : ℕ) (p : F
       short = omega (arith, text_short a x₁.last);
     }
 
-    pub turned_both : (w ≡ 0 → ⊥) → (w ≡ 2 → ⊥) → (y₁ : Place) → Taken b hb y y₁ → Turned a b ha hb x y out at out₁ x₁ y₁ to
-    turned_both e f y₁ t₁ = record {
+    pub turned_both : w ≡ Equal → (y₁ : Place) → Taken b hb y y₁ → Turned a b ha hb x y out at out₁ x₁ y₁ to
+    turned_both e y₁ t₁ = record {
       first = t.ready;
       second = t₁.ready;
       text = line (text_at a x₁.last);
       is =
           put_both (texts a x.last) (texts b y.last) (text_at a x₁.last) (texts a x₁.last) (text_at b y₁.last) (texts b y₁.last) (texts_next a ha x x₁ t) (texts_next b hb y y₁ t₁)
-          (λ z. e (c.is ∙ sym z)) (λ z. f (c.is ∙ sym z));
+          (sym e ∙ c.is);
       reach = m.length_is;
       fills = m.fills;
       fewer = omega (arith, ap length t.is, ap length t₁.is);

@@ -1,5 +1,7 @@
 -- The notes of two slices put one after the other: how far each slice is read, what comes next, and what stands in the output.
 use Rattle.std.specs.Prelude.{ℕ, ◌+◌, ◌-◌, ◌≤◌, ◌<◌, Bool, true, false, List, [], ◌∷◌, ◌++◌, map, ◌≡◌, leb, length, take, drop}
+use Rattle.std.specs.declared.cmp.Ordering.{Ordering}
+use Rattle.std.specs.declared.cmp.Ordering.TheVariants.{Less, Greater}
 use Rattle.std.proofs.lemmas.List.Edits.{sets}
 use Rattle.rules.specs.Choice.{need}
 use Rattle.notes_sorted.specs.Ways.{weave}
@@ -50,20 +52,20 @@ pub record Emitted (s : List ℕ) (i : ℕ) (out : List ℕ) (at : ℕ) (out' : 
 
 -- ---- the two slices
 
--- whose text comes next: 0 the first's, 2 the second's, 1 that of both
-unfoldable pub choice : List (List ℕ) → List (List ℕ) → ℕ
-choice [] B = 2
-choice (u ∷ A) [] = 0
+-- whose text comes next: `Less` the first's, `Greater` the second's, `Equal` that of both
+unfoldable pub choice : List (List ℕ) → List (List ℕ) → Ordering
+choice [] B = Greater
+choice (u ∷ A) [] = Less
 choice (u ∷ A) (v ∷ B) = whose_of u v
 
 -- the texts that come after `last`
 abbrev pub texts : List ℕ → ℕ → List (List ℕ)
 texts s last = map (text_at s) (coming s last)
 
-pub record Chosen (a b : List ℕ) (x y : Place) (r : ℕ) : Type 0 where
+pub record Chosen (a b : List ℕ) (x y : Place) (r : Ordering) : Type 0 where
   pub is : r ≡ choice (texts a x.last) (texts b y.last)
-  pub first : (r ≡ 2 → ⊥) → x.i < x.n
-  pub second : (r ≡ 0 → ⊥) → y.i < y.n
+  pub first : (r ≡ Greater → ⊥) → x.i < x.n
+  pub second : (r ≡ Less → ⊥) → y.i < y.n
 
 -- the notes of both, woven into one, from here on
 abbrev pub both : List ℕ → ℕ → List ℕ → ℕ → List ℕ

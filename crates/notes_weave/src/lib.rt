@@ -6,6 +6,7 @@ ghost use Rattle.std.specs.Prelude.{◌∷◌, [], ◌≤◌, ◌<◌, length};
 ghost use Rattle.notes_weave.specs.Loom.{Ready, Fine, Fresh, Taken, Fills, Emitted, Chosen, Turned, Walked, NotesPut};
 
 use notes_place::{Place, is_over};
+use std::cmp::Ordering;
 
 // A run that has a note, or no note is left.
 fn ready(s: &[u8], heads: &mut [usize], p: Place) -> Place
@@ -37,10 +38,9 @@ fn advance(s: &[u8], heads: &[usize], p: Place) -> Place
 fn byte(out: &mut [u8], at: usize, b: u8)
     ensures { Fills out.old at (b ∷ []) out.new }
 {
-    if out.len() <= at {
-        return;
+    if at < out.len() {
+        out[at] = b;
     }
-    out[at] = b;
 }
 
 // A note with CR LF put into the output, where it has room. No place is past 562950037307392: that is 16,777,216 bytes, and 33,554,432 notes of up to 16,777,218 bytes each.
@@ -50,6 +50,7 @@ fn emit(s: &[u8], i: usize, out: &mut [u8], at: usize) -> usize
 {
     let mut x = i;
     let mut to = at;
+    // counted by hand: it reads at one place and writes at another
     while notes_compare::in_text(s, x) {
         byte(out, to, s[x]);
         x += 1;
@@ -60,18 +61,18 @@ fn emit(s: &[u8], i: usize, out: &mut [u8], at: usize) -> usize
     to + 2
 }
 
-// Whose note comes next: 0 the first slice's, 2 the second's, 1 that of both.
-fn which(a: &[u8], b: &[u8], ha: &[usize], hb: &[usize], x: Place, y: Place) -> u32
+// Whose note comes next: `Less` the first slice's, `Greater` the second's, `Equal` that of both.
+fn which(a: &[u8], b: &[u8], ha: &[usize], hb: &[usize], x: Place, y: Place) -> Ordering
     requires { Fine a.now ha.now x × Fine b.now hb.now y × (x.n ≤ x.i → y.i < y.n) }
     ensures { Chosen a.now b.now x y result }
 {
     let i = x.i;
     let j = y.i;
     if x.n <= i {
-        return 2;
+        return Ordering::Greater;
     }
     if y.n <= j {
-        return 0;
+        return Ordering::Less;
     }
     notes_compare::whose(a, ha[i], b, hb[j])
 }
@@ -98,19 +99,24 @@ fn take_turn(
     requires { Fine a.now ha.now x × Fine b.now hb.now y × (x.n ≤ x.i → y.i < y.n) × (length a.now ≤ 16777216) × (length b.now ≤ 16777216) × (at ≤ 562950037307392) }
     ensures { Turned a.now b.now ha.now hb.now x y out.old at out.new result.x result.y result.at }
 {
-    let w = which(a, b, ha, hb, x, y);
-    if w == 2 {
-        let q = advance(b, hb, y);
-        let to = emit(b, q.last, out, at);
-        return Turn { x, y: q, at: to };
+    match which(a, b, ha, hb, x, y) {
+        Ordering::Greater => {
+            let q = advance(b, hb, y);
+            let to = emit(b, q.last, out, at);
+            Turn { x, y: q, at: to }
+        }
+        Ordering::Less => {
+            let p = advance(a, ha, x);
+            let to = emit(a, p.last, out, at);
+            Turn { x: p, y, at: to }
+        }
+        Ordering::Equal => {
+            let p = advance(a, ha, x);
+            let to = emit(a, p.last, out, at);
+            let q = advance(b, hb, y);
+            Turn { x: p, y: q, at: to }
+        }
     }
-    let p = advance(a, ha, x);
-    let to = emit(a, p.last, out, at);
-    if w == 0 {
-        return Turn { x: p, y, at: to };
-    }
-    let q = advance(b, hb, y);
-    Turn { x: p, y: q, at: to }
 }
 
 // All notes of the two put into the output behind `from` bytes, where they have room; the place after them.
@@ -131,6 +137,7 @@ fn walk(a: &[u8], b: &[u8], from: usize, out: &mut [u8]) -> usize
         last: b.len(),
     };
     let mut at = from;
+    // No `for`: each turn goes on in one of two texts, or in both.
     loop {
         x = ready(a, &mut ha, x);
         y = ready(b, &mut hb, y);

@@ -1,11 +1,9 @@
 -- `notes_common::count` meets its contract: the lines from here on decide as all lines do. Assumes nothing.
-use Prim.Native.Nat.{◌-◌}
 use mathlib.Core.Logic.{inl, inr}
 use mathlib.Core.Path.{sym, ◌∙◌}
 use native.Mathlib.Omega.{arith}
 use borrow.Author.Rules.{rules}
-use lib.ListN.{length}
-use Rattle.notes_common.proofs.Common.{Looking, looking_first, looking_end, looking_torn, looking_either, line_fits}
+use Rattle.notes_common.proofs.Common.{looking_first, looking_end, looking_torn, looking_either, line_fits}
 use Rattle.notes_common.proofs.count.Goals.{then-file-at-eq71, else-file-at-eq71}
 use Rattle.notes_common.proofs.count.Goals as goal
 

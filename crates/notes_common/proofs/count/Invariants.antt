@@ -1,10 +1,7 @@
 -- `notes_common::count` meets its contract: the lines from here on decide as all lines do. Assumes nothing.
 use Prim.Native.Nat.{◌-◌}
-use mathlib.Core.Path.{sym, ◌∙◌}
-use native.Mathlib.Omega.{arith}
-use borrow.Author.Rules.{rules}
 use lib.ListN.{length}
-use Rattle.notes_common.proofs.Common.{Looking, looking_first, looking_end, looking_torn, looking_either, line_fits}
+use Rattle.notes_common.proofs.Common.{Looking}
 use Rattle.notes_common.proofs.count.Given as goal
 
 abbrev pub invariant-loop-at : goal.invariant-loop-at

@@ -1,12 +1,10 @@
 -- `notes_common::notes` meets its contract: the lines from here on decide as all lines do. Assumes nothing.
-use Prim.Native.Nat.{◌-◌}
 use mathlib.Core.Logic.{inl, inr}
 use mathlib.Core.Path.{sym, ◌∙◌}
 use native.Mathlib.Omega.{arith}
 use borrow.Author.Rules.{rules}
-use lib.ListN.{length}
 use Rattle.notes_common.proofs.Common.{line_fits}
-use Rattle.notes_common.proofs.Noted.{Noting, noting_first, noting_end, noting_torn, noting_either}
+use Rattle.notes_common.proofs.Noted.{noting_first, noting_end, noting_torn, noting_either}
 use Rattle.notes_common.proofs.notes.Goals.{then-file-at-eq71, else-file-at-eq71}
 use Rattle.notes_common.proofs.notes.Goals as goal
 

@@ -1,11 +1,7 @@
 -- `notes_common::notes` meets its contract: the lines from here on decide as all lines do. Assumes nothing.
 use Prim.Native.Nat.{◌-◌}
-use mathlib.Core.Path.{sym, ◌∙◌}
-use native.Mathlib.Omega.{arith}
-use borrow.Author.Rules.{rules}
 use lib.ListN.{length}
-use Rattle.notes_common.proofs.Common.{line_fits}
-use Rattle.notes_common.proofs.Noted.{Noting, noting_first, noting_end, noting_torn, noting_either}
+use Rattle.notes_common.proofs.Noted.{Noting}
 use Rattle.notes_common.proofs.notes.Given as goal
 
 abbrev pub invariant-loop-at : goal.invariant-loop-at

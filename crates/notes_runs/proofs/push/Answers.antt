@@ -1,39 +1,16 @@
--- `notes_runs::push` meets its contract: one place after the other is moved on. Assumes nothing.
-use borrow.Author.Rules.{rules}
-use Prim.Native.Nat.{◌-◌}
-use mathlib.Core.Path.{◌≡◌, ◌∙◌}
-use native.Mathlib.Omega.{arith}
-use lib.ListN.{length, length-set}
-use Rattle.notes_runs.specs.Runs.{pushed}
-use Rattle.notes_runs.proofs.Runs.{pushed_none, pushed_more}
+-- `notes_runs::push` meets its contract: the places from p on are moved on by one. Assumes nothing.
+use Prim.Native.Nat.{ℕ}
+use mathlib.Core.List.{List}
+use mathlib.Core.Path.{ap, ◌∙◌}
+use lib.ListN.{set}
+use Rattle.notes_runs.proofs.Runs.{pushed_none, pushed_some}
 use Rattle.notes_runs.proofs.push.Goals as goal
 
-pub loop-k-init : goal.loop-k-init
-loop-k-init c = search rules
+pub returns-then-p-m : goal.returns-then-p-m
+returns-then-p-m c =
+    let p = c.args.p in
+    let x = c.args.x in
+    ap (λ (r : List ℕ). set r p x) c.copy_within.ensures.after ∙ pushed_some _ _ _ _ c.if-p-m.true c.requires
 
-pub offset_bounds-heads-k : goal.offset_bounds-heads-k
-offset_bounds-heads-k c = search rules
-
-pub bounds-heads-k : goal.bounds-heads-k
-bounds-heads-k c = search rules
-
-pub offset_bounds-heads-k-in-loop-k : goal.offset_bounds-heads-k-in-loop-k
-offset_bounds-heads-k-in-loop-k c = search rules
-
-pub bounds-heads-k-in-loop-k : goal.bounds-heads-k-in-loop-k
-bounds-heads-k-in-loop-k c = search rules
-
-pub overflow_add-k : goal.overflow_add-k
-overflow_add-k c = search rules
-
-pub loop-k-smaller : goal.loop-k-smaller
-loop-k-smaller c = search rules
-
-pub loop-k-preserved : goal.loop-k-preserved
-loop-k-preserved c = let l = c.loop-k in (pushed_more l.heads l.k _ l.c (omega arith) (omega arith) ∙ l.invariant.0, length-set l.heads l.k l.c ∙ l.invariant.1)
-
-pub shape_of-heads : goal.shape_of-heads
-shape_of-heads c = c.loop-k.invariant.1
-
-pub returns : goal.returns
-returns c = let l = c.loop-k in pushed_none l.heads l.k _ l.c (omega arith) ∙ l.invariant.0
+pub returns-else-p-m : goal.returns-else-p-m
+returns-else-p-m c = pushed_none _ _ _ _ c.if-p-m.false

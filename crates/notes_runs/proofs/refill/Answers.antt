@@ -1,8 +1,6 @@
 -- `notes_runs::refill` meets its contract: the notes from here on, put into the run, give the whole answer. Assumes nothing.
-use Prim.Native.Nat.{◌-◌}
 use native.Mathlib.Omega.{arith}
-use lib.ListN.{length}
-use Rattle.notes_runs.proofs.Runs.{Filling, filling_first, filling_next, filling_end}
+use Rattle.notes_runs.proofs.Runs.{filling_first, filling_next, filling_end}
 use borrow.Author.Rules.{rules}
 use Rattle.notes_runs.proofs.refill.Goals as goal
 
@@ -11,9 +9,6 @@ loop-i-init c = filling_first _ _ _
 
 pub keep_one-n-requires : goal.keep_one-n-requires
 keep_one-n-requires c = let i = c.loop-i.invariant in (i.fits, i.sorted)
-
-pub line_after-i-requires : goal.line_after-i-requires
-line_after-i-requires c = search rules
 
 pub loop-i-smaller : goal.loop-i-smaller
 loop-i-smaller c = let h = c.line_after-i.ensures.later in omega arith

@@ -1,9 +1,7 @@
 -- `notes_runs::refill` meets its contract: the notes from here on, put into the run, give the whole answer. Assumes nothing.
 use Prim.Native.Nat.{◌-◌}
-use native.Mathlib.Omega.{arith}
 use lib.ListN.{length}
-use Rattle.notes_runs.proofs.Runs.{Filling, filling_first, filling_next, filling_end}
-use borrow.Author.Rules.{rules}
+use Rattle.notes_runs.proofs.Runs.{Filling}
 use Rattle.notes_runs.proofs.refill.Given as goal
 
 abbrev pub invariant-loop-i : goal.invariant-loop-i

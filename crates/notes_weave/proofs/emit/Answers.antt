@@ -1,24 +1,15 @@
 -- `notes_weave::emit` meets its contract: what is left of the text, and CR LF. Assumes nothing.
-use Prim.Native.Nat.{◌-◌}
 use mathlib.Core.Path.{sym, ◌∙◌}
 use native.Mathlib.Omega.{arith}
-use lib.ListN.{length}
 use Rattle.notes_compare.proofs.Letters.{in_inside}
-use Rattle.notes_weave.proofs.Reading.{Putting, putting_first, putting_next, putting_end}
-use borrow.Author.Rules.{rules}
+use Rattle.notes_weave.proofs.Reading.{putting_first, putting_next, putting_end}
 use Rattle.notes_weave.proofs.emit.Goals as goal
 
 pub loop-out-init : goal.loop-out-init
 loop-out-init c = putting_first _ _ _ _
 
-pub in_text-requires : goal.in_text-requires
-in_text-requires c = search rules
-
 pub bounds-s-x : goal.bounds-s-x
 bounds-s-x c = in_inside _ _ (sym c.in_text.ensures ∙ c.loop-out-test.true)
-
-pub byte-requires : goal.byte-requires
-byte-requires c = search rules
 
 pub overflow_add-x : goal.overflow_add-x
 overflow_add-x c = let h = in_inside _ _ (sym c.in_text.ensures ∙ c.loop-out-test.true) in omega arith
@@ -32,14 +23,8 @@ loop-out-smaller c = let h = in_inside _ _ (sym c.in_text.ensures ∙ c.loop-out
 pub loop-out-preserved : goal.loop-out-preserved
 loop-out-preserved c = putting_next _ _ _ _ _ _ _ c.loop-out.invariant _ (sym c.in_text.ensures ∙ c.loop-out-test.true) c.byte.ensures
 
-pub byte-requires-2 : goal.byte-requires-2
-byte-requires-2 c = search rules
-
 pub overflow_add-to-2 : goal.overflow_add-to-2
 overflow_add-to-2 c = omega (arith, c.loop-out.invariant.small, c.requires)
-
-pub byte-requires-3 : goal.byte-requires-3
-byte-requires-3 c = search rules
 
 pub overflow_add-result : goal.overflow_add-result
 overflow_add-result c = omega (arith, c.loop-out.invariant.small, c.requires)

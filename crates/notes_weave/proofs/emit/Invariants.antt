@@ -1,11 +1,7 @@
 -- `notes_weave::emit` meets its contract: what is left of the text, and CR LF. Assumes nothing.
 use Prim.Native.Nat.{◌-◌}
-use mathlib.Core.Path.{sym, ◌∙◌}
-use native.Mathlib.Omega.{arith}
 use lib.ListN.{length}
-use Rattle.notes_compare.proofs.Letters.{in_inside}
-use Rattle.notes_weave.proofs.Reading.{Putting, putting_first, putting_next, putting_end}
-use borrow.Author.Rules.{rules}
+use Rattle.notes_weave.proofs.Reading.{Putting}
 use Rattle.notes_weave.proofs.emit.Given as goal
 
 abbrev pub invariant-loop-out : goal.invariant-loop-out

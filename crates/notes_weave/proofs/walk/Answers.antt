@@ -1,11 +1,9 @@
 -- `notes_weave::walk` meets its contract: what is left of both, behind what was put, is the whole. Assumes nothing.
-use Prim.Native.Nat.{ℕ, ◌+◌}
+use Prim.Native.Nat.{ℕ}
 use mathlib.Core.Path.{refl, sym, ◌∙◌}
 use native.Mathlib.Omega.{arith}
-use lib.ListN.{length, length-replicate}
-use Rattle.notes_runs.specs.Runs.{coming}
-use Rattle.notes_weave.proofs.Turns.{Going, going_first, going_small, going_less, going_next, going_end, over_of}
-use borrow.Author.Rules.{rules}
+use lib.ListN.{length-replicate}
+use Rattle.notes_weave.proofs.Turns.{going_first, going_small, going_less, going_next, going_end, over_of}
 use Rattle.notes_weave.proofs.walk.Goals as goal
 
 pub loop-ha-init : goal.loop-ha-init
@@ -22,9 +20,6 @@ slice_bounds-ready-end-in-loop-ha c = sym c.loop-ha.invariant.room_second
 
 pub ready-y-requires : goal.ready-y-requires
 ready-y-requires c = let i = c.loop-ha.invariant in (i.second, omega (arith, i.room_second))
-
-pub is_over-requires : goal.is_over-requires
-is_over-requires c = search rules
 
 pub shape_of-out-then-is_over : goal.shape_of-out-then-is_over
 shape_of-out-then-is_over c = c.loop-ha.invariant.fills.size

@@ -1,11 +1,8 @@
 -- `notes_weave::walk` meets its contract: what is left of both, behind what was put, is the whole. Assumes nothing.
-use Prim.Native.Nat.{ℕ, ◌+◌}
-use mathlib.Core.Path.{refl, sym, ◌∙◌}
-use native.Mathlib.Omega.{arith}
-use lib.ListN.{length, length-replicate}
+use Prim.Native.Nat.{◌+◌}
+use lib.ListN.{length}
 use Rattle.notes_runs.specs.Runs.{coming}
-use Rattle.notes_weave.proofs.Turns.{Going, going_first, going_small, going_less, going_next, going_end, over_of}
-use borrow.Author.Rules.{rules}
+use Rattle.notes_weave.proofs.Turns.{Going}
 use Rattle.notes_weave.proofs.walk.Given as goal
 
 abbrev pub invariant-loop-ha : goal.invariant-loop-ha
