@@ -1,7 +1,7 @@
 -- What the track needs of an accepted file: it is short enough, each of its B lines reads, and they are counted. Assumes nothing.
+use Rattle.std.specs.Prelude.{None, Some}
 use Prim.Native.Nat.{ℕ, ◌+◌, ◌-◌, ◌≤◌}
 use mathlib.Core.List.{List, []}
-use mathlib.Core.Option.{none, some}
 use mathlib.Core.Path.{◌≡◌, sym, ap, subst, ◌∙◌}
 use native.Mathlib.Omega.{arith}
 use borrow.Author.Tests.{leb-true, le-leb}
@@ -25,7 +25,7 @@ use Rattle.grammar.specs.Coming.{size_of}
 use Rattle.grammar.specs.Readings.{ReadsLine, Readable}
 use Rattle.grammar.proofs.Demands.{readable}
 
-module _ (seal : Seal) (file : List ℕ) (f : Flight) (accepted : verdict seal file none ≡ says f) where
+module _ (seal : Seal) (file : List ℕ) (f : Flight) (accepted : verdict seal file None ≡ says f) where
   pub file_short : length file ≤ 16777216
   unfolding verdict
   file_short =
@@ -41,9 +41,9 @@ module _ (seal : Seal) (file : List ℕ) (f : Flight) (accepted : verdict seal f
   table = offsets 0 (lines_of file)
 
   many : f.lines ≡ length texts
-  many = lines_counted seal file none f accepted
+  many = lines_counted seal file None f accepted
 
-  with_table : verdict seal file (some (length table)) ≡ says f
+  with_table : verdict seal file (Some (length table)) ≡ says f
   unfolding tabled good_lines
   with_table = table_adds seal file (length table) ∙ ap (tabled (length table)) accepted ∙ rw (le-leb f.lines (length table) (omega (arith, many, length_offsets (lines_of file) 0)))
 

@@ -1,34 +1,27 @@
 -- What the check says of a file, made into a plan: each way out of `plan` is a way through `flight_tracked`. Assumes nothing.
-use Prim.Native.Nat.{ℕ, ◌≤◌, ◌<◌}
+use Rattle.std.specs.Prelude.{Err, None, Ok}
+use Prim.Native.Nat.{ℕ, ◌≤◌}
 use mathlib.Core.Bool.{Bool, true, false}
 use mathlib.Core.List.{List}
-use mathlib.Core.Option.{none}
-use mathlib.Core.Path.{◌≡◌, refl, sym, ap, subst, ◌∙◌}
+use mathlib.Core.Path.{◌≡◌, refl, sym, ap, subst}
 use native.Mathlib.Omega.{arith}
-use borrow.Author.Tests.{le-leb, lt-leb, leb-true}
+use borrow.Author.Tests.{leb-true}
 use lib.Dec.{leb}
 use Rattle.rules.specs.Choice.{need}
 use Rattle.rules.specs.Families.{count_of}
 use Rattle.rules.specs.Files.{verdict, CheckedTold}
-use Rattle.rules.specs.Layouts.{empty_layout, length_told}
 use Rattle.rules.specs.Order.{no_flight}
-use Rattle.rules.specs.Refusals.{Said, says, refuses, no, refusal, and_then, outcome, outcome_told, value_or}
+use Rattle.rules.specs.Refusals.{Said, says, refuses, no, refusal, and_then, outcome, value_or, result_told}
 use Rattle.rules.specs.declared.Checked.{Checked}
 use Rattle.rules.specs.declared.Family.TheVariants as family
 use Rattle.rules.specs.declared.Flight.{Flight}
-use Rattle.rules.specs.declared.LengthRead.{LengthRead}
-use Rattle.rules.specs.declared.LengthRead.TheVariants as length_read
-use Rattle.rules.specs.declared.Outcome.TheVariants as outcomes
 use Rattle.rules.specs.declared.Reason.TheVariants as reason
 use Rattle.rules.specs.declared.Refusal.{Refusal}
 use Rattle.rules.proofs.Inverse.{refuses_says}
-use Rattle.file_lines.specs.Ends.{unplaced}
 use Rattle.track_rules.specs.Track.{track_seal, flight_tracked}
-use Rattle.track_rules.specs.declared.Progress.{Progress}
-use Rattle.track_course.specs.Courses.{tracked_told, start_by, fix_size, count_in, CourseTold, FlightPlanned}
+use Rattle.track_course.specs.Courses.{count_in, CourseTold, FlightPlanned}
 use Rattle.track.specs.Tracks.{CoursePlanned}
 use Rattle.track_course.specs.declared.Course.{Course}
-use Rattle.track_course.specs.declared.Tracked.TheVariants as tracked
 
 -- ---- the plan
 
@@ -37,21 +30,21 @@ flightless : Said (Unit {0}) → Said Flight
 flightless (says u) = refuses 0 0 0
 flightless (refuses n l b) = refuses n l b
 
-module _ (file : List ℕ) (room : ℕ) (c : Checked) (r : Course) (t : CheckedTold (verdict track_seal file none) c) where
+module _ (file : List ℕ) (room : ℕ) (c : Checked) (r : Course) (t : CheckedTold (verdict track_seal file None) c) where
   abbrev Told : Said Flight → Type 0
   Told s = CourseTold (and_then s λ f. need (leb (count_of family.B f.counts) room) (no reason.NoRoom 0) λ _. says f) r
 
-  pub plan_refused : (w : Refusal) → c.outcome ≡ outcomes.Refused w → CourseTold (refusal w) r → CoursePlanned file room r
-  unfolding flight_tracked outcome_told flightless
-  plan_refused w g h = by (verdict track_seal file none) (rw g at t.answer)
+  pub plan_refused : (w : Refusal) → c.outcome ≡ Err w → CourseTold (refusal w) r → CoursePlanned file room r
+  unfolding flight_tracked result_told flightless
+  plan_refused w g h = by (verdict track_seal file None) (rw g at t.answer)
     where
       by : (s : Said Flight) → refusal w ≡ outcome s → Told s
       by (says f) e = absurd (refuses_says e)
       by (refuses n l b) e = subst (λ (s : Said Flight). CourseTold s r) (ap flightless e) h
 
-  pub plan_accepted : c.outcome ≡ outcomes.Accepted → FlightPlanned c.flight room r → CoursePlanned file room r
-  unfolding flight_tracked outcome_told
-  plan_accepted g h = by (verdict track_seal file none) (rw g at t.answer) t.flight
+  pub plan_accepted : c.outcome ≡ (Ok tt) → FlightPlanned c.flight room r → CoursePlanned file room r
+  unfolding flight_tracked result_told
+  plan_accepted g h = by (verdict track_seal file None) (rw g at t.answer) t.flight
     where
       by : (s : Said Flight) → says tt ≡ outcome s → c.flight ≡ value_or no_flight s → Told s
       by (says f) e k = subst (λ (x : Flight). FlightPlanned x room r) k h
@@ -65,7 +58,7 @@ within false f room n h e = omega arith
 
 pub planned_within : (file : List ℕ) (room : ℕ) (p : Course) → CoursePlanned file room p → p.count ≤ room
 unfolding flight_tracked
-planned_within file room p w = by (verdict track_seal file none) w.count
+planned_within file room p w = by (verdict track_seal file None) w.count
   where
     by : (s : Said Flight) → p.count ≡ count_in (and_then s λ f. need (leb (count_of family.B f.counts) room) (no reason.NoRoom 0) λ _. says f) → p.count ≤ room
     by (says f) e = within (leb (count_of family.B f.counts) room) f room p.count (leb-true _ _) e

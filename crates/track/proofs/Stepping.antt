@@ -1,9 +1,9 @@
 -- Steps over the lines of a file whose B lines all read find its track: from each place on, what they find are the records of the lines that are left. Assumes nothing.
+use Rattle.std.specs.Prelude.{None, Option, Some}
 use Prim.Native.Nat.{ℕ, zero, suc, ◌+◌, ◌-◌, ◌≤◌, ◌<◌}
 use Prim.Native.Char.{code}
 use mathlib.Core.Bool.{Bool, true, false, cond}
 use mathlib.Core.List.{List, [], ◌∷◌, ◌++◌}
-use mathlib.Core.Option.{Option, none, some}
 use mathlib.Core.Path.{◌≡◌, refl, sym, ap, ◌∙◌}
 use native.Mathlib.Omega.{arith}
 use borrow.Author.Tests.{le-leb, leb-true, ne_eqb, eqb-true, eqb-false}
@@ -52,7 +52,7 @@ pub record Fixed (layout : Layout) (t : List ℕ) (f : Fix) : Type 0 where
   pub letter : get_or t 0 0 ≡ code "B"
   pub long : length t ≡ line_length 36 layout
   pub fields : fix_fields t ≡ says (fields_of f)
-  pub time : time_on t ≡ some (fields_of f).time
+  pub time : time_on t ≡ Some (fields_of f).time
   pub made : fix_within t (finer_of layout) (fields_of f) ≡ f
 
 pub fixed : (layout : Layout) (t : List ℕ) (f : Fix) → fix_said t layout ≡ says f → Fixed layout t f
@@ -67,8 +67,8 @@ fixed layout t f e =
 -- ---- the walk of a progress
 
 walk_behind : (o : Option ℕ) (p : Progress) (next : ℕ) → walk_of (behind o p next) ≡ walked_by o (walk_of p)
-walk_behind none p next = refl
-walk_behind (some t) p next = refl
+walk_behind None p next = refl
+walk_behind (Some t) p next = refl
 
 day_within : (a : Passing) (day lines : ℕ) → day ≤ lines → day_after a day ≤ lines + 1
 day_within onward day lines h = omega arith
@@ -76,8 +76,8 @@ day_within next_day day lines h = omega arith
 day_within back day lines h = omega arith
 
 pub walk_within : (o : Option ℕ) (w : Walk) → w.day ≤ w.lines → (walked_by o w).day ≤ (walked_by o w).lines
-walk_within none w h = omega arith
-walk_within (some t) w h = day_within (passing w.clock t) w.day w.lines h
+walk_within None w h = omega arith
+walk_within (Some t) w h = day_within (passing w.clock t) w.day w.lines h
 
 -- the first byte of a line, in the file
 first_there : (file t : List ℕ) (at b : ℕ) → part at (at + length t) file ≡ t → get_or t 0 0 ≡ suc b → get_or file at 0 ≡ suc b
@@ -180,11 +180,11 @@ module _ (file : List ℕ) (short : length file ≤ 16777216) (layout : Layout) 
           let q = r.0 (eqb-true (get_or t 0 0) (code "B") e) in
           let w = fixed layout t q.0 q.1 in
           let v = fields_of q.0 in
-          let next = behind (some v.time) p (p.at + p.size + 2) in
+          let next = behind (Some v.time) p (p.at + p.size + 2) in
           let n : p.at + p.size + 2 ≡ p.at + length t + 2 = omega (arith, h.size, w.long) in
-          let more = later next (here_next p t ls (some v.time) (p.at + p.size + 2) h n) in
+          let more = later next (here_next p t ls (Some v.time) (p.at + p.size + 2) h n) in
           let made : fix_within t p.finer v ≡ q.0 = ap (λ (fine : Finer). fix_within t fine v) h.finer ∙ w.made in
-          rw (w.time, q.1, step_fix p t ls q.0 h w, made) (ap (λ (x : List Record). record_of (walked_by (some v.time) (walk_of p)) q.0 ∷ x) more)
+          rw (w.time, q.1, step_fix p t ls q.0 h w, made) (ap (λ (x : List Record). record_of (walked_by (Some v.time) (walk_of p)) q.0 ∷ x) more)
       by false e later =
           let d = eqb-false (get_or t 0 0) (code "B") e in
           let next = behind (time_on t) p (p.at + length t + 2) in

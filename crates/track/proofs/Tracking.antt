@@ -1,7 +1,7 @@
 -- What is planned and read step by step is the track of the file. Assumes nothing.
+use Rattle.std.specs.Prelude.{None}
 use Prim.Native.Nat.{ℕ, ◌≤◌}
 use mathlib.Core.List.{List}
-use mathlib.Core.Option.{none}
 use mathlib.Core.Path.{◌≡◌, refl, sym, ap, subst, ◌∙◌}
 use native.Mathlib.Omega.{arith}
 use borrow.Author.Tests.{leb-true}
@@ -39,7 +39,7 @@ all_read layouts end r = tt
 all_read layouts (broken n) r = tt
 all_read layouts (line t ls) r = ((λ e. let x = r.0.columned family.B e in (x.fix, fix_alone t layouts.b _ x.reads)), all_read layouts ls r.1)
 
-module _ (file : List ℕ) (f : Flight) (accepted : verdict track_seal file none ≡ says f) where
+module _ (file : List ℕ) (f : Flight) (accepted : verdict track_seal file None ≡ says f) where
   abbrev layout : Layout
   layout = f.layouts.b
 
@@ -58,10 +58,10 @@ module _ (file : List ℕ) (f : Flight) (accepted : verdict track_seal file none
 -- ---- the whole track
 
 -- a file whose plan is good is accepted, and its fixes have room
-pub planned_accepted : (file : List ℕ) (room : ℕ) (f : Flight) → flight_tracked file room ≡ says f → (verdict track_seal file none ≡ says f) × (count_of family.B f.counts ≤ room)
+pub planned_accepted : (file : List ℕ) (room : ℕ) (f : Flight) → flight_tracked file room ≡ says f → (verdict track_seal file None ≡ says f) × (count_of family.B f.counts ≤ room)
 unfolding flight_tracked
 planned_accepted file room f e =
-    let v = then_inv (verdict track_seal file none) f _ e in
+    let v = then_inv (verdict track_seal file None) f _ e in
     let n = need_inv (leb (count_of family.B v.0.counts) room) _ (says f) _ refuses_says v.2 in
     let i : v.0 ≡ f = cc in
     (v.1 ∙ ap says i, subst (λ (x : Flight). count_of family.B x.counts ≤ room) i (leb-true _ _ n.0))

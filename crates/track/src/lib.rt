@@ -4,8 +4,8 @@
 
 ghost use Rattle.track.specs.Tracks.{CoursePlanned, FileTracked};
 
-use rules::{Outcome, Seal};
-use track_course::{Course, Tracked};
+use rules::{Refusal, Seal};
+use track_course::Course;
 use track_rules::Record;
 
 // What is to be stored into a list of `room` records: how many fixes the file has, and where their reading starts. Refused with the usual check's refusal (no table is lent, so
@@ -17,25 +17,22 @@ pub fn plan(file: &[u8], room: usize) -> Course
     let outcome = checked.outcome;
     let flight = checked.flight;
     match outcome {
-        Outcome::Refused(why) => track_course::refused(why),
-        Outcome::Accepted => track_course::for_flight(flight, room),
+        Err(why) => track_course::refused(why),
+        Ok(()) => track_course::for_flight(flight, room),
     }
 }
 
 // All fixes of a file as records from the list's front on: how many there are. Refused with the usual check's refusal, then with 18 where the list is shorter than the number
 // of B lines. No record is changed where refused, and records past the count stay.
-pub fn track(file: &[u8], list: &mut [Record]) -> Tracked
+pub fn track(file: &[u8], list: &mut [Record]) -> Result<usize, Refusal>
     ensures { FileTracked file.now list.old result list.new }
 {
     let p = plan(file, list.len());
-    let n = p.count;
     let mut from = p.start;
-    let mut i = 0;
-    while i < n {
+    for i in 0..p.count {
         let s = track_step::stride(file, from);
         list[i] = s.found;
         from = s.next;
-        i += 1;
     }
     p.answer
 }

@@ -1,26 +1,16 @@
 -- One answer at most meets each promise of this crate. Assumes nothing.
 use Prim.Native.Nat.{ℕ}
-use mathlib.Core.Path.{◌≡◌, refl, ap}
-use Rattle.rules.specs.Refusals.{Said, says, refuses}
+use mathlib.Core.Path.{◌≡◌}
+use Rattle.rules.specs.Refusals.{Said}
 use Rattle.rules.specs.declared.Flight.{Flight}
 use Rattle.rules.specs.declared.Refusal.{Refusal}
-use Rattle.rules_only.proofs.Told.{OneToOne, by_back, refusal_of, refusal_back}
+use Rattle.rules_only.proofs.Told.{result_one}
 use Rattle.rules_only.proofs.Only.{Only, same, alike}
-use Rattle.track_course.specs.Courses.{tracked_told, CourseTold, CourseRefused, FlightPlanned}
-use Rattle.track_course.specs.declared.Tracked.{Tracked}
-use Rattle.track_course.specs.declared.Tracked.TheVariants as tracked
-
-back : Said ℕ → Tracked
-back (says n) = tracked.Count n
-back (refuses n l b) = tracked.Refused (refusal_of n l b)
-
-pub tracked_one : OneToOne tracked_told
-unfolding tracked_told back
-tracked_one = by_back back (elim [ tracked.Count n ↦ refl | tracked.Refused r ↦ ap tracked.Refused (refusal_back r) ])
+use Rattle.track_course.specs.Courses.{CourseTold, CourseRefused, FlightPlanned}
 
 pub course_only : {s : Said Flight} → Only (CourseTold s)
 course_only r r' e e' =
-    let answer : r.answer ≡ r'.answer = alike tracked_one r.answer r'.answer e.told e'.told in
+    let answer : r.answer ≡ r'.answer = alike result_one r.answer r'.answer e.told e'.told in
     let count : r.count ≡ r'.count = same r.count r'.count e.count e'.count in
     let start : r.start ≡ r'.start = same r.start r'.start e.start e'.start in
     λ i. record { answer = answer i; count = count i; start = start i }

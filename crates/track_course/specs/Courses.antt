@@ -4,7 +4,7 @@ use Rattle.rules.specs.Choice.{need}
 use Rattle.rules.specs.Families.{count_of}
 use Rattle.rules.specs.Fixes.{finer_of}
 use Rattle.rules.specs.Layouts.{empty_layout, length_said}
-use Rattle.rules.specs.Refusals.{Said, says, refuses, no, refusal, and_then, value_or}
+use Rattle.rules.specs.Refusals.{Said, says, refuses, no, refusal, and_then, value_or, result_told}
 use Rattle.rules.specs.declared.Family.TheVariants as family
 use Rattle.rules.specs.declared.Flight.{Flight}
 use Rattle.rules.specs.declared.Layout.{Layout}
@@ -12,13 +12,8 @@ use Rattle.rules.specs.declared.Reason.TheVariants.{NoRoom}
 use Rattle.rules.specs.declared.Refusal.{Refusal}
 use Rattle.track_rules.specs.declared.Progress.{Progress}
 use Rattle.track_course.specs.declared.Course.{Course}
-use Rattle.track_course.specs.declared.Tracked.{Tracked}
-use Rattle.track_course.specs.declared.Tracked.TheVariants as tracked
 
 -- the answer, in the paper's terms
-unfoldable pub tracked_told : Tracked → Said ℕ
-tracked_told (tracked.Count n) = says n
-tracked_told (tracked.Refused r) = refusal r
 
 -- before the first line, by the length of B lines and their layout
 abbrev pub start_by : ℕ → Layout → Progress
@@ -42,7 +37,7 @@ start_in (refuses n l b) = start_by 0 empty_layout
 
 -- the plan for what is said of a file
 pub record CourseTold (s : Said Flight) (r : Course) : Type 0 where
-  pub told : tracked_told r.answer ≡ and_then s λ f. says (count_of family.B f.counts)
+  pub told : result_told r.answer ≡ and_then s λ f. says (count_of family.B f.counts)
   pub count : r.count ≡ count_in s
   pub start : r.start ≡ start_in s
 

@@ -4,20 +4,13 @@
 ghost use Rattle.track_course.specs.Courses.{StartGiven, CourseRefused, fix_size, FlightPlanned};
 ghost use Rattle.std.specs.Prelude.{◌≡◌};
 
-use rules::{Family, Flight, Layout, LengthRead, Reason, Refusal};
+use rules::{Family, Flight, Layout, Reason, Refusal};
 use track_rules::Progress;
-
-// How many fixes a file has; or its refusal.
-#[derive(Clone, Copy)]
-pub enum Tracked {
-    Count(usize),
-    Refused(Refusal),
-}
 
 // The answer on a file, how many fixes are to be stored, none where it is refused, and where the reading starts.
 #[derive(Clone, Copy)]
 pub struct Course {
-    pub answer: Tracked,
+    pub answer: Result<usize, Refusal>,
     pub count: usize,
     pub start: Progress,
 }
@@ -41,7 +34,7 @@ pub fn refused(why: Refusal) -> Course
     ensures { CourseRefused why result }
 {
     Course {
-        answer: Tracked::Refused(why),
+        answer: Err(why),
         count: 0,
         start: set_out(0, layout::empty_layout()),
     }
@@ -52,11 +45,7 @@ fn fix_size(flight: Flight) -> usize
     ensures { result ≡ fix_size flight }
 {
     let layouts = flight.layouts;
-    let layout = layouts.b;
-    match layout::length(Family::B, layout) {
-        LengthRead::Bytes(n) => n,
-        LengthRead::Refused(_) => 0,
-    }
+    layout::length(Family::B, layouts.b).unwrap_or(0)
 }
 
 // The course of an accepted file, for a list of `room` records. 18 where the list has no room for its fixes.
@@ -70,7 +59,7 @@ pub fn for_flight(flight: Flight, room: usize) -> Course
         return refused(file_lines::unplaced(Reason::NoRoom));
     }
     Course {
-        answer: Tracked::Count(count),
+        answer: Ok(count),
         count,
         start: set_out(fix_size(flight), layouts.b),
     }

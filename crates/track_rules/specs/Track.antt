@@ -1,6 +1,5 @@
 -- Document 02, 'The whole track for the map': the records of a file's fixes.
-use Rattle.std.specs.Prelude.{ℕ, List, [], ◌∷◌, ◌++◌, leb, pos, length, drop}
-use Rattle.std.proofs.Math.Option.{none}
+use Rattle.std.specs.Prelude.{ℕ, List, [], ◌∷◌, ◌++◌, leb, pos, length, drop, None}
 use Rattle.rules.specs.Choice.{need, on}
 use Rattle.rules.specs.Families.{count_of}
 use Rattle.rules.specs.Files.{verdict}
@@ -59,7 +58,7 @@ track_of file layout = track_from layout set_out (lines_of file)
 -- "Refusals: the file's own, then 18 if the list is short": what the file says, for a list of `room` records. "No table is lent here or in CR 6"
 unfoldable pub flight_tracked : List ℕ → ℕ → Said Flight
 flight_tracked file room =
-    and_then (verdict track_seal file none) λ f.
+    and_then (verdict track_seal file None) λ f.
     need (leb (count_of family.B f.counts) room) (no NoRoom 0) λ _.
     says f
 

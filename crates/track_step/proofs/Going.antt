@@ -1,9 +1,9 @@
 -- Lines passed one after the other up to a B line: from each place on the lines that are left lead to the same, and the counts stay small. Assumes nothing.
+use Rattle.std.specs.Prelude.{None, Option, Some}
 use Prim.Native.Nat.{ℕ, ◌+◌, ◌-◌, ◌≤◌, ◌<◌}
 use Prim.Native.Char.{code}
 use mathlib.Core.Bool.{false}
 use mathlib.Core.List.{List, [], ◌∷◌, ◌++◌}
-use mathlib.Core.Option.{Option, none, some}
 use mathlib.Core.Path.{◌≡◌, refl, sym, ◌∙◌}
 use native.Mathlib.Omega.{arith}
 use borrow.Author.Tests.{eq-eqb, ne_eqb}
@@ -30,12 +30,12 @@ day_more next_day day = omega arith
 day_more back day = omega arith
 
 pub walk_lines : (o : Option ℕ) (w : Walk) → (walked_by o w).lines ≡ w.lines + 1
-walk_lines none w = refl
-walk_lines (some t) w = refl
+walk_lines None w = refl
+walk_lines (Some t) w = refl
 
 one_day : (o : Option ℕ) (w : Walk) → (walked_by o w).day ≤ w.day + 1
-one_day none w = omega arith
-one_day (some t) w = day_more (passing w.clock t) w.day
+one_day None w = omega arith
+one_day (Some t) w = day_more (passing w.clock t) w.day
 
 -- a line that was found stands inside the file with its ending
 pub line_fits : (f : List ℕ) (at e : ℕ) → ended.At e ≡ ended_at at (lines_of (drop at f)) → (at ≤ e) × (e + 2 ≤ length f)

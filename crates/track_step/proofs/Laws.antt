@@ -1,39 +1,34 @@
 -- A role that no arm of a `match` took, a line that a file has room for, numbers that are few, and the fields of a B line read. Assumes nothing.
+use Rattle.std.specs.Prelude.{Err, None, Ok, Option, Result, Some}
 use Prim.Native.Nat.{ℕ, ◌+◌, ◌-◌, ◌≤◌, ◌<◌}
 use mathlib.Core.Bool.{Bool, true, false, not, ◌&&◌, ◌||◌}
 use Prim.Native.Char.{code}
-use mathlib.Core.List.{List, [], ◌∷◌}
-use mathlib.Core.Option.{Option, none, some}
+use mathlib.Core.List.{List}
 use mathlib.Core.Path.{◌≡◌, refl, sym, ◌∙◌, ap}
 use native.Mathlib.Omega.{arith}
 use borrow.Author.Tests.{le-leb, lt-leb, leb-true, leb-false, eq-eqb, ne_eqb, eqb-true, not-true, not-false}
 use lib.Dec.{eqb, leb}
 use lib.ListN.{length, get_or, drop}
 use Rattle.rules.proofs.Inverse.{and_inv}
-use Rattle.rules.specs.Fields.{time_at, time_told, most_latitude, most_longitude}
+use Rattle.rules.specs.Fields.{time_at, most_latitude, most_longitude}
 use Rattle.rules.specs.Fixes.{digits_at, refined}
 use Rattle.rules.specs.Numbers.{spell, number_at}
-use Rattle.rules.specs.Refusals.{says}
+use Rattle.rules.specs.Refusals.{says, result_told}
 use Rattle.rules.specs.Choice.{on, part}
 use Rattle.rules.specs.Lines.{kind_of, fix_fields}
 use Rattle.rules.specs.Split.{lines_of}
 use Rattle.rules.specs.Order.{passing}
-use Rattle.rules.specs.Reads.{fix_fields_told}
 use Rattle.rules.specs.Roles.{role_of, is_timed}
 use Rattle.rules.specs.Walk.{time_on, day_after}
 use Rattle.rules.specs.declared.Family.{Family}
 use Rattle.rules.specs.declared.Finer.{Finer}
 use Rattle.rules.specs.declared.Fix.{Fix}
 use Rattle.rules.specs.declared.FixFields.{FixFields}
-use Rattle.rules.specs.declared.FixFieldsRead.{FixFieldsRead}
-use Rattle.rules.specs.declared.FixFieldsRead.TheVariants as fix_fields_read
 use Rattle.rules.specs.declared.Kind.{Kind}
 use Rattle.rules.specs.declared.Reach.{Reach}
 use Rattle.rules.specs.declared.Refusal.{Refusal}
 use Rattle.rules.specs.declared.Role.{Role}
 use Rattle.rules.specs.declared.Role.TheVariants as role
-use Rattle.rules.specs.declared.Time.{Time}
-use Rattle.rules.specs.declared.Time.TheVariants as times
 use Rattle.line_finer.specs.Within.{within, time_within, position_within, fix_within}
 use Rattle.line_finer.proofs.Laws.{decimals_none}
 use Rattle.track_rules.specs.Track.{record_of}
@@ -94,21 +89,19 @@ module _ (l : List ℕ) (b : ℕ) (k : Kind) (r : Role) (x : Bool) (e : b ≡ ge
   is_x : is_timed (role_of (kind_of (get_or l 0 0))) ≡ x
   is_x = sym (t ∙ ap is_timed (h ∙ ap role_of (g ∙ ap kind_of e)))
 
-  pub time_nowhere : x ≡ false → none ≡ time_on l
+  pub time_nowhere : x ≡ false → None ≡ time_on l
   time_nowhere n = rw (is_x, n)
 
   pub time_there : (o : Option ℕ) → x ≡ true → o ≡ time_at l 1 → o ≡ time_on l
   time_there o n q = rw (is_x, n) q
 
 -- behind a line
-module _ (time : Time) (p : Progress) (next : ℕ) where
-  pub behind_untimed : time ≡ times.NoTime → record { at = next; lines = p.lines + 1; clock = p.clock; day = p.day; size = p.size; finer = p.finer } ≡ behind (time_told time) p next
-  unfolding time_told
+module _ (time : Option ℕ) (p : Progress) (next : ℕ) where
+  pub behind_untimed : time ≡ None → record { at = next; lines = p.lines + 1; clock = p.clock; day = p.day; size = p.size; finer = p.finer } ≡ behind (time) p next
   behind_untimed e = rw e
 
-  pub behind_timed : (t day : ℕ) → time ≡ times.Secs t → day ≡ day_after (passing p.clock t) p.day
-      → record { at = next; lines = p.lines + 1; clock = t; day = day; size = p.size; finer = p.finer } ≡ behind (time_told time) p next
-  unfolding time_told
+  pub behind_timed : (t day : ℕ) → time ≡ Some t → day ≡ day_after (passing p.clock t) p.day
+      → record { at = next; lines = p.lines + 1; clock = t; day = day; size = p.size; finer = p.finer } ≡ behind (time) p next
   behind_timed t day e g = rw (e, g)
 
 pub few_is : (len : ℕ) (p : Progress) → is_few len p ≡ true → Few len p
@@ -139,13 +132,13 @@ module _ (l : List ℕ) (p : Progress) (next : ℕ) (x : FixStep) where
   pub read_known : (v : FixFields) → fix_fields l ≡ says v → x ≡ passed_by l p next v → x ≡ passed_as l p next (fix_fields l)
   read_known v e h = rw e h
 
-  module _ (f : FixFieldsRead) (g : fix_fields_told f ≡ fix_fields l) where
-    pub read_refused : (w : Refusal) → f ≡ fix_fields_read.Refused w → x ≡ no_fix p → x ≡ passed_as l p next (fix_fields l)
-    unfolding fix_fields_told
+  module _ (f : Result FixFields Refusal) (g : result_told f ≡ fix_fields l) where
+    pub read_refused : (w : Refusal) → f ≡ Err w → x ≡ no_fix p → x ≡ passed_as l p next (fix_fields l)
+    unfolding result_told
     read_refused w k h = rw (← g, k) h
 
-    pub read_is : (v : FixFields) → f ≡ fix_fields_read.Is v → x ≡ passed_by l p next v → x ≡ passed_as l p next (fix_fields l)
-    unfolding fix_fields_told
+    pub read_is : (v : FixFields) → f ≡ Ok v → x ≡ passed_by l p next v → x ≡ passed_as l p next (fix_fields l)
+    unfolding result_told
     read_is v k h = rw (← g, k) h
 
 -- a line without columns of finer digits
@@ -177,19 +170,17 @@ unfolding fix_within time_within position_within
 plain_is l fine f n m =
     rw (within_plain 86400 3 f.time l fine.time n.time m.time, within_plain most_latitude 4 f.lat.count l fine.lat n.lat m.lat, within_plain most_longitude 4 f.lon.count l fine.lon n.lon m.lon, ← decimals_none fine.time n.time, ← decimals_none fine.lat n.lat, ← decimals_none fine.lon n.lon) refl
 
-pub time_is : (l : List ℕ) (r : Time) (t : ℕ) → time_told r ≡ time_at l 1 → r ≡ times.Secs t → time_at l 1 ≡ some t
-unfolding time_told
+pub time_is : (l : List ℕ) (r : Option ℕ) (t : ℕ) → r ≡ time_at l 1 → r ≡ Some t → time_at l 1 ≡ Some t
 time_is l r t e g = rw (← e, g)
 
-pub passed_so : (l : List ℕ) (p n : Progress) (next : ℕ) (v : FixFields) (f : Fix) (r : Record) (t : Time) → n ≡ behind (time_told t) p next → t ≡ times.Secs v.time → f ≡ fix_within l p.finer v → r ≡ record_of (walk_of n) f
+pub passed_so : (l : List ℕ) (p n : Progress) (next : ℕ) (v : FixFields) (f : Fix) (r : Record) (t : Option ℕ) → n ≡ behind (t) p next → t ≡ Some v.time → f ≡ fix_within l p.finer v → r ≡ record_of (walk_of n) f
     → record { found = r; next = n } ≡ passed_by l p next v
-unfolding time_told
 passed_so l p n next v f r t e k g h = rw (h, g, e, k)
 
 pub not_so : {A : Type 0} → false ≡ true → A
 not_so e = let z : ◌≡◌ {A = ℕ} 0 1 = cc in absurd (omega arith)
 
-pub not_secs : (t : ℕ) → times.NoTime ≡ times.Secs t → ⊥
+pub not_secs : (t : ℕ) → None ≡ Some t → ⊥
 not_secs t e = let z : ◌≡◌ {A = ℕ} 0 1 = cc in omega arith
 
 -- a step

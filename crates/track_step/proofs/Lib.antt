@@ -3,4 +3,5 @@ pub mod Laws
 pub mod Going
 pub mod Only
 pub mod Striding
+mod Joined
 pub mod Digits

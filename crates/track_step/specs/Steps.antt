@@ -1,8 +1,7 @@
 -- A step from fix to fix over the bytes of a file, by numbers alone: the place, the lines passed, the last time, the day, the length of a B line, and where its columns of finer digits
 -- stand.
-use Rattle.std.specs.Prelude.{ℕ, ◌+◌, ◌≤◌, ◌<◌, Bool, true, ◌&&◌, cond, List, ◌≡◌, eqb, leb, length, get_or, drop}
+use Rattle.std.specs.Prelude.{ℕ, ◌+◌, ◌≤◌, ◌<◌, Bool, true, ◌&&◌, cond, List, ◌≡◌, eqb, leb, length, get_or, drop, Option, Some}
 use Prim.Native.Char.{code}
-use Rattle.std.proofs.Math.Option.{Option, some}
 use Rattle.rules.specs.Choice.{need, on, part}
 use Rattle.rules.specs.Fields.{time_at, most_latitude, most_longitude}
 use Rattle.rules.specs.Lines.{fix_fields}
@@ -11,12 +10,9 @@ use Rattle.rules.specs.Split.{Lines, end, broken, line, lines_of}
 use Rattle.rules.specs.Walk.{Walk, time_on, walked_by}
 use Rattle.rules.specs.declared.Finer.{Finer}
 use Rattle.rules.specs.declared.FixFields.{FixFields}
-use Rattle.rules.specs.declared.Time.{Time}
-use Rattle.rules.specs.declared.Time.TheVariants as times
 use Rattle.check_front.specs.Front.{is_front}
 use Rattle.line_finer.specs.Within.{fix_within}
 use Rattle.track_rules.specs.Track.{record_of, zero_record}
-use Rattle.track_rules.specs.declared.Record.{Record}
 use Rattle.track_rules.specs.declared.Progress.{Progress}
 use Rattle.track_rules.specs.declared.FixStep.{FixStep}
 
@@ -40,7 +36,7 @@ no_fix p = record { found = zero_record; next = p }
 -- a B line with these fields passed, the next line standing behind `next` bytes: "Time order, day number and the listing still use the plain counts." (document 02)
 abbrev pub passed_by : List ℕ → Progress → ℕ → FixFields → FixStep
 passed_by l p next f =
-    record { found = record_of (walked_by (some f.time) (walk_of p)) (fix_within l p.finer f); next = behind (some f.time) p next }
+    record { found = record_of (walked_by (Some f.time) (walk_of p)) (fix_within l p.finer f); next = behind (Some f.time) p next }
 
 abbrev pub passed_as : List ℕ → Progress → ℕ → Said FixFields → FixStep
 passed_as l p next (says f) = passed_by l p next f
@@ -88,11 +84,11 @@ pub record AtFix (file : List ℕ) (p : Progress) : Type 0 where
   pub plain : NoFiner p.finer
 
 -- a time that is told is that of a line with a good front
-abbrev pub FrontTimed : List ℕ → Time → Type 0
-FrontTimed l r = (t : ℕ) → r ≡ times.Secs t → (is_front l ≡ true) × (time_at l 1 ≡ some t)
+abbrev pub FrontTimed : List ℕ → Option ℕ → Type 0
+FrontTimed l r = (t : ℕ) → r ≡ Some t → (is_front l ≡ true) × (time_at l 1 ≡ Some t)
 
-abbrev pub SwiftTimed : List ℕ → Progress → Time → Type 0
-SwiftTimed file p r = (t : ℕ) → r ≡ times.Secs t → AtFix file p × (is_front (part p.at (p.at + p.size) file) ≡ true) × (time_at (part p.at (p.at + p.size) file) 1 ≡ some t)
+abbrev pub SwiftTimed : List ℕ → Progress → Option ℕ → Type 0
+SwiftTimed file p r = (t : ℕ) → r ≡ Some t → AtFix file p × (is_front (part p.at (p.at + p.size) file) ≡ true) × (time_at (part p.at (p.at + p.size) file) 1 ≡ Some t)
 
 -- the next fix: past the lines that are no B lines, and the B line read
 unfoldable pub step_of : List ℕ → Progress → FixStep

@@ -4,8 +4,7 @@
 mod swift;
 
 ghost use Rattle.std.specs.Prelude.{ℕ, ◌<◌, ◌≤◌, ◌+◌, true, false, List, ◌≡◌, leb, length, drop};
-ghost use Rattle.std.proofs.Math.Option.{some};
-ghost use Rattle.rules.specs.Fields.{time_at, time_told};
+ghost use Rattle.rules.specs.Fields.{time_at};
 ghost use Rattle.rules.specs.Lines.{fix_fields};
 ghost use Rattle.rules.specs.Order.{passing};
 ghost use Rattle.rules.specs.Roles.{is_timed};
@@ -17,28 +16,23 @@ ghost use Rattle.track_rules.specs.Track.{record_of};
 ghost use Rattle.track_step.specs.Steps.{walk_of, behind, skipped, is_few, Few, Spare, NoFiner, Limited, AtFix, FrontTimed, SwiftTimed, no_fix, passed_by, passed_as, read_at, FixStepped};
 
 use file_lines::Ended;
-use rules::{FinePosition, FineTime, Finer, Fix, FixFields, FixFieldsRead, Height, Role, Time};
+use rules::{FinePosition, FineTime, Finer, Fix, FixFields, Height, Refusal, Role};
 use track_rules::{FixStep, Progress, Record};
 
 // Whether a line of this role runs in time order.
 fn is_timed(r: Role) -> bool
     ensures { result ≡ is_timed r }
 {
-    match r {
-        Role::Columned(_) => true,
-        Role::Event => true,
-        Role::Satellites => true,
-        _ => false,
-    }
+    matches!(r, Role::Columned(_) | Role::Event | Role::Satellites)
 }
 
 // The time of a line, where its kind runs in time order.
-fn time_on(line: &[u8]) -> Time
-    ensures { time_told result ≡ time_on line.now }
+fn time_on(line: &[u8]) -> Option<u32>
+    ensures { result ≡ time_on line.now }
 {
     let role = line_order::role_of(line_kind::kind_of(byte_chars::byte(line, 0)));
     if !is_timed(role) {
-        return Time::NoTime;
+        return None;
     }
     field_time::time_at(line, 1)
 }
@@ -58,15 +52,15 @@ fn day_after(before: u32, now: u32, day: u32) -> u32
 }
 
 // Behind a line with this time, or with none, the next one standing behind `next` bytes.
-fn behind(time: Time, p: Progress, next: usize) -> Progress
+fn behind(time: Option<u32>, p: Progress, next: usize) -> Progress
     requires { Spare p }
-    ensures { result ≡ behind (time_told time) p next }
+    ensures { result ≡ behind (time) p next }
 {
     let size = p.size;
     let finer = p.finer;
     let lines = p.lines + 1;
     match time {
-        Time::NoTime => Progress {
+        None => Progress {
             at: next,
             lines,
             clock: p.clock,
@@ -74,7 +68,7 @@ fn behind(time: Time, p: Progress, next: usize) -> Progress
             size,
             finer,
         },
-        Time::Secs(t) => Progress {
+        Some(t) => Progress {
             at: next,
             lines,
             clock: t,
@@ -91,6 +85,7 @@ fn skip(file: &[u8], from: Progress) -> Progress
     ensures { (result ≡ skipped (lines_of (drop from.at file.now)) from) × Spare result }
 {
     let mut p = from;
+    // No `for`: the place jumps from line to line.
     while p.at < file.len() {
         let at = p.at;
         if file[at] == b'B' {
@@ -160,7 +155,7 @@ fn passed(line: &[u8], p: Progress, f: FixFields, after: usize) -> FixStep
     ensures { result ≡ passed_by line.now p after f }
 {
     let fix = line_finer::fix_of(line, p.finer, f);
-    let next = behind(Time::Secs(f.time), p, after);
+    let next = behind(Some(f.time), p, after);
     FixStep {
         found: record_of(next, fix),
         next,
@@ -216,7 +211,7 @@ fn passed_plain(p: Progress, f: FixFields, after: usize) -> FixStep
     ensures { (l : List ℕ) → result ≡ passed_by l p after f }
 {
     let fix = plain_fix(p.finer, f);
-    let behind_it = behind(Time::Secs(f.time), p, after);
+    let behind_it = behind(Some(f.time), p, after);
     FixStep {
         found: record_of(behind_it, fix),
         next: behind_it,
@@ -225,7 +220,7 @@ fn passed_plain(p: Progress, f: FixFields, after: usize) -> FixStep
 
 // A B line whose front is good, read with no test but that of its time.
 fn read_swift(line: &[u8], p: Progress, time: u32, after: usize) -> FixStep
-    requires { Spare p × (is_front line.now ≡ true) × (time_at line.now 1 ≡ some time) }
+    requires { Spare p × (is_front line.now ≡ true) × (time_at line.now 1 ≡ Some time) }
     ensures { result ≡ passed_as line.now p after (fix_fields line.now) }
 {
     let f = swift::fields_of(line, time);
@@ -240,7 +235,7 @@ fn read_slowly(line: &[u8], p: Progress, after: usize) -> FixStep
     requires { Spare p }
     ensures { result ≡ passed_as line.now p after (fix_fields line.now) }
 {
-    let FixFieldsRead::Is(f) = line_fix::fix_fields(line) else {
+    let Ok(f) = line_fix::fix_fields(line) else {
         return no_fix(p);
     };
     passed(line, p, f, after)
@@ -252,7 +247,7 @@ fn read_line(line: &[u8], p: Progress, after: usize) -> FixStep
     ensures { result ≡ passed_as line.now p after (fix_fields line.now) }
 {
     if check_front::is_front(line) {
-        if let Time::Secs(time) = field_time::time_at(line, 1) {
+        if let Some(time) = field_time::time_at(line, 1) {
             return read_swift(line, p, time, after);
         }
     }
@@ -263,13 +258,7 @@ fn read_line(line: &[u8], p: Progress, after: usize) -> FixStep
 fn has_line(len: usize, at: usize, size: usize) -> bool
     ensures { result ≡ leb (at + size + 2) len }
 {
-    if len < 2 {
-        return false;
-    }
-    if len - 2 < at {
-        return false;
-    }
-    size <= len - 2 - at
+    2 <= len && at <= len - 2 && size <= len - 2 - at
 }
 
 // The B line at the place read by its fields, and the progress behind it. Its size is taken on trust, and whether CR LF stands behind it is not tested. No fix where the file has
@@ -280,10 +269,7 @@ fn read_at(file: &[u8], p: Progress) -> FixStep
 {
     let at = p.at;
     let size = p.size;
-    if !has_line(file.len(), at, size) {
-        return no_fix(p);
-    }
-    if file[at] != b'B' {
+    if !has_line(file.len(), at, size) || file[at] != b'B' {
         return no_fix(p);
     }
     let end = at + size;
@@ -291,16 +277,11 @@ fn read_at(file: &[u8], p: Progress) -> FixStep
 }
 
 // Whether a file has at most 16,777,216 bytes, and the lines passed and the day are no more than that.
+#[tactic(auto, unfolding(crate::specs::Steps::is_few))]
 fn is_few(len: usize, p: Progress) -> bool
     ensures { result ≡ is_few len p }
 {
-    if 16777216 < len {
-        return false;
-    }
-    if 16777216 < p.lines {
-        return false;
-    }
-    p.day <= 16777216
+    len <= 16777216 && p.lines <= 16777216 && p.day <= 16777216
 }
 
 // The next fix of a file: lines that are no B lines are passed with their times, then the B line is read by its fields, as the lines of an accepted file may be: its size is taken
@@ -322,34 +303,28 @@ fn is_at_fix(file: &[u8], p: Progress) -> bool
     ensures { result ≡ true → AtFix file.now p }
 {
     let at = p.at;
-    if !is_few(file.len(), p) {
-        return false;
-    }
-    if !has_line(file.len(), at, p.size) {
-        return false;
-    }
-    if file[at] != b'B' {
-        return false;
-    }
-    !has_finer(p.finer)
+    is_few(file.len(), p)
+        && has_line(file.len(), at, p.size)
+        && file[at] == b'B'
+        && !has_finer(p.finer)
 }
 
 // The time of a line whose front is good; none for any other.
-fn front_time(line: &[u8]) -> Time
+fn front_time(line: &[u8]) -> Option<u32>
     ensures { FrontTimed line.now result }
 {
     if !check_front::is_front(line) {
-        return Time::NoTime;
+        return None;
     }
     field_time::time_at(line, 1)
 }
 
 // The time of the B line at the place, where it can be read with no test.
-fn swift_time(file: &[u8], p: Progress) -> Time
+fn swift_time(file: &[u8], p: Progress) -> Option<u32>
     ensures { SwiftTimed file.now p result }
 {
     if !is_at_fix(file, p) {
-        return Time::NoTime;
+        return None;
     }
     let at = p.at;
     let size = p.size;
@@ -359,7 +334,7 @@ fn swift_time(file: &[u8], p: Progress) -> Time
 
 // A B line whose front is good and that has no finer digits, read with no test.
 fn stride_by(line: &[u8], p: Progress, time: u32, after: usize) -> FixStep
-    requires { Spare p × NoFiner p.finer × (is_front line.now ≡ true) × (time_at line.now 1 ≡ some time) }
+    requires { Spare p × NoFiner p.finer × (is_front line.now ≡ true) × (time_at line.now 1 ≡ Some time) }
     ensures { result ≡ passed_as line.now p after (fix_fields line.now) }
 {
     passed_plain(p, swift::fields_of(line, time), after)
@@ -422,7 +397,7 @@ fn anew(s: FixStep) -> FixStep
 pub fn stride(file: &[u8], from: Progress) -> FixStep
     ensures { FixStepped file.now from result }
 {
-    let Time::Secs(time) = swift_time(file, from) else {
+    let Some(time) = swift_time(file, from) else {
         return anew(step(file, from));
     };
     let at = from.at;

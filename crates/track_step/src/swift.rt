@@ -1,6 +1,5 @@
 // The fields of a B line of which `front` has told that they are good, read with no test: which bytes are digits is known already.
 ghost use Rattle.std.specs.Prelude.{◌≤◌, true, ◌≡◌, pos};
-ghost use Rattle.std.proofs.Math.Option.{some};
 ghost use Rattle.rules.specs.Fields.{time_at, most_latitude, most_longitude, latitude_at, longitude_at, altitude_at};
 ghost use Rattle.check_front.specs.Front.{is_front};
 ghost use Rattle.track_step.specs.Known.{Numbered, NumberKnown, FieldsKnown};
@@ -51,7 +50,7 @@ fn five(s: &[u8], at: usize) -> u64
 // The latitude of such a line.
 fn latitude(line: &[u8]) -> Position
     requires { is_front line.now ≡ true }
-    ensures { (latitude_at line.now 7 ≡ some result) × (result.count ≤ most_latitude) }
+    ensures { (latitude_at line.now 7 ≡ Some result) × (result.count ≤ most_latitude) }
 {
     let count = two(line, 7) * 60000 + five(line, 9);
     Position {
@@ -63,7 +62,7 @@ fn latitude(line: &[u8]) -> Position
 // Its longitude.
 fn longitude(line: &[u8]) -> Position
     requires { is_front line.now ≡ true }
-    ensures { (longitude_at line.now 15 ≡ some result) × (result.count ≤ most_longitude) }
+    ensures { (longitude_at line.now 15 ≡ Some result) × (result.count ≤ most_longitude) }
 {
     let count = three(line, 15) * 60000 + five(line, 18);
     Position {
@@ -83,14 +82,14 @@ fn up(v: u64) -> Height
 // An altitude of five digits that are known to stand at a place.
 fn height(line: &[u8], at: usize) -> Height
     requires { Numbered line.now at 5 }
-    ensures { altitude_at line.now at ≡ some result }
+    ensures { altitude_at line.now at ≡ Some result }
 {
     up(five(line, at))
 }
 
 // The fields of such a line before its columns, with this time.
 pub(crate) fn fields_of(line: &[u8], time: u32) -> FixFields
-    requires { (is_front line.now ≡ true) × (time_at line.now 1 ≡ some time) }
+    requires { (is_front line.now ≡ true) × (time_at line.now 1 ≡ Some time) }
     ensures { FieldsKnown line.now result }
 {
     let lat = latitude(line);

@@ -1,6 +1,5 @@
 -- `track_course::refused` meets its contract. Assumes nothing.
 use mathlib.Core.Path.{ap, ◌∙◌}
-use borrow.Author.Rules.{rules}
 use Rattle.track_course.specs.Courses.{start_by}
 use Rattle.track_course.proofs.Planned.{refused_told}
 use Rattle.track_course.proofs.refused.Goals as goal

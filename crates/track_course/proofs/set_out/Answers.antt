@@ -1,5 +1,4 @@
 -- `track_course::set_out` meets its contract. Assumes nothing.
-use borrow.Author.Rules.{rules}
 use Rattle.track_course.proofs.set_out.Goals as goal
 
 pub returns : goal.returns

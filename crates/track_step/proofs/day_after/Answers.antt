@@ -1,5 +1,4 @@
 -- `track_step::day_after` meets its contract. Assumes nothing.
-use borrow.Author.Rules.{rules}
 use borrow.Author.Tests.{le-leb, lt-leb, lt-ltb, le-ltb}
 use Rattle.rules.specs.Order.{passing}
 use Rattle.track_step.proofs.day_after.Goals as goal

@@ -1,5 +1,4 @@
 -- `track_step::front_time` meets its contract. Assumes nothing.
-use borrow.Author.Rules.{rules}
 use mathlib.Core.Path.{sym, ◌∙◌}
 use borrow.Author.Tests.{not-false}
 use Rattle.track_step.proofs.Laws.{time_is, not_secs}

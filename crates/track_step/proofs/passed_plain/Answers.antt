@@ -1,6 +1,5 @@
 -- `track_step::passed_plain` meets its contract: the plain time moves the clock and the day. Assumes nothing.
 use mathlib.Core.Path.{refl}
-use borrow.Author.Rules.{rules}
 use Rattle.track_step.proofs.Laws.{passed_so}
 use Rattle.track_step.proofs.passed_plain.Goals as goal
 

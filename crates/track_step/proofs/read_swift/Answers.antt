@@ -1,5 +1,4 @@
 -- `track_step::read_swift` meets its contract. Assumes nothing.
-use borrow.Author.Rules.{rules}
 use Rattle.track_step.proofs.Laws.{read_known}
 use Rattle.track_step.proofs.read_swift.Goals as goal
 

@@ -1,5 +1,4 @@
 -- `track_step::step` meets its contract. Assumes nothing.
-use borrow.Author.Rules.{rules}
 use Rattle.track_step.proofs.Laws.{few_so, step_none, step_read}
 use Rattle.track_step.proofs.step.Goals as goal
 

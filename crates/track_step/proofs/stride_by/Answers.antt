@@ -1,5 +1,4 @@
 -- `track_step::stride_by` meets its contract. Assumes nothing.
-use borrow.Author.Rules.{rules}
 use Rattle.track_step.proofs.Laws.{read_known}
 use Rattle.track_step.proofs.stride_by.Goals as goal
 

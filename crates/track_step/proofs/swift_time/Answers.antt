@@ -1,6 +1,5 @@
 -- `track_step::swift_time` meets its contract. Assumes nothing.
 use native.Mathlib.Omega.{arith}
-use borrow.Author.Rules.{rules}
 use borrow.Author.Tests.{not-false}
 use Rattle.track_step.proofs.Laws.{not_secs}
 use Rattle.track_step.proofs.swift_time.Goals as goal

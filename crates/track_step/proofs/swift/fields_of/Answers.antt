@@ -1,6 +1,5 @@
 -- `track_step::swift::fields_of` meets its contract: each field is read, and its time was. Assumes nothing.
 use native.Mathlib.Omega.{arith}
-use borrow.Author.Rules.{rules}
 use mathlib.Core.Path.{refl}
 use Rattle.rules.specs.Choice.{on}
 use Rattle.rules.specs.Lines.{fix_fields}

@@ -1,6 +1,5 @@
 -- `track_step::swift::latitude` meets its contract: its digits are known to stand there. Assumes nothing.
 use native.Mathlib.Omega.{arith}
-use borrow.Author.Rules.{rules}
 use Rattle.track_step.proofs.Digits.{digits_there, known, known_inside, at_most, small, position_is}
 use Rattle.track_step.proofs.swift.latitude.Goals as goal
 

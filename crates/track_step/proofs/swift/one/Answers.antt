@@ -1,6 +1,5 @@
 -- `track_step::swift::one` meets its contract: the digit that is known to stand there. Assumes nothing.
 use native.Mathlib.Omega.{arith}
-use borrow.Author.Rules.{rules}
 use Rattle.byte_number.proofs.Laws.{digit_low, digit_high}
 use Rattle.track_step.proofs.Digits.{one_there, one_digit, one_is}
 use Rattle.track_step.proofs.swift.one.Goals as goal

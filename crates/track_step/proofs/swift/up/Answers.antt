@@ -1,6 +1,5 @@
 -- `track_step::swift::up` meets its contract: a number that is not below zero. Assumes nothing.
 use native.Mathlib.Omega.{arith}
-use borrow.Author.Rules.{rules}
 use mir.Syntax.{w32}
 use mir.ValLaws.{to_z_pos}
 use Rattle.track_step.proofs.swift.up.Goals as goal
