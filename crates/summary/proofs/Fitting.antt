@@ -1,9 +1,9 @@
 -- The fixes of an accepted file fit: each number that is told of one is a number of the list, and there are no more fixes than bytes. Assumes nothing.
+use Rattle.std.specs.Prelude.{None}
 use Prim.Native.Nat.{ℕ, ◌+◌, ◌≤◌}
 use Prim.Native.Char.{code}
 use mathlib.Core.Bool.{Bool, true, false, ◌&&◌, cond}
 use mathlib.Core.List.{List, [], ◌∷◌, ◌++◌}
-use mathlib.Core.Option.{none}
 use mathlib.Core.Path.{◌≡◌, refl, ap}
 use native.Mathlib.Omega.{arith}
 use borrow.Author.Tests.{le-leb, leb-true, eqb-true, eqb-false}
@@ -97,7 +97,7 @@ beginning_within x (l ∷ ls) = by (eqb (get_or l 0 0) x) (beginning_within x ls
     by true h = omega (arith, h)
     by false h = omega (arith, h)
 
-module _ (file : List ℕ) (f : Flight) (accepted : verdict track_seal file none ≡ says f) where
+module _ (file : List ℕ) (f : Flight) (accepted : verdict track_seal file None ≡ says f) where
   pub fixes_fit : Each Fits (track_of file f.layouts.b)
   fixes_fit =
       fits_from f.layouts (lines_of file) set_out (texts_read track_seal file f accepted) (omega arith) (omega (arith, lines_within (lines_of file) file refl, file_short track_seal file f accepted))
@@ -106,10 +106,10 @@ module _ (file : List ℕ) (f : Flight) (accepted : verdict track_seal file none
   few_fixes = omega (arith, letters_counted track_seal file f accepted family.B, beginning_within (code "B") (texts_of (lines_of file)), lines_within (lines_of file) file refl)
 
 -- a list of as many records as the file has bytes is never too short for its track
-pub track_fits : (file : List ℕ) → flight_tracked file (length file) ≡ verdict track_seal file none
+pub track_fits : (file : List ℕ) → flight_tracked file (length file) ≡ verdict track_seal file None
 unfolding flight_tracked
-track_fits file = by (verdict track_seal file none) refl
+track_fits file = by (verdict track_seal file None) refl
   where
-    by : (s : Said Flight) → verdict track_seal file none ≡ s → flight_tracked file (length file) ≡ verdict track_seal file none
+    by : (s : Said Flight) → verdict track_seal file None ≡ s → flight_tracked file (length file) ≡ verdict track_seal file None
     by (says f) e = rw (e, le-leb (count_of family.B f.counts) (length file) (few_fixes file f e))
     by (refuses n l b) e = rw e

@@ -4,11 +4,11 @@ use mathlib.Core.List.{List}
 use mathlib.Core.Path.{◌≡◌}
 use lib.IntN.{ℤ}
 use Rattle.rules_only.proofs.Only.{OnlyBoth, same, alike}
-use Rattle.summary_reckon.proofs.Only.{summed_one}
+use Rattle.rules_only.proofs.Told.{result_one}
 use Rattle.summary.specs.Summaries.{FileSummed, FileDated}
 
 pub only_file_summed : (file : List ℕ) (old : ℕ) (list : List ℤ) → OnlyBoth (FileSummed file old list)
-only_file_summed file old list r r' after after' w w' = (alike summed_one r r' w.told w'.told, same after after' w.numbers w'.numbers)
+only_file_summed file old list r r' after after' w w' = (alike result_one r r' w.told w'.told, same after after' w.numbers w'.numbers)
 
 pub only_file_dated : (file : List ℕ) (old : ℕ) (list : List ℤ) → OnlyBoth (FileDated file old list)
 only_file_dated file old list r r' after after' w w' =

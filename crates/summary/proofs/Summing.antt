@@ -1,8 +1,8 @@
 -- What the code answers and leaves in the list, by the number of fixes, is what the document asks for of the file. Assumes nothing.
+use Rattle.std.specs.Prelude.{Err, None, Ok, Result}
 use Prim.Native.Nat.{ℕ, ◌/◌, ◌≤◌}
 use mathlib.Core.Bool.{Bool, true, false}
 use mathlib.Core.List.{List}
-use mathlib.Core.Option.{none}
 use mathlib.Core.Path.{◌≡◌, refl, sym, ap, subst, ◌∙◌}
 use native.Mathlib.Omega.{arith}
 use borrow.Author.Tests.{le-leb, leb-true}
@@ -11,11 +11,9 @@ use lib.IntN.{ℤ}
 use lib.ListN.{length}
 use Rattle.rules.specs.Choice.{need, Each}
 use Rattle.rules.specs.Files.{verdict, CheckedTold}
-use Rattle.rules.specs.Order.{no_flight}
-use Rattle.rules.specs.Refusals.{Said, says, refuses, no, refusal, and_then, outcome, outcome_told}
+use Rattle.rules.specs.Refusals.{Said, says, refuses, no, refusal, and_then, outcome, result_told}
 use Rattle.rules.specs.declared.Checked.{Checked}
 use Rattle.rules.specs.declared.Flight.{Flight}
-use Rattle.rules.specs.declared.Outcome.TheVariants as outcomes
 use Rattle.rules.specs.declared.Reason.TheVariants as reason
 use Rattle.rules.specs.declared.Refusal.{Refusal}
 use Rattle.rules.proofs.Inverse.{refuses_says}
@@ -25,20 +23,16 @@ use Rattle.track_rules.specs.declared.FixStep.{FixStep}
 use Rattle.track_rules.specs.declared.Progress.{Progress}
 use Rattle.track_rules.specs.declared.Record.{Record}
 use Rattle.track_rules.specs.Stored.{fixes_from}
-use Rattle.track_course.specs.Courses.{tracked_told, start_by, fix_size, CourseTold, FlightPlanned}
+use Rattle.track_course.specs.Courses.{start_by, fix_size, CourseTold, FlightPlanned}
 use Rattle.track.specs.Tracks.{CoursePlanned}
 use Rattle.track_course.specs.declared.Course.{Course}
-use Rattle.track_course.specs.declared.Tracked.TheVariants as tracked
 use Rattle.track.proofs.Accepted.{file_short}
 use Rattle.track.proofs.Planning.{plan_accepted}
 use Rattle.track.proofs.Tracking.{found_all}
 use Rattle.summary_reckon.specs.Filled.{filled}
-use Rattle.summary_reckon.specs.Reckoned.{summed_told, count_said, count_after, few_said, few_after, FixesSummed}
+use Rattle.summary_reckon.specs.Reckoned.{count_said, count_after, few_said, few_after, FixesSummed}
 use Rattle.summary.specs.Summaries.{FileSummed, FileDated}
 use Rattle.summary_reckon.specs.Summary.{runs_of, size_of, updated, fixes_in, flight_summed, summary_said, updated_by, summary_after}
-use Rattle.summary_reckon.specs.declared.Summed.{Summed}
-use Rattle.summary_reckon.specs.declared.Summed.TheVariants as summed
-use Rattle.summary.specs.declared.Dated.{Dated}
 use Rattle.summary.proofs.Telling.{Fits}
 use Rattle.summary.proofs.Filling.{filled_is}
 use Rattle.summary.proofs.Fitting.{fixes_fit, few_fixes, track_fits}
@@ -56,7 +50,7 @@ few_left step start count old list h = rw (le-leb count 16777216 h)
 -- ---- of an accepted file
 
 module _ (file : List ℕ) (old : ℕ) where
-  pub said_accepted : (room : ℕ) (f : Flight) → verdict track_seal file none ≡ says f → summary_said file old room ≡ count_said (fixes_in f) old room
+  pub said_accepted : (room : ℕ) (f : Flight) → verdict track_seal file None ≡ says f → summary_said file old room ≡ count_said (fixes_in f) old room
   unfolding flight_summed count_said
   said_accepted room f e = rw e (by (leb old (fixes_in f)) (leb (size_of (runs_of (fixes_in f))) room))
     where
@@ -66,7 +60,7 @@ module _ (file : List ℕ) (old : ℕ) where
       by true false = refl
       by false b = refl
 
-  pub after_accepted : (list : List ℤ) (f : Flight) → verdict track_seal file none ≡ says f
+  pub after_accepted : (list : List ℤ) (f : Flight) → verdict track_seal file None ≡ says f
       → summary_after file old list ≡ (need (leb old (fixes_in f)) list λ _. need (leb (size_of (runs_of (fixes_in f))) (length list)) list λ _. updated old (track_of file f.layouts.b) list)
   unfolding flight_summed
   after_accepted list f e = rw e (by (leb old (fixes_in f)) (leb (size_of (runs_of (fixes_in f))) (length list)))
@@ -79,39 +73,39 @@ module _ (file : List ℕ) (old : ℕ) where
 -- ---- of a file
 
 module _ (file : List ℕ) (c : Course) (planned : CoursePlanned file (length file) c) (old : ℕ) (list : List ℤ) where
-  course : CourseTold (verdict track_seal file none) c
+  course : CourseTold (verdict track_seal file None) c
   course = subst (λ (s : Said Flight). CourseTold s c) (track_fits file) planned
 
   -- the file's own refusal
-  pub file_refused_lem : (w : Refusal) → c.answer ≡ tracked.Refused w → FileSummed file old list (summed.Refused w) list
-  unfolding tracked_told summed_told flight_summed
-  file_refused_lem w g = by (verdict track_seal file none) refl (rw g at course.told)
+  pub file_refused_lem : (w : Refusal) → c.answer ≡ Err w → FileSummed file old list (Err w) list
+  unfolding result_told flight_summed
+  file_refused_lem w g = by (verdict track_seal file None) refl (rw g at course.told)
     where
-      by : (s : Said Flight) → verdict track_seal file none ≡ s → ◌≡◌ {A = Said ℕ} (refusal w) (and_then s λ f. says (fixes_in f)) → FileSummed file old list (summed.Refused w) list
+      by : (s : Said Flight) → verdict track_seal file None ≡ s → ◌≡◌ {A = Said ℕ} (refusal w) (and_then s λ f. says (fixes_in f)) → FileSummed file old list (Err w) list
       by (says f) e h = absurd (refuses_says h)
       by (refuses n l b) e h = record { told = rw e h; numbers = rw e }
 
   -- an accepted file, with so many fixes, from there on
   record Counted (n : ℕ) : Type 0 where
     pub flight : Flight
-    pub accepted : verdict track_seal file none ≡ says flight
+    pub accepted : verdict track_seal file None ≡ says flight
     pub count : n ≡ fixes_in flight
     pub start : c.start ≡ start_by (fix_size flight) flight.layouts.b
 
-  counted : (n : ℕ) → c.answer ≡ tracked.Count n → Counted n
-  unfolding tracked_told
-  counted n g = by (verdict track_seal file none) refl (rw g at course.told) course
+  counted : (n : ℕ) → c.answer ≡ Ok n → Counted n
+  unfolding result_told
+  counted n g = by (verdict track_seal file None) refl (rw g at course.told) course
     where
-      by : (s : Said Flight) → verdict track_seal file none ≡ s → says n ≡ (and_then s λ f. says (fixes_in f)) → CourseTold s c → Counted n
+      by : (s : Said Flight) → verdict track_seal file None ≡ s → says n ≡ (and_then s λ f. says (fixes_in f)) → CourseTold s c → Counted n
       by (says f) e h t = record { flight = f; accepted = e; count = cc; start = t.start }
       by (refuses k l b) e h t = absurd (refuses_says (sym h))
 
-  pub count_small : (n : ℕ) → c.answer ≡ tracked.Count n → n ≤ 16777216
+  pub count_small : (n : ℕ) → c.answer ≡ Ok n → n ≤ 16777216
   count_small n g =
       let x = counted n g in
       omega (arith, x.count, few_fixes file x.flight x.accepted, file_short track_seal file x.flight x.accepted)
 
-  pub file_summed : (n : ℕ) (r : Summed) (after : List ℤ) → c.answer ≡ tracked.Count n → FixesSummed (step_of file) c.start n old list r after → FileSummed file old list r after
+  pub file_summed : (n : ℕ) (r : Result ℕ Refusal) (after : List ℤ) → c.answer ≡ Ok n → FixesSummed (step_of file) c.start n old list r after → FileSummed file old list r after
   unfolding count_after
   file_summed n r after g w = record {
     told = w.told ∙ few_told n old (length list) (count_small n g) ∙ ap (λ (k : ℕ). count_said k old (length list)) x.count ∙ sym (said_accepted file old (length list) f x.accepted);
@@ -155,25 +149,25 @@ runless : Said (Unit {0}) → Said ℕ
 runless (says u) = refuses 0 0 0
 runless (refuses n l b) = refuses n l b
 
-module _ (file : List ℕ) (k : Checked) (t : CheckedTold (verdict track_seal file none) k) (old : ℕ) (list : List ℤ) where
-  dated : (r : Summed) (after : List ℤ) → FileSummed file old list r after → FileDated file old list (record { answer = r; date = k.flight.date }) after
+module _ (file : List ℕ) (k : Checked) (t : CheckedTold (verdict track_seal file None) k) (old : ℕ) (list : List ℤ) where
+  dated : (r : Result ℕ Refusal) (after : List ℤ) → FileSummed file old list r after → FileDated file old list (record { answer = r; date = k.flight.date }) after
   dated r after w = record { summed = w; date = ap (λ (f : Flight). f.date) t.flight }
 
-  pub dated_refused : (w : Refusal) → k.outcome ≡ outcomes.Refused w → FileDated file old list (record { answer = summed.Refused w; date = k.flight.date }) list
-  unfolding outcome_told summed_told flight_summed runless
-  dated_refused w g = dated (summed.Refused w) list (by (verdict track_seal file none) refl (rw g at t.answer))
+  pub dated_refused : (w : Refusal) → k.outcome ≡ Err w → FileDated file old list (record { answer = Err w; date = k.flight.date }) list
+  unfolding result_told flight_summed runless
+  dated_refused w g = dated (Err w) list (by (verdict track_seal file None) refl (rw g at t.answer))
     where
-      by : (s : Said Flight) → verdict track_seal file none ≡ s → refusal w ≡ outcome s → FileSummed file old list (summed.Refused w) list
+      by : (s : Said Flight) → verdict track_seal file None ≡ s → refusal w ≡ outcome s → FileSummed file old list (Err w) list
       by (says f) e h = absurd (refuses_says h)
       by (refuses n l b) e h = record { told = rw e (ap runless h); numbers = rw e }
 
-  module _ (c : Course) (accepted : k.outcome ≡ outcomes.Accepted) (p : FlightPlanned k.flight (length file) c) where
+  module _ (c : Course) (accepted : k.outcome ≡ (Ok tt)) (p : FlightPlanned k.flight (length file) c) where
     planned : CoursePlanned file (length file) c
     planned = plan_accepted file (length file) k c t accepted p
 
-    pub dated_short : (w : Refusal) → c.answer ≡ tracked.Refused w → FileDated file old list (record { answer = summed.Refused w; date = k.flight.date }) list
-    dated_short w g = dated (summed.Refused w) list (file_refused_lem file c planned old list w g)
+    pub dated_short : (w : Refusal) → c.answer ≡ Err w → FileDated file old list (record { answer = Err w; date = k.flight.date }) list
+    dated_short w g = dated (Err w) list (file_refused_lem file c planned old list w g)
 
-    pub dated_summed : (n : ℕ) (r : Summed) (after : List ℤ) → c.answer ≡ tracked.Count n → FixesSummed (step_of file) c.start n old list r after
+    pub dated_summed : (n : ℕ) (r : Result ℕ Refusal) (after : List ℤ) → c.answer ≡ Ok n → FixesSummed (step_of file) c.start n old list r after
         → FileDated file old list (record { answer = r; date = k.flight.date }) after
     dated_summed n r after g w = dated r after (file_summed file c planned old list n r after g w)

@@ -1,4 +1,6 @@
 -- What the code tells of some fixes, one joined after the other, are the twelve numbers that the document asks for, where each of them fits a number of the list. Assumes nothing.
+use Rattle.std.specs.Prelude.{Option, Some, None}
+use Rattle.std.specs.Option.{is_some}
 use Prim.Native.Nat.{ℕ, zero, suc, ◌-◌, ◌≤◌, ◌<◌}
 use mathlib.Core.Bool.{Bool, true, false, cond}
 use mathlib.Core.List.{List, [], ◌∷◌, map}
@@ -13,7 +15,7 @@ use Rattle.rules.specs.declared.FinePosition.{FinePosition}
 use Rattle.track_rules.specs.Track.{zero_record}
 use Rattle.track_rules.specs.declared.Record.{Record}
 use Rattle.summary_span.specs.Extremes.{greatest, least}
-use Rattle.summary_span.specs.Sums.{figure_of, no_span, joined_span, no_sum, merged, joined}
+use Rattle.summary_span.specs.Sums.{figure_of, no_span, span_or_zero, joined_span, no_sum, merged, joined}
 use Rattle.summary_span.specs.declared.Figure.{Figure}
 use Rattle.summary_span.specs.declared.Moment.{Moment}
 use Rattle.summary_span.specs.declared.Span.{Span}
@@ -23,7 +25,7 @@ use Rattle.summary_slots.specs.Slots.{flag_of, numbers_of}
 use Rattle.summary_fix.specs.Spots.{taken_time, taken_position, signed_count, is_marked, signed_figure, height_figure, span_if, moment_of, alone_of}
 use Rattle.summary_fix.proofs.Laws.{time_taken, position_taken}
 use Rattle.summary_reckon.specs.Filled.{sum_over}
-use Rattle.summary_reckon.specs.Summary.{first, last, heights, marked, one_if_any, told}
+use Rattle.summary_reckon.specs.Summary.{last, heights, marked, one_if_any, told}
 
 -- a fix whose numbers an i32 has, with the decimals that a line can have
 pub record Fits (r : Record) : Type 0 where
@@ -66,15 +68,17 @@ record Parts (s : Sum) (rs : List Record) (t : Sum) : Type 0 where
   pub lons : t.lons ≡ spanned some lon s.lons rs
 
 -- behind a first fix
-parts : (rs : List Record) (s : Sum) → s.heights.any ≡ true → Parts s rs (sum_over s rs)
-unfolding joined merged alone_of span_if joined_span
-parts [] s e = record { first = refl; last = refl; heights = refl; lats = refl; lons = refl }
-parts (r ∷ rs) s e = by s.heights.any e refl (parts rs (merged s (alone_of r)) (any_more s.heights.any e refl))
-  where
-    any_more : (x : Bool) → x ≡ true → s.heights.any ≡ x → (merged s (alone_of r)).heights.any ≡ true
-    any_more x e g = rw (g, e)
+joined_some : (h : Option Span) (z : Span) → is_some (joined_span h (Some z)) ≡ true
+unfolding joined_span
+joined_some None z = refl
+joined_some (Some y) z = refl
 
-    by : (x : Bool) → x ≡ true → s.heights.any ≡ x → Parts (merged s (alone_of r)) rs (sum_over (merged s (alone_of r)) rs) → Parts s (r ∷ rs) (sum_over (joined s (alone_of r)) rs)
+parts : (rs : List Record) (s : Sum) → is_some s.heights ≡ true → Parts s rs (sum_over s rs)
+unfolding joined merged alone_of span_if
+parts [] s e = record { first = refl; last = refl; heights = refl; lats = refl; lons = refl }
+parts (r ∷ rs) s e = by (is_some s.heights) e refl (parts rs (merged s (alone_of r)) (joined_some s.heights (record { least = height r; greatest = height r })))
+  where
+    by : (x : Bool) → x ≡ true → is_some s.heights ≡ x → Parts (merged s (alone_of r)) rs (sum_over (merged s (alone_of r)) rs) → Parts s (r ∷ rs) (sum_over (joined s (alone_of r)) rs)
     by x e g p =
         let n : joined s (alone_of r) ≡ merged s (alone_of r) = ap (λ (b : Bool). cond b (merged s (alone_of r)) (alone_of r)) (g ∙ e) in
         subst (λ (t : Sum). Parts s (r ∷ rs) (sum_over t rs)) (sym n) (record { first = p.first; last = p.last; heights = p.heights; lats = p.lats; lons = p.lons })
@@ -174,20 +178,20 @@ told_is (r ∷ rs) h n =
     (ap (λ (m : Moment). m.seconds.value) p.first ∙ seconds_fit r f)
     (ap (λ (m : Moment). m.day.value) l ∙ figure_fits (last (r ∷ rs)).day z.day)
     (ap (λ (m : Moment). m.seconds.value) l ∙ seconds_fit (last (r ∷ rs)) z)
-    (ap (λ (s : Span). s.greatest.value) hs ∙ heights_of.greatest ∙ ap greatest (heights_are (r ∷ rs)))
-    (ap (λ (s : Span). s.least.value) hs ∙ heights_of.least ∙ ap least (heights_are (r ∷ rs)))
-    (ap (λ (s : Span). (flag_of s.any).value) ys ∙ ap (λ (b : Bool). (flag_of b).value) lats_of.any ∙ flag_is (r ∷ rs))
-    (ap (λ (s : Span). s.least.value) ys ∙ lats_of.least ∙ ap least ys_are)
-    (ap (λ (s : Span). s.greatest.value) ys ∙ lats_of.greatest ∙ ap greatest ys_are)
-    (ap (λ (s : Span). s.least.value) xs ∙ lons_of.least ∙ ap least xs_are)
-    (ap (λ (s : Span). s.greatest.value) xs ∙ lons_of.greatest ∙ ap greatest xs_are)
+    (ap (λ (s : Option Span). (span_or_zero s).greatest.value) hs ∙ heights_of.greatest ∙ ap greatest (heights_are (r ∷ rs)))
+    (ap (λ (s : Option Span). (span_or_zero s).least.value) hs ∙ heights_of.least ∙ ap least (heights_are (r ∷ rs)))
+    (ap (λ (s : Option Span). (flag_of (is_some s)).value) ys ∙ ap (λ (b : Bool). (flag_of b).value) lats_of.any ∙ flag_is (r ∷ rs))
+    (ap (λ (s : Option Span). (span_or_zero s).least.value) ys ∙ lats_of.least ∙ ap least ys_are)
+    (ap (λ (s : Option Span). (span_or_zero s).greatest.value) ys ∙ lats_of.greatest ∙ ap greatest ys_are)
+    (ap (λ (s : Option Span). (span_or_zero s).least.value) xs ∙ lons_of.least ∙ ap least xs_are)
+    (ap (λ (s : Option Span). (span_or_zero s).greatest.value) xs ∙ lons_of.greatest ∙ ap greatest xs_are)
   where
     heights_start : (r : Record) (rs : List Record) → spanned all height (alone_of r).heights rs ≡ spanned all height no_span (r ∷ rs)
     heights_start r rs = refl
 
     lats_start : (v : Record → Figure) (r : Record) (rs : List Record) → spanned some v (span_if (some r) (v r)) rs ≡ spanned some v no_span (r ∷ rs)
-    lats_start v r rs = ap (λ (s : Span). spanned some v s rs) (by (some r))
+    lats_start v r rs = ap (λ (s : Option Span). spanned some v s rs) (by (some r))
       where
-        by : (b : Bool) → span_if b (v r) ≡ joined_span no_span (cond b (record { any = true; least = v r; greatest = v r }) no_span)
+        by : (b : Bool) → span_if b (v r) ≡ joined_span no_span (cond b (Some (record { least = v r; greatest = v r })) no_span)
         by true = refl
         by false = refl

@@ -4,14 +4,12 @@
 
 ghost use Rattle.summary.specs.Summaries.{FileSummed, FileDated};
 
-use rules::{Date, Outcome, Seal};
-use summary_reckon::Summed;
-use track_course::Tracked;
+use rules::{Date, Refusal, Seal};
 
 // The answer of a summary, and the file's date: day, month and year 0 where the check refuses the file.
 #[derive(Clone, Copy)]
 pub struct Dated {
-    pub answer: Summed,
+    pub answer: Result<usize, Refusal>,
     pub date: Date,
 }
 
@@ -24,21 +22,20 @@ pub fn with_date(file: &[u8], old: u32, list: &mut [i32]) -> Dated
     let outcome = checked.outcome;
     let flight = checked.flight;
     let date = flight.date;
-    if let Outcome::Refused(why) = outcome {
+    if let Err(why) = outcome {
         return Dated {
-            answer: Summed::Refused(why),
+            answer: Err(why),
             date,
         };
     }
     let course = track_course::for_flight(flight, file.len());
-    let answer = course.answer;
     let start = course.start;
-    match answer {
-        Tracked::Refused(why) => Dated {
-            answer: Summed::Refused(why),
+    match course.answer {
+        Err(why) => Dated {
+            answer: Err(why),
             date,
         },
-        Tracked::Count(count) => Dated {
+        Ok(count) => Dated {
             answer: summary_reckon::of_fixes(file, start, count, old as usize, list),
             date,
         },
@@ -49,9 +46,8 @@ pub fn with_date(file: &[u8], old: u32, list: &mut [i32]) -> Dated
 // then twelve for each run of 256 fixes. Run old / 256 and those after it are put, and the whole; earlier runs and all numbers past the last run stay. Answers the number of runs.
 // Refuses with the usual check's refusal (no table is lent, so 15 is not met), then with 17 where the file has fewer fixes than `old`, then with 18 where the list is too short. The list
 // is then unchanged.
-pub fn summary(file: &[u8], old: u32, list: &mut [i32]) -> Summed
+pub fn summary(file: &[u8], old: u32, list: &mut [i32]) -> Result<usize, Refusal>
     ensures { FileSummed file.now old list.old result list.new }
 {
-    let made = with_date(file, old, list);
-    made.answer
+    with_date(file, old, list).answer
 }

@@ -1,13 +1,15 @@
 -- Plain counts by few decimals; the three ways out of a signed count: below zero, not below it, and too great a count; and what is told of one fix, put together. Assumes nothing.
+use Rattle.std.specs.Prelude.{Option}
+use Rattle.std.specs.Bool.{then_some}
 use Prim.Native.Char.{code}
 use Prim.Native.Nat.{ℕ, ◌/◌, ◌≤◌, ◌<◌}
 use mathlib.Core.Bool.{Bool, true, false}
-use mathlib.Core.Path.{◌≡◌, sym, ap, ◌∙◌}
+use mathlib.Core.Path.{◌≡◌, refl, sym, ap, ◌∙◌}
 use borrow.Author.Tests.{le-leb, lt-leb}
 use lib.IntN.{pos, neg_ℤ}
 use Rattle.rules.specs.Fields.{is_either}
 use Rattle.rules.specs.Fixes.{plain, plain_position}
-use Rattle.summary_span.specs.Sums.{no_figure, figure_of}
+use Rattle.summary_span.specs.Sums.{figure_of}
 use Rattle.rules.specs.declared.FinePosition.{FinePosition}
 use Rattle.rules.specs.declared.FineTime.{FineTime}
 use Rattle.rules.specs.declared.Position.{Position}
@@ -50,13 +52,18 @@ module _ (p : Position) where
     unfolding signed_figure signed_count figure_of
     signed_above r g f = f ∙ rw (le-leb p.count 2147483647 h, ← e, g)
 
-  pub signed_none : 2147483647 < p.count → no_figure ≡ signed_figure p
-  unfolding signed_figure
-  signed_none h = rw (lt-leb p.count 2147483647 h)
+  pub signed_none : (r : Figure) → 2147483647 < p.count → r ≡ figure_of p.count → r ≡ signed_figure p
+  unfolding signed_figure figure_of
+  signed_none r h f = f ∙ rw (lt-leb p.count 2147483647 h)
+
+pub span_told : (b : Bool) (z : Figure) → then_some b (record { least = z; greatest = z }) ≡ span_if b z
+unfolding span_if
+span_told true z = refl
+span_told false z = refl
 
 -- ---- what is told of one fix, from its parts
 
-pub alone_is : (r : Record) (day seconds h a b : Figure) (t : ℕ) (heights lats lons : Span) (lat lon : Position) → day ≡ figure_of r.day → t ≡ taken_time r.fix.time → seconds ≡ figure_of t
+pub alone_is : (r : Record) (day seconds h a b : Figure) (t : ℕ) (heights lats lons : Option Span) (lat lon : Position) → day ≡ figure_of r.day → t ≡ taken_time r.fix.time → seconds ≡ figure_of t
     → h ≡ height_figure r.fix.pressure → heights ≡ span_if true h → lat ≡ taken_position r.fix.lat → a ≡ signed_figure lat → lats ≡ span_if (is_marked r.fix) a → lon ≡ taken_position r.fix.lon
     → b ≡ signed_figure lon → lons ≡ span_if (is_marked r.fix) b
     → ◌≡◌ {A = Sum} (record { first = record { day = day; seconds = seconds }; last = record { day = day; seconds = seconds }; heights = heights; lats = lats; lons = lons }) (alone_of r)

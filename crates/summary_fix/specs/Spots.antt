@@ -1,6 +1,6 @@
 -- Document 02, 'A summary beside each flight': what one fix has to tell, as plain counts, and as values of the code.
 use Prim.Native.Char.{code}
-use Rattle.std.specs.Prelude.{ℕ, Bool, true, cond, ◌≡◌, eqb, leb, ℤ, pos, neg_ℤ}
+use Rattle.std.specs.Prelude.{ℕ, Bool, true, cond, Option, Some, ◌≡◌, eqb, leb, ℤ, pos, neg_ℤ}
 use Rattle.rules.specs.Fields.{is_either}
 use Rattle.rules.specs.Fixes.{plain}
 use Rattle.rules.specs.declared.FinePosition.{FinePosition}
@@ -43,8 +43,8 @@ abbrev pub height_figure : Height → Figure
 height_figure h = record { value = h.metres }
 
 -- of one number, or of none
-unfoldable pub span_if : Bool → Figure → Span
-span_if any z = cond any (record { any = true; least = z; greatest = z }) no_span
+unfoldable pub span_if : Bool → Figure → Option Span
+span_if any z = cond any (Some (record { least = z; greatest = z })) no_span
 
 abbrev pub moment_of : Record → Moment
 moment_of r = record { day = figure_of r.day; seconds = figure_of (taken_time r.fix.time) }

@@ -38,13 +38,11 @@ fn signed(p: Position) -> Figure
     ensures { result ≡ signed_figure p }
 {
     let n = p.count;
-    if n <= 2147483647 {
-        if byte_chars::is_either(p.letter, b'S', b'W') {
-            return negative(n);
-        }
-        return summary_span::figure_of(n);
+    if n <= 2147483647 && byte_chars::is_either(p.letter, b'S', b'W') {
+        negative(n)
+    } else {
+        summary_span::figure_of(n)
     }
-    Figure { value: 0 }
 }
 
 // An altitude.
@@ -55,22 +53,13 @@ fn height_of(h: Height) -> Figure
 }
 
 // The span of one number, or of none.
-fn span_if(any: bool, z: Figure) -> Span
+fn span_if(any: bool, z: Figure) -> Option<Span>
     ensures { result ≡ span_if any z }
 {
-    if any {
-        return Span {
-            any: true,
-            least: z,
-            greatest: z,
-        };
-    }
-    let zero = Figure { value: 0 };
-    Span {
-        any: false,
-        least: zero,
-        greatest: zero,
-    }
+    any.then_some(Span {
+        least: z,
+        greatest: z,
+    })
 }
 
 // What is told of one fix: its day and its plain seconds as the first and the last moment, its pressure altitude, and its position where it is marked A.

@@ -1,14 +1,16 @@
 -- The turns of the two loops, over the fixes of a run and over the runs: what is left to be told from here gives the whole answer. Assumes nothing.
-use Prim.Native.Nat.{ℕ, suc, ◌+◌, ◌*◌, ◌-◌, ◌≤◌, ◌<◌}
+use Rattle.std.specs.Int.{div_ceil}
+use Prim.Native.Nat.{ℕ, min, suc, ◌+◌, ◌*◌, ◌-◌, ◌≤◌, ◌<◌}
 use mathlib.Core.Bool.{Bool, true, false, cond}
 use mathlib.Core.List.{List}
 use mathlib.Core.Path.{◌≡◌, refl, ap, ◌∙◌}
 use native.Mathlib.Omega.{arith}
-use borrow.Author.Tests.{lt-ltb, le-ltb}
+use borrow.Author.Tests.{lt-ltb, le-ltb, ltb-true, ltb-false}
 use lib.Dec.{leb, ltb}
 use lib.IntN.{ℤ}
 use lib.ListN.{length}
 use lib.Seq.{sets, length-sets}
+use Rattle.rules.proofs.Inverse.{by_bool}
 use Rattle.track_rules.specs.declared.FixStep.{FixStep}
 use Rattle.track_rules.specs.declared.Progress.{Progress}
 use Rattle.summary_span.specs.Sums.{no_sum, joined}
@@ -19,6 +21,14 @@ use Rattle.track_rules.specs.Stored.{fixes_from}
 use Rattle.summary_reckon.specs.Filled.{sum_over, next_run, put_from, stepped, leg_of, turned_leg, turned_list, whole_from, list_from, filled}
 use Rattle.summary_reckon.specs.Summary.{runs_of}
 use Rattle.summary_reckon.specs.declared.Leg.{Leg}
+
+-- as many runs as hold all fixes
+pub runs_up : (n : ℕ) → div_ceil n 256 ≡ runs_of n
+runs_up n = omega arith
+
+pub next_up : (left : ℕ) → min left 256 ≡ next_run left
+unfolding next_run
+next_up left = by_bool (ltb 256 left) (λ e. let h = ltb-true 256 left e in rw e (omega arith)) (λ e. let h = ltb-false 256 left e in rw e (omega arith))
 
 -- ---- the list keeps its length
 

@@ -1,19 +1,15 @@
 -- The answer of a summary in the paper's terms, and what is said and left by the number of fixes.
-use Rattle.std.specs.Prelude.{ℕ, ◌/◌, List, ◌≡◌, leb, ℤ, length}
+use Rattle.rules.specs.declared.Refusal.{Refusal}
+use Rattle.std.specs.Prelude.{ℕ, ◌/◌, List, ◌≡◌, leb, ℤ, length, Result}
 use Rattle.rules.specs.Choice.{need}
-use Rattle.rules.specs.Refusals.{Said, says, no, refusal}
+use Rattle.rules.specs.Refusals.{Said, says, no, refusal, result_told}
 use Rattle.rules.specs.declared.Reason.TheVariants.{BadValue, NoRoom}
 use Rattle.track_rules.specs.declared.FixStep.{FixStep}
 use Rattle.track_rules.specs.declared.Progress.{Progress}
 use Rattle.summary_reckon.specs.Summary.{runs_of, size_of}
 use Rattle.summary_reckon.specs.Filled.{filled}
-use Rattle.summary_reckon.specs.declared.Summed.{Summed}
-use Rattle.summary_reckon.specs.declared.Summed.TheVariants as summed
 
 -- the answer, in the paper's terms
-unfoldable pub summed_told : Summed → Said ℕ
-summed_told (summed.Runs n) = says n
-summed_told (summed.Refused r) = refusal r
 
 -- by the number of fixes that a file has: what is said, and the list afterwards
 unfoldable pub count_said : ℕ → ℕ → ℕ → Said ℕ
@@ -36,6 +32,6 @@ unfoldable pub few_after : (Progress → FixStep) → Progress → ℕ → ℕ �
 few_after step start count old list = need (leb count 16777216) list λ _. count_after step start count old list
 
 -- the answer by the number of fixes, and the list afterwards: run by run, as the code makes it. Where every fix fits, as those of a file do, that is the rule's list, Summary.updated (summary: filled-is)
-pub record FixesSummed (step : Progress → FixStep) (start : Progress) (count old : ℕ) (list : List ℤ) (r : Summed) (after : List ℤ) : Type 0 where
-  pub told : summed_told r ≡ few_said count old (length list)
+pub record FixesSummed (step : Progress → FixStep) (start : Progress) (count old : ℕ) (list : List ℤ) (r : Result ℕ Refusal) (after : List ℤ) : Type 0 where
+  pub told : result_told r ≡ few_said count old (length list)
   pub numbers : after ≡ few_after step start count old list

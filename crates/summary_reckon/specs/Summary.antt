@@ -1,6 +1,5 @@
 -- Document 02, 'A summary beside each flight': the twelve numbers of some fixes, and the list of numbers that is kept beside a flight.
-use Rattle.std.specs.Prelude.{ℕ, zero, suc, ◌+◌, ◌*◌, ◌-◌, ◌/◌, cond, List, [], ◌∷◌, ◌++◌, map, leb, ℤ, pos, length, get_or, take, drop}
-use Rattle.std.proofs.Math.Option.{none}
+use Rattle.std.specs.Prelude.{ℕ, zero, suc, ◌+◌, ◌*◌, ◌-◌, ◌/◌, cond, List, [], ◌∷◌, ◌++◌, map, leb, ℤ, pos, length, get_or, take, drop, None}
 use Rattle.rules.specs.Choice.{need, part}
 use Rattle.rules.specs.Families.{count_of}
 use Rattle.rules.specs.Files.{verdict}
@@ -91,7 +90,7 @@ fixes_in f = count_of family.B f.counts
 -- here or in CR 6, 10 and 12"
 unfoldable pub flight_summed : List ℕ → ℕ → ℕ → Said Flight
 flight_summed file old room =
-    and_then (verdict track_seal file none) λ f.
+    and_then (verdict track_seal file None) λ f.
     need (leb old (fixes_in f)) (no BadValue 0) λ _.
     need (leb (size_of (runs_of (fixes_in f))) room) (no NoRoom 0) λ _.
     says f

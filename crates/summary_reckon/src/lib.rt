@@ -10,13 +10,6 @@ use rules::{Reason, Refusal};
 use summary_span::Sum;
 use track_rules::Progress;
 
-// How many runs a file's summary has; or the refusal.
-#[derive(Clone, Copy)]
-pub enum Summed {
-    Runs(usize),
-    Refused(Refusal),
-}
-
 // What is told of some fixes, and where the reading of the next ones starts.
 #[derive(Clone, Copy)]
 pub struct Leg {
@@ -30,12 +23,10 @@ fn one_run(file: &[u8], from: Progress, n: usize) -> Leg
 {
     let mut sum = summary_span::none();
     let mut next = from;
-    let mut i = 0;
-    while i < n {
+    for i in 0..n {
         let s = track_step::step(file, next);
         sum = summary_span::join(sum, summary_fix::alone(s.found));
         next = s.next;
-        i += 1;
     }
     Leg { sum, next }
 }
@@ -44,10 +35,7 @@ fn one_run(file: &[u8], from: Progress, n: usize) -> Leg
 fn next_run(left: usize) -> usize
     ensures { result ≡ next_run left }
 {
-    if 256 < left {
-        return 256;
-    }
-    left
+    left.min(256)
 }
 
 // The numbers of run k put at their place, but for a run before `keep`.
@@ -55,10 +43,9 @@ fn put_from(list: &mut [i32], keep: usize, k: usize, n: usize, sum: Sum)
     requires { k ≤ 16777216 }
     ensures { list.new ≡ put_from keep k n sum list.old }
 {
-    if k < keep {
-        return;
+    if keep <= k {
+        summary_slots::put_sum(list, 12 + 12 * k, n, sum);
     }
-    summary_slots::put_sum(list, 12 + 12 * k, n, sum);
 }
 
 // Run k read, put and joined to what is told of all before it.
@@ -69,10 +56,9 @@ fn turn(file: &[u8], whole: Leg, left: usize, keep: usize, k: usize, list: &mut 
     let n = next_run(left);
     let run = one_run(file, whole.next, n);
     put_from(list, keep, k, n, run.sum);
-    let next = run.next;
     Leg {
         sum: summary_span::join(whole.sum, run.sum),
-        next,
+        next: run.next,
     }
 }
 
@@ -81,34 +67,34 @@ fn fill(file: &[u8], start: Progress, count: usize, keep: usize, list: &mut [i32
     requires { count ≤ 16777216 }
     ensures { list.new ≡ filled (step_of file.now) start count keep list.old }
 {
-    let runs = (count + 255) / 256;
     let mut whole = Leg {
         sum: summary_span::none(),
         next: start,
     };
-    let mut k = 0;
-    while k < runs {
+    for k in 0..count.div_ceil(256) {
         whole = turn(file, whole, count - 256 * k, keep, k, list);
-        k += 1;
     }
     summary_slots::put_sum(list, 0, count, whole.sum);
 }
 
 // The summary of a file with so many fixes, read from `start` on. 17 where they are over 16,777,216, which no file has, or the old number is over them, then 18 where the list has fewer
 // numbers than the summary; the list is then unchanged.
-pub fn of_fixes(file: &[u8], start: Progress, count: usize, old: usize, list: &mut [i32]) -> Summed
+pub fn of_fixes(
+    file: &[u8],
+    start: Progress,
+    count: usize,
+    old: usize,
+    list: &mut [i32],
+) -> Result<usize, Refusal>
     ensures { FixesSummed (step_of file.now) start count old list.old result list.new }
 {
-    if 16777216 < count {
-        return Summed::Refused(file_lines::unplaced(Reason::BadValue));
+    if 16777216 < count || count < old {
+        return Err(file_lines::unplaced(Reason::BadValue));
     }
-    if count < old {
-        return Summed::Refused(file_lines::unplaced(Reason::BadValue));
-    }
-    let n = (count + 255) / 256;
+    let n = count.div_ceil(256);
     if list.len() < 12 * (1 + n) {
-        return Summed::Refused(file_lines::unplaced(Reason::NoRoom));
+        return Err(file_lines::unplaced(Reason::NoRoom));
     }
     fill(file, start, count, old / 256, list);
-    Summed::Runs(n)
+    Ok(n)
 }

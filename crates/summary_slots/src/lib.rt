@@ -3,18 +3,31 @@
 
 ghost use Rattle.std.specs.Prelude.{◌+◌, ◌≤◌, ◌∷◌, [], ◌≡◌, length};
 ghost use Rattle.std.proofs.lemmas.List.Edits.{sets};
+ghost use Rattle.summary_span.specs.Sums.{span_or_zero};
 ghost use Rattle.summary_slots.specs.Slots.{flag_of, numbers_of, SumPut};
 
-use summary_span::{Figure, Sum};
+use summary_span::{Figure, Span, Sum};
 
 // 1 or 0.
 fn flag(t: bool) -> Figure
     ensures { result ≡ flag_of t }
 {
     if t {
-        return Figure { value: 1 };
+        Figure { value: 1 }
+    } else {
+        Figure { value: 0 }
     }
-    Figure { value: 0 }
+}
+
+// The numbers of a span; 0 where there is none.
+fn known(span: Option<Span>) -> Span
+    ensures { result ≡ span_or_zero span }
+{
+    let zero = Figure { value: 0 };
+    span.unwrap_or(Span {
+        least: zero,
+        greatest: zero,
+    })
 }
 
 // Four numbers from a place on.
@@ -47,17 +60,17 @@ fn put_twelve(list: &mut [i32], at: usize, n: usize, s: Sum)
         first.seconds,
         last.day,
     );
-    let heights = s.heights;
-    let lats = s.lats;
+    let heights = known(s.heights);
     put_four(
         list,
         at + 4,
         last.seconds,
         heights.greatest,
         heights.least,
-        flag(lats.any),
+        flag(s.lats.is_some()),
     );
-    let lons = s.lons;
+    let lats = known(s.lats);
+    let lons = known(s.lons);
     put_four(
         list,
         at + 4 + 4,
@@ -73,11 +86,7 @@ fn put_twelve(list: &mut [i32], at: usize, n: usize, s: Sum)
 pub fn put_sum(list: &mut [i32], at: usize, n: usize, s: Sum)
     ensures { SumPut at n s list.old list.new }
 {
-    if list.len() < 12 {
-        return;
+    if 12 <= list.len() && at <= list.len() - 12 {
+        put_twelve(list, at, n, s);
     }
-    if list.len() - 12 < at {
-        return;
-    }
-    put_twelve(list, at, n, s);
 }

@@ -1,5 +1,6 @@
 -- What is told of some fixes as values of the code, that of two parts of a flight joined, and the promises of this crate.
-use Rattle.std.specs.Prelude.{ℕ, true, false, cond, ◌≡◌, leb, pos}
+use Rattle.std.specs.Prelude.{ℕ, cond, ◌≡◌, leb, pos, Option, Some, None}
+use Rattle.std.specs.Option.{is_some, unwrap_or}
 use Rattle.summary_span.specs.Extremes.{outer, above, below}
 use Rattle.summary_span.specs.declared.Figure.{Figure}
 use Rattle.summary_span.specs.declared.Moment.{Moment}
@@ -19,13 +20,18 @@ higher_of a b = record { value = outer above a.value b.value }
 unfoldable pub lower_of : Figure → Figure → Figure
 lower_of a b = record { value = outer below a.value b.value }
 
-abbrev pub no_span : Span
-no_span = record { any = false; least = no_figure; greatest = no_figure }
+abbrev pub no_span : Option Span
+no_span = None
+
+-- "a number with nothing to tell is 0"
+abbrev pub span_or_zero : Option Span → Span
+span_or_zero s = unwrap_or s (record { least = no_figure; greatest = no_figure })
 
 -- the least and the greatest of the numbers of both
-unfoldable pub joined_span : Span → Span → Span
-joined_span a b =
-    cond b.any (cond a.any (record { any = true; least = lower_of a.least b.least; greatest = higher_of a.greatest b.greatest }) b) a
+unfoldable pub joined_span : Option Span → Option Span → Option Span
+joined_span None b = b
+joined_span (Some a) None = Some a
+joined_span (Some a) (Some b) = Some (record { least = lower_of a.least b.least; greatest = higher_of a.greatest b.greatest })
 
 abbrev pub no_moment : Moment
 no_moment = record { day = no_figure; seconds = no_figure }
@@ -45,7 +51,7 @@ merged a b = record {
 
 -- of any two
 unfoldable pub joined : Sum → Sum → Sum
-joined a b = cond b.heights.any (cond a.heights.any (merged a b) b) a
+joined a b = cond (is_some b.heights) (cond (is_some a.heights) (merged a b) b) a
 
 -- ---- promises
 

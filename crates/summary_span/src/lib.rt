@@ -5,34 +5,33 @@ ghost use Rattle.std.specs.Prelude.{◌≡◌};
 ghost use Rattle.summary_span.specs.Sums.{higher_of, lower_of, joined_span, merged, FigureGiven, NothingTold, SumsJoined};
 
 // A number of a summary.
-#[derive(Clone, Copy)]
+#[derive(Clone, Copy, Debug, PartialEq, Eq)]
 pub struct Figure {
     pub value: i32,
 }
 
-// The least and the greatest of some numbers; both 0 where there is none.
-#[derive(Clone, Copy)]
+// The least and the greatest of some numbers.
+#[derive(Clone, Copy, Debug, PartialEq, Eq)]
 pub struct Span {
-    pub any: bool,
     pub least: Figure,
     pub greatest: Figure,
 }
 
 // A day, counted from 0, and its seconds.
-#[derive(Clone, Copy)]
+#[derive(Clone, Copy, Debug, PartialEq, Eq)]
 pub struct Moment {
     pub day: Figure,
     pub seconds: Figure,
 }
 
-// What is told of some fixes. Heights are of all of them, latitudes and longitudes of those that are marked A; where no height is told, there is no fix, and all is 0.
-#[derive(Clone, Copy)]
+// What is told of some fixes. Heights are of all of them, latitudes and longitudes of those that are marked A; where no height is told, there is no fix, and the moments are 0.
+#[derive(Clone, Copy, Debug, PartialEq, Eq)]
 pub struct Sum {
     pub first: Moment,
     pub last: Moment,
-    pub heights: Span,
-    pub lats: Span,
-    pub lons: Span,
+    pub heights: Option<Span>,
+    pub lats: Option<Span>,
+    pub lons: Option<Span>,
 }
 
 // A number from 0 to 2,147,483,647 as a figure; 0 for a greater one, which no file has.
@@ -40,46 +39,40 @@ pub fn figure_of(n: u64) -> Figure
     ensures { FigureGiven n result }
 {
     if n <= 2147483647 {
-        return Figure { value: n as i32 };
+        Figure { value: n as i32 }
+    } else {
+        Figure { value: 0 }
     }
-    Figure { value: 0 }
 }
 
 // The higher of two, the first where they are the same.
 fn higher(a: Figure, b: Figure) -> Figure
     ensures { result ≡ higher_of a b }
 {
-    if a.value < b.value {
-        return b;
-    }
-    a
+    if a.value < b.value { b } else { a }
 }
 
 // The lower of two, the first where they are the same.
 fn lower(a: Figure, b: Figure) -> Figure
     ensures { result ≡ lower_of a b }
 {
-    if b.value < a.value {
-        return b;
-    }
-    a
+    if b.value < a.value { b } else { a }
 }
 
-// The least and the greatest of the numbers of both.
-fn join_span(a: Span, b: Span) -> Span
+// The least and the greatest of the numbers of both, where there are any.
+fn join_span(a: Option<Span>, b: Option<Span>) -> Option<Span>
     ensures { result ≡ joined_span a b }
 {
-    if b.any {
-        if a.any {
-            return Span {
-                any: true,
-                least: lower(a.least, b.least),
-                greatest: higher(a.greatest, b.greatest),
-            };
-        }
+    let Some(x) = a else {
         return b;
-    }
-    a
+    };
+    let Some(y) = b else {
+        return a;
+    };
+    Some(Span {
+        least: lower(x.least, y.least),
+        greatest: higher(x.greatest, y.greatest),
+    })
 }
 
 // What is told of the fixes of both, which both have some.
@@ -101,8 +94,8 @@ fn merge(a: Sum, b: Sum) -> Sum
 pub fn join(a: Sum, b: Sum) -> Sum
     ensures { SumsJoined a b result }
 {
-    if b.heights.any {
-        if a.heights.any {
+    if b.heights.is_some() {
+        if a.heights.is_some() {
             return merge(a, b);
         }
         return b;
@@ -110,7 +103,7 @@ pub fn join(a: Sum, b: Sum) -> Sum
     a
 }
 
-// What is told of no fix: all 0.
+// What is told of no fix: nothing, and both moments are 0.
 pub fn none() -> Sum
     ensures { NothingTold result }
 {
@@ -119,21 +112,11 @@ pub fn none() -> Sum
         day: zero,
         seconds: zero,
     };
-    let heights = Span {
-        any: false,
-        least: zero,
-        greatest: zero,
-    };
-    let positions = Span {
-        any: false,
-        least: zero,
-        greatest: zero,
-    };
     Sum {
         first: when,
         last: when,
-        heights,
-        lats: positions,
-        lons: positions,
+        heights: None,
+        lats: None,
+        lons: None,
     }
 }

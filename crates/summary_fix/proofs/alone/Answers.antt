@@ -1,5 +1,4 @@
 -- `summary_fix::alone` meets its contract. Assumes nothing.
-use borrow.Author.Rules.{rules}
 use Rattle.summary_fix.proofs.Laws.{alone_is}
 use Rattle.summary_fix.proofs.alone.Goals as goal
 

@@ -1,6 +1,5 @@
 -- `summary_fix::negative` meets its contract. Assumes nothing.
 use native.Mathlib.Omega.{arith}
-use borrow.Author.Rules.{rules}
 use mir.Syntax.{w32}
 use Rattle.byte_number.proofs.Signs.{neg_stays, neg_back}
 use Rattle.summary_fix.proofs.negative.Goals as goal

@@ -1,11 +1,7 @@
 -- `summary_fix::span_if` meets its contract. Assumes nothing.
-use Rattle.summary_fix.specs.Spots.{span_if}
+use mathlib.Core.Path.{◌∙◌}
+use Rattle.summary_fix.proofs.Laws.{span_told}
 use Rattle.summary_fix.proofs.span_if.Goals as goal
 
-pub returns-then-any : goal.returns-then-any
-unfolding span_if
-returns-then-any c = rw c.if-any.true
-
 pub returns : goal.returns
-unfolding span_if
-returns c = rw c.if-any.false
+returns c = c.then_some.ensures ∙ span_told _ _

@@ -1,10 +1,7 @@
 -- `summary_reckon::fill` meets its contract: what is left to be put and joined from here gives the whole list. Assumes nothing.
-use Prim.Native.Nat.{◌-◌}
-use mathlib.Core.Path.{◌∙◌}
 use native.Mathlib.Omega.{arith}
-use borrow.Author.Rules.{rules}
 use Rattle.track_step.specs.Steps.{step_of}
-use Rattle.summary_reckon.proofs.Turning.{put_length, Fills, fills_first, fills_next, fills_last}
+use Rattle.summary_reckon.proofs.Turning.{runs_up, fills_first, fills_next, fills_last}
 use Rattle.summary_reckon.proofs.fill.Goals as goal
 
 pub loop-k-init : goal.loop-k-init
@@ -17,13 +14,10 @@ loop-k-preserved c =
     let l = c.loop-k in
     let a = c.args in
     let t = c.turn-whole.ensures in
-    fills_next (step_of a.file.now) a.start a.count a.keep a.list.now l.list l.whole l.k l.invariant (omega arith) _ _ t.0 t.1
-
-pub shape_of-list : goal.shape_of-list
-shape_of-list c = put_length _ _ _ _ c.put_sum.ensures ∙ c.loop-k.invariant.long
+    fills_next (step_of a.file.now) a.start a.count a.keep a.list.now l.list l.whole l.k l.invariant (omega (arith, c.div_ceil-k-end.ensures, runs_up a.count)) _ _ t.0 t.1
 
 pub returns : goal.returns
 returns c =
     let l = c.loop-k in
     let a = c.args in
-    fills_last (step_of a.file.now) a.start a.count a.keep a.list.now l.list l.whole l.k l.invariant (omega arith) _ c.put_sum.ensures
+    fills_last (step_of a.file.now) a.start a.count a.keep a.list.now l.list l.whole l.k l.invariant (omega (arith, c.div_ceil-k-end.ensures, runs_up a.count)) _ c.put_sum.ensures

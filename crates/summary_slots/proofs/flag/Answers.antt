@@ -6,6 +6,6 @@ pub returns-then-t : goal.returns-then-t
 unfolding flag_of
 returns-then-t c = rw c.if-t.true
 
-pub returns : goal.returns
+pub returns-else-t : goal.returns-else-t
 unfolding flag_of
-returns c = rw c.if-t.false
+returns-else-t c = rw c.if-t.false

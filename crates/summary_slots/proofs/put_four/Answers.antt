@@ -4,44 +4,16 @@ use mir.Facts.{to_z-of_z}
 use Rattle.summary_slots.proofs.Laws.{four_set}
 use native.Mathlib.Omega.{arith}
 use lib.ListN.{length-set}
-use borrow.Author.Rules.{rules}
 use Rattle.summary_slots.proofs.put_four.Goals as goal
-
-pub offset_bounds-list-at : goal.offset_bounds-list-at
-offset_bounds-list-at c = search rules
-
-pub bounds-list-at : goal.bounds-list-at
-bounds-list-at c = search rules
-
-pub overflow_add-w : goal.overflow_add-w
-overflow_add-w c = search rules
-
-pub offset_bounds-list-at-2 : goal.offset_bounds-list-at-2
-offset_bounds-list-at-2 c = search rules
 
 pub bounds-list-at-2 : goal.bounds-list-at-2
 bounds-list-at-2 c = simp length-set (omega arith)
 
-pub overflow_add-x : goal.overflow_add-x
-overflow_add-x c = search rules
-
-pub offset_bounds-list-at-3 : goal.offset_bounds-list-at-3
-offset_bounds-list-at-3 c = search rules
-
 pub bounds-list-at-3 : goal.bounds-list-at-3
 bounds-list-at-3 c = simp length-set (omega arith)
 
-pub overflow_add-y : goal.overflow_add-y
-overflow_add-y c = search rules
-
-pub offset_bounds-list-at-4 : goal.offset_bounds-list-at-4
-offset_bounds-list-at-4 c = search rules
-
 pub bounds-list-at-4 : goal.bounds-list-at-4
 bounds-list-at-4 c = simp length-set (omega arith)
-
-pub shape_of-list : goal.shape_of-list
-shape_of-list c = search rules
 
 pub returns : goal.returns
 returns c =

@@ -1,13 +1,12 @@
 -- `summary_slots::put_sum` meets its contract. Assumes nothing.
-use borrow.Author.Rules.{rules}
-use Rattle.summary_slots.proofs.Laws.{put_short, put_late, put_there}
+use native.Mathlib.Omega.{arith}
+use Rattle.summary_slots.proofs.Laws.{put_none, put_there}
+use Rattle.summary_slots.proofs.put_sum.Goals.{else-list-ge12-via-then-list-ge12+else-at-list, else-list-ge12-via-else-list-ge12}
 use Rattle.summary_slots.proofs.put_sum.Goals as goal
 
-pub returns-then-list-lt12 : goal.returns-then-list-lt12
-returns-then-list-lt12 c = put_short _ _ _ _ (search rules)
+pub returns-then-at-list : goal.returns-then-at-list
+returns-then-at-list c = put_there _ _ _ _ c.if-list-ge12.true c.if-at-list.true _ c.put_twelve.ensures
 
-pub returns-then-list-at : goal.returns-then-list-at
-returns-then-list-at c = put_late _ _ _ _ (search rules) (search rules)
-
-pub returns : goal.returns
-returns c = put_there _ _ _ _ (search rules) (search rules) _ c.put_twelve.ensures
+pub returns-else-list-ge12 : goal.returns-else-list-ge12
+returns-else-list-ge12 c =
+    elim c.else-list-ge12.branch [ else-list-ge12-via-then-list-ge12+else-at-list w ↦ put_none _ _ _ _ (omega arith) | else-list-ge12-via-else-list-ge12 w ↦ put_none _ _ _ _ (omega arith) ]

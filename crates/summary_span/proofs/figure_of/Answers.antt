@@ -1,6 +1,5 @@
 -- `summary_span::figure_of` meets its contract. Assumes nothing.
 use native.Mathlib.Omega.{arith}
-use borrow.Author.Rules.{rules}
 use borrow.Author.Tests.{le-leb, lt-leb}
 use mir.Syntax.{w32}
 use mir.ValLaws.{to_z_pos}
@@ -11,6 +10,6 @@ pub returns-then-n-le2147483647 : goal.returns-then-n-le2147483647
 unfolding figure_of
 returns-then-n-le2147483647 c = let n = c.args.n in rw (le-leb n 2147483647 (omega arith), to_z_pos w32 n (omega arith))
 
-pub returns : goal.returns
+pub returns-else-n-le2147483647 : goal.returns-else-n-le2147483647
 unfolding figure_of
-returns c = let n = c.args.n in rw (lt-leb n 2147483647 (omega arith))
+returns-else-n-le2147483647 c = let n = c.args.n in rw (lt-leb n 2147483647 (omega arith))

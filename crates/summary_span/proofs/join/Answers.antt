@@ -1,18 +1,17 @@
 -- `summary_span::join` meets its contract. Assumes nothing.
-use borrow.Author.Rules.{rules}
 use mathlib.Core.Path.{refl}
-use Rattle.rules.proofs.Links.{cond_true}
+use Rattle.rules.proofs.Links.{cond_true, cond_false}
 use Rattle.summary_span.specs.Sums.{joined}
 use Rattle.summary_span.proofs.join.Goals as goal
 
-pub returns-then-a : goal.returns-then-a
+pub returns-then-is_some-2 : goal.returns-then-is_some-2
 unfolding joined
-returns-then-a c = cond_true _ _ _ _ _ refl c.if-b.true (cond_true _ _ _ _ _ refl c.if-a.true c.merge.ensures)
+returns-then-is_some-2 c = cond_true _ _ _ _ _ c.is_some.ensures c.if-is_some.true (cond_true _ _ _ _ _ c.is_some-then-is_some.ensures c.if-is_some-2.true c.merge.ensures)
 
-pub returns-then-b : goal.returns-then-b
+pub returns-then-is_some : goal.returns-then-is_some
 unfolding joined
-returns-then-b c = rw (c.if-b.true, c.if-a.false)
+returns-then-is_some c = cond_true _ _ _ _ _ c.is_some.ensures c.if-is_some.true (cond_false _ _ _ _ _ c.is_some-then-is_some.ensures c.if-is_some-2.false refl)
 
 pub returns : goal.returns
 unfolding joined
-returns c = rw c.if-b.false
+returns c = cond_false _ _ _ _ _ c.is_some.ensures c.if-is_some.false refl

@@ -7,5 +7,5 @@ use Rattle.summary_span.proofs.lower.Goals as goal
 pub returns-then-b-a : goal.returns-then-b-a
 returns-then-b-a c = lower_second _ _ _ _ c.if-b-a.true (to_z-of_z {w = w32} (record { sfits = c.struct_told-2-1.given.0.1 })) (to_z-of_z {w = w32} (record { sfits = c.struct_told-1.given.0.1 }))
 
-pub returns : goal.returns
-returns c = lower_first _ _ _ _ c.if-b-a.false (to_z-of_z {w = w32} (record { sfits = c.struct_told-2-1.given.0.1 })) (to_z-of_z {w = w32} (record { sfits = c.struct_told-1.given.0.1 }))
+pub returns-else-b-a : goal.returns-else-b-a
+returns-else-b-a c = lower_first _ _ _ _ c.if-b-a.false (to_z-of_z {w = w32} (record { sfits = c.struct_told-2-1.given.0.1 })) (to_z-of_z {w = w32} (record { sfits = c.struct_told-1.given.0.1 }))

@@ -1,5 +1,4 @@
 -- `summary_span::merge` meets its contract. Assumes nothing.
-use borrow.Author.Rules.{rules}
 use Rattle.summary_span.specs.Sums.{merged}
 use Rattle.summary_span.proofs.merge.Goals as goal
 
