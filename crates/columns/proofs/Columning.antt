@@ -1,8 +1,8 @@
 -- Of an accepted file: its lines keep their sizes, and the numbers by the places of the columns are those that the looks give. Assumes nothing.
+use Rattle.std.specs.Prelude.{None, Option, Some}
 use Prim.Native.Nat.{ℕ, suc, ◌+◌, ◌-◌, ◌*◌, ◌/◌, ◌≤◌}
 use mathlib.Core.Bool.{Bool, true, false, cond}
 use mathlib.Core.List.{List, [], ◌∷◌, ◌++◌}
-use mathlib.Core.Option.{Option, none, some}
 use mathlib.Core.Path.{◌≡◌, refl, sym, ap, ◌∙◌}
 use native.Mathlib.Nat.{zero-mul, add-mul, one-mul}
 use native.Mathlib.Omega.{arith}
@@ -13,7 +13,8 @@ use lib.ListN.{length, get_or, drop, replicate, length-append}
 use lib.Seq.{sets, sets-eq, take_at}
 use Rattle.rules.specs.Choice.{given, first_of, part, Each}
 use Rattle.rules.specs.Families.{first_start, line_letter, layout_of, count_of}
-use Rattle.rules.specs.Layouts.{Span, entries_of, look, carries, line_length, column_text}
+use Rattle.rules.specs.declared.Span.{Span}
+use Rattle.rules.specs.Layouts.{entries_of, look, carries, line_length, column_text}
 use Rattle.rules.specs.Lines.{shaped_by}
 use Rattle.rules.specs.Listed.{packed_of}
 use Rattle.rules.specs.Looks.{fits_line, look_said, look_number}
@@ -87,7 +88,7 @@ lines_sized ls (line t rest) r w = ((λ g e. reads_long g (layout_of g ls) t (r.
 -- ---- the number of a column
 
 -- where a layout has a column at all, the line's answer fits
-pub fits_by : (layout : Layout) (t : List ℕ) (x : ℕ) (s : Span) → look layout x ≡ some s → Each (ReadsColumn layout t) (entries_of layout) → fits_line t layout ≡ true
+pub fits_by : (layout : Layout) (t : List ℕ) (x : ℕ) (s : Span) → look layout x ≡ Some s → Each (ReadsColumn layout t) (entries_of layout) → fits_line t layout ≡ true
 unfolding look look_said first_of
 fits_by layout t x s e r = by (entries_of layout) refl r
   where
@@ -97,12 +98,12 @@ fits_by layout t x s e r = by (entries_of layout) refl r
 
 number_is : (o : Option Signed) → number_in (given o (no reason.NotNumber 0) λ z. says z) ≡ (marked o).value
 unfolding marked
-number_is none = refl
-number_is (some z) = refl
+number_is None = refl
+number_is (Some z) = refl
 
 module _ (g : Family) (layout : Layout) (t : List ℕ) (r : ReadsColumned g layout t) where
   -- the number that the look gives in the reading of the line is that of the text at the column's places
-  pub cell_is : (name : List ℕ) (s : Span) → look layout (packed_of name) ≡ some s → number_in (cell_said g layout t name) ≡ cell_of t s
+  pub cell_is : (name : List ℕ) (s : Span) → look layout (packed_of name) ≡ Some s → number_in (cell_said g layout t name) ≡ cell_of t s
   unfolding look_number
   cell_is name s e =
       let f = fits_by layout t (packed_of name) s e (entries_so g layout t r) in
@@ -118,8 +119,8 @@ module _ (g : Family) (layout : Layout) (t : List ℕ) (r : ReadsColumned g layo
     where
       by : (o : Option Span) → look layout (packed_of name) ≡ o → carries layout (packed_of name) ≡ true → row_from (length names) t (places_of layout names) ≡ row_in g layout names t
           → row_from (suc (length names)) t (places_of layout (name ∷ names)) ≡ row_in g layout (name ∷ names) t
-      by none q c later = absurd (false_true (rw q at c))
-      by (some s) q c later = rw (q, cell_is name s q) (ap (λ (l : List ℤ). cell_of t s ∷ l) later)
+      by None q c later = absurd (false_true (rw q at c))
+      by (Some s) q c later = rw (q, cell_is name s q) (ap (λ (l : List ℤ). cell_of t s ∷ l) later)
 
 pub row_wide : (g : Family) (layout : Layout) (names : List (List ℕ)) (t : List ℕ) → length (row_in g layout names t) ≡ length names
 unfolding row_in
@@ -134,8 +135,8 @@ places_long layout (name ∷ names) e =
     by (look layout (packed_of name)) refl w.0 (places_long layout names w.1)
   where
     by : (o : Option Span) → look layout (packed_of name) ≡ o → carries layout (packed_of name) ≡ true → length (places_of layout names) ≡ length names * 2 → length (places_of layout (name ∷ names)) ≡ suc (length names) * 2
-    by none q c later = absurd (false_true (rw q at c))
-    by (some s) q c later = rw q (omega (arith, later))
+    by None q c later = absurd (false_true (rw q at c))
+    by (Some s) q c later = rw q (omega (arith, later))
 
 -- ---- all rows
 
@@ -201,7 +202,7 @@ module _ (file : List ℕ) (f : Flight) (g : Family) (codes spots : List ℕ) (w
   read = texts_read columns_seal file f w.accepted
 
   pub found_sized : Sized (sizes_of f.layouts) (lines_of file)
-  found_sized = lines_sized f.layouts (lines_of file) read (accepted_whole columns_seal file none f w.accepted)
+  found_sized = lines_sized f.layouts (lines_of file) read (accepted_whole columns_seal file None f w.accepted)
 
   pub found_places : part 0 (wide * 2) spots ≡ places_of (layout_of g f.layouts) (names_of codes)
   found_places =

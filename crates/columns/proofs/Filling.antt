@@ -1,8 +1,8 @@
 -- Lines of known sizes passed one after the other, and their rows put: what is left to be put from each place on gives the whole list. Assumes nothing.
+use Rattle.std.specs.Prelude.{None, Option, Some}
 use Prim.Native.Nat.{ℕ, suc, ◌+◌, ◌-◌, ◌/◌, ◌≤◌, ◌<◌}
 use mathlib.Core.Bool.{Bool, true, false, cond}
 use mathlib.Core.List.{List, [], ◌∷◌, ◌++◌}
-use mathlib.Core.Option.{Option, none, some}
 use mathlib.Core.Path.{◌≡◌, refl, sym, ap, ◌∙◌}
 use native.Mathlib.Omega.{arith}
 use borrow.Author.Tests.{le-leb, lt-leb, eq-eqb, ne_eqb, eqb-true}
@@ -48,24 +48,24 @@ letter_at b h f at t ls e =
 -- ---- where a line ends
 
 -- the letter of a family is its own
-pub family_letter : (b : ℕ) (g : Family) → family_of b ≡ some g → b ≡ line_letter g
+pub family_letter : (b : ℕ) (g : Family) → family_of b ≡ Some g → b ≡ line_letter g
 unfolding family_of
 family_letter b g e = by_b (eqb b (line_letter family.B)) refl e
   where
-    same : (x : Family) → some x ≡ some g → eqb b (line_letter x) ≡ true → b ≡ line_letter g
+    same : (x : Family) → Some x ≡ Some g → eqb b (line_letter x) ≡ true → b ≡ line_letter g
     same x q t = eqb-true b (line_letter x) t ∙ ap (λ (o : Option Family). given o 0 line_letter) q
 
-    by_n : (t : Bool) → eqb b (line_letter (family.Extra extra.N)) ≡ t → cond t (some (family.Extra extra.N)) none ≡ some g → b ≡ line_letter g
+    by_n : (t : Bool) → eqb b (line_letter (family.Extra extra.N)) ≡ t → cond t (Some (family.Extra extra.N)) None ≡ Some g → b ≡ line_letter g
     by_n true t q = same (family.Extra extra.N) q t
     by_n false t q = absurd (none_some q)
 
     by_k : (t : Bool) → eqb b (line_letter (family.Extra extra.K)) ≡ t
-        → cond t (some (family.Extra extra.K)) (cond (eqb b (line_letter (family.Extra extra.N))) (some (family.Extra extra.N)) none) ≡ some g → b ≡ line_letter g
+        → cond t (Some (family.Extra extra.K)) (cond (eqb b (line_letter (family.Extra extra.N))) (Some (family.Extra extra.N)) None) ≡ Some g → b ≡ line_letter g
     by_k true t q = same (family.Extra extra.K) q t
     by_k false t q = by_n (eqb b (line_letter (family.Extra extra.N))) refl q
 
     by_b : (t : Bool) → eqb b (line_letter family.B) ≡ t
-        → cond t (some family.B) (cond (eqb b (line_letter (family.Extra extra.K))) (some (family.Extra extra.K)) (cond (eqb b (line_letter (family.Extra extra.N))) (some (family.Extra extra.N)) none)) ≡ some g
+        → cond t (Some family.B) (cond (eqb b (line_letter (family.Extra extra.K))) (Some (family.Extra extra.K)) (cond (eqb b (line_letter (family.Extra extra.N))) (Some (family.Extra extra.N)) None)) ≡ Some g
         → b ≡ line_letter g
     by_b true t q = same family.B q t
     by_b false t q = by_k (eqb b (line_letter (family.Extra extra.K))) refl q
@@ -99,12 +99,12 @@ module _ (f : List ℕ) (at : ℕ) (s : Sizes) (h : at < length f) where
   sized_end : Sized s (lines_of (drop at f)) → (o : Option Family) → family_of (get_or f at 0) ≡ o
       → ended.At (given o (text_end (ended_at at (lines_of (drop at f)))) λ g. by_size (length f) at (size_in g s)) ≡ ended_at at (lines_of (drop at f))
   unfolding by_size
-  sized_end w none e = by (ended_at at (lines_of (drop at f))) refl
+  sized_end w None e = by (ended_at at (lines_of (drop at f))) refl
     where
       by : (r : Ended) → r ≡ ended_at at (lines_of (drop at f)) → ended.At (text_end r) ≡ ended_at at (lines_of (drop at f))
       by (ended.At z) q = q
       by (ended.Broken z) q = end_whole w (ended.Broken z) q z refl
-  sized_end w (some g) e =
+  sized_end w (Some g) e =
       let h = end_sized w g (family_letter (get_or f at 0) g e) in
       rw (le-leb (size_in g s) (length f - at) (omega (arith, h.1))) h.0
 
@@ -121,7 +121,7 @@ module _ (f : List ℕ) (at : ℕ) (s : Sizes) where
   unfolding end_by
   end_past h = rw (le-leb (length f) at h)
 
-  letter_family : (g : Family) → family_of (line_letter g) ≡ some g
+  letter_family : (g : Family) → family_of (line_letter g) ≡ Some g
   unfolding family_of
   letter_family family.B = refl
   letter_family (family.Extra extra.K) = refl

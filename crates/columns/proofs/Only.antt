@@ -1,28 +1,16 @@
 -- One answer at most meets each promise of this crate, and the list is afterwards one thing. Assumes nothing.
 use Prim.Native.Nat.{ℕ}
 use mathlib.Core.List.{List}
-use mathlib.Core.Path.{refl, ap}
 use lib.IntN.{ℤ}
-use Rattle.rules.specs.Refusals.{Said, says, refuses}
-use Rattle.rules_only.proofs.Told.{OneToOne, by_back, refusal_of, refusal_back}
+use Rattle.rules_only.proofs.Told.{result_one}
 use Rattle.rules_only.proofs.Only.{Only, OnlyBoth, same, alike}
 use Rattle.rules.specs.declared.Layouts.{Layouts}
-use Rattle.columns.specs.Columns.{columned_told, FileColumned}
+use Rattle.columns.specs.Columns.{FileColumned}
 use Rattle.columns.specs.Lines.{SizesGiven, EndBySizes}
 use Rattle.columns.specs.declared.Sizes.{Sizes}
-use Rattle.columns.specs.declared.Columned.{Columned}
-use Rattle.columns.specs.declared.Columned.TheVariants as columned
-
-back : Said ℕ → Columned
-back (says n) = columned.Lines n
-back (refuses n l b) = columned.Refused (refusal_of n l b)
-
-pub columned_one : OneToOne columned_told
-unfolding columned_told back
-columned_one = by_back back (elim [ columned.Lines n ↦ refl | columned.Refused r ↦ ap columned.Refused (refusal_back r) ])
 
 pub only_file_columned : (file : List ℕ) (letter : ℕ) (codes : List ℕ) (list : List ℤ) → OnlyBoth (FileColumned file letter codes list)
-only_file_columned file letter codes list r r' after after' w w' = (alike columned_one r r' w.told w'.told, same after after' w.numbers w'.numbers)
+only_file_columned file letter codes list r r' after after' w w' = (alike result_one r r' w.told w'.told, same after after' w.numbers w'.numbers)
 
 pub only_sizes_given : (layouts : Layouts) → Only (SizesGiven layouts)
 only_sizes_given layouts = same

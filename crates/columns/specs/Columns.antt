@@ -1,12 +1,12 @@
 -- The numbers of some columns of a whole file, row by row: what is said of them, the list afterwards, and the promise.
-use Rattle.std.specs.Prelude.{ℕ, ◌*◌, ◌/◌, cond, List, [], ◌∷◌, ◌++◌, ◌≡◌, eqb, leb, ℤ, length, get_or, drop}
-use Rattle.std.proofs.Math.Option.{none}
+use Rattle.rules.specs.declared.Refusal.{Refusal}
+use Rattle.std.specs.Prelude.{ℕ, ◌*◌, ◌/◌, cond, List, [], ◌∷◌, ◌++◌, ◌≡◌, eqb, leb, ℤ, length, get_or, drop, None, Result}
 use Rattle.rules.specs.Choice.{given, need}
 use Rattle.rules.specs.Families.{line_letter, layout_of, count_of, family_of}
 use Rattle.rules.specs.Files.{verdict}
 use Rattle.rules.specs.Looks.{look_number}
 use Rattle.rules.specs.Reads.{reading}
-use Rattle.rules.specs.Refusals.{Said, says, refuses, no, refusal, and_then}
+use Rattle.rules.specs.Refusals.{Said, says, refuses, no, refusal, and_then, result_told}
 use Rattle.rules.specs.Split.{Lines, end, broken, line, lines_of}
 use Rattle.rules.specs.declared.Family.{Family}
 use Rattle.rules.specs.declared.Flight.{Flight}
@@ -17,8 +17,6 @@ use Rattle.rules.specs.declared.Seal.TheVariants as seal
 use Rattle.rules.specs.declared.Signed.{Signed}
 use Rattle.columns_asked.specs.Asks.{names_of, asked_said}
 use Rattle.columns_row.specs.Cells.{no_number}
-use Rattle.columns.specs.declared.Columned.{Columned}
-use Rattle.columns.specs.declared.Columned.TheVariants as columned
 
 -- the usual check
 abbrev pub columns_seal : Seal
@@ -70,7 +68,7 @@ grid_of f letter codes room = given (family_of letter) (no BadValue 0) λ g. gri
 
 -- the file's own refusal first
 unfoldable pub grid_said : List ℕ → ℕ → List ℕ → ℕ → Said Grid
-grid_said file letter codes room = and_then (verdict columns_seal file none) λ f. grid_of f letter codes room
+grid_said file letter codes room = and_then (verdict columns_seal file None) λ f. grid_of f letter codes room
 
 -- how many lines there are
 abbrev pub lines_said : Said Grid → Said ℕ
@@ -94,14 +92,11 @@ columns_after file letter codes list = over (numbers_in file codes (grid_said fi
 -- ---- the promises
 
 -- the answer, in the paper's terms
-unfoldable pub columned_told : Columned → Said ℕ
-columned_told (columned.Lines n) = says n
-columned_told (columned.Refused r) = refusal r
 
 -- the answer and the list afterwards, by what is said
-pub record GridTold (file codes : List ℕ) (s : Said Grid) (list : List ℤ) (r : Columned) (after : List ℤ) : Type 0 where
-  pub told : columned_told r ≡ lines_said s
+pub record GridTold (file codes : List ℕ) (s : Said Grid) (list : List ℤ) (r : Result ℕ Refusal) (after : List ℤ) : Type 0 where
+  pub told : result_told r ≡ lines_said s
   pub numbers : after ≡ over (numbers_in file codes s) list
 
-abbrev pub FileColumned : List ℕ → ℕ → List ℕ → List ℤ → Columned → List ℤ → Type 0
+abbrev pub FileColumned : List ℕ → ℕ → List ℕ → List ℤ → Result ℕ Refusal → List ℤ → Type 0
 FileColumned file letter codes list r after = GridTold file codes (grid_said file letter codes (length list)) list r after

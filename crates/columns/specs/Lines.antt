@@ -1,6 +1,5 @@
 -- Lines of known sizes, one after the other, and the numbers of their columns by places: what the inner functions of this crate require and ensure.
-use Rattle.std.specs.Prelude.{ℕ, ◌+◌, ◌-◌, ◌≤◌, true, cond, List, [], ◌++◌, ◌≡◌, eqb, leb, ℤ, length, get_or, drop}
-use Rattle.std.proofs.Math.Option.{none}
+use Rattle.std.specs.Prelude.{ℕ, ◌+◌, ◌-◌, ◌≤◌, true, cond, List, [], ◌++◌, ◌≡◌, eqb, leb, ℤ, length, get_or, drop, None}
 use Rattle.rules.specs.Choice.{given}
 use Rattle.rules.specs.Families.{line_letter, layout_of, family_of}
 use Rattle.rules.specs.Files.{verdict}
@@ -62,7 +61,7 @@ rows_by letter places (line t ls) = cond (eqb (get_or t 0 0) letter) (row_of t p
 
 -- the file is accepted, and these are the spots of the columns that are asked for
 pub record Found (file : List ℕ) (f : Flight) (g : Family) (codes at : List ℕ) : Type 0 where
-  pub accepted : verdict columns_seal file none ≡ says f
+  pub accepted : verdict columns_seal file None ≡ says f
   pub few : length codes ≤ 39
   pub carried : are_carried (layout_of g f.layouts) (names_of codes) ≡ true
   pub spots : at ≡ spotted (places_of (layout_of g f.layouts) (names_of codes))

@@ -2,8 +2,7 @@
 // the numbers of each line of the family into a lent list.
 #![tactic(auto)]
 
-ghost use Rattle.std.specs.Prelude.{◌≤◌, ◌<◌, ◌≡◌, length};
-ghost use Rattle.std.proofs.Math.Option.{none};
+ghost use Rattle.std.specs.Prelude.{None, ◌≤◌, ◌<◌, ◌≡◌, length};
 ghost use Rattle.std.proofs.lemmas.List.Edits.{sets};
 ghost use Rattle.rules.specs.Families.{count_of};
 ghost use Rattle.rules.specs.Files.{verdict};
@@ -13,15 +12,7 @@ ghost use Rattle.columns.specs.Columns.{columns_seal, grid_room, grid_in, grid_o
 ghost use Rattle.columns.specs.Lines.{SizesGiven, by_size, EndBySizes, Sized, rows_by, Found};
 
 use file_lines::Ended;
-use layout_family::FamilyRead;
-use rules::{Counts, Extra, Family, Flight, Layouts, Outcome, Reason, Refusal, Seal};
-
-// How many lines of a family a file has; or the refusal.
-#[derive(Clone, Copy)]
-pub enum Columned {
-    Lines(usize),
-    Refused(Refusal),
-}
+use rules::{Counts, Extra, Family, Flight, Layouts, Reason, Refusal, Seal};
 
 // How many bytes the lines of each family have.
 #[derive(Clone, Copy)]
@@ -46,10 +37,8 @@ fn count_of(family: Family, counts: Counts) -> usize
 {
     match family {
         Family::B => counts.b as usize,
-        Family::Extra(e) => match e {
-            Extra::K => counts.k as usize,
-            Extra::N => counts.n as usize,
-        },
+        Family::Extra(Extra::K) => counts.k as usize,
+        Family::Extra(Extra::N) => counts.n as usize,
     }
 }
 
@@ -71,8 +60,7 @@ pub fn end_of(file: &[u8], at: usize, sizes: Sizes) -> usize
     if file.len() <= at {
         return at;
     }
-    let first = file[at];
-    match first {
+    match file[at] {
         b'B' => by_size(file, at, sizes.b),
         b'K' => by_size(file, at, sizes.k),
         b'N' => by_size(file, at, sizes.n),
@@ -91,6 +79,7 @@ fn fill(file: &[u8], letter: u8, sizes: Sizes, places: &[u8], list: &mut [i64])
     let width = places.len() / 2;
     let mut at = 0;
     let mut put = 0;
+    // No `for`: the place jumps from line to line, by the lengths that the layouts tell.
     while at < file.len() {
         let end = end_of(file, at, sizes);
         if file[at] == letter {
@@ -109,14 +98,14 @@ fn store(
     codes: &[u8],
     spots: [u8; 26],
     list: &mut [i64],
-) -> Columned
+) -> Result<usize, Refusal>
     requires { Found file.now flight family codes.now spots }
     ensures { GridTold file.now codes.now (grid_room flight family codes.now (length list.old)) list.old result list.new }
 {
     let n = count_of(family, flight.counts);
     let k = codes.len() / 3;
     if list.len() < n * k {
-        return Columned::Refused(file_lines::unplaced(Reason::NoRoom));
+        return Err(file_lines::unplaced(Reason::NoRoom));
     }
     let sizes = sizes_of(flight.layouts);
     let end = k * 2;
@@ -127,7 +116,7 @@ fn store(
         &spots[0..end],
         list,
     );
-    Columned::Lines(n)
+    Ok(n)
 }
 
 // The columns of a family of an accepted file: 17 where the codes are none, then 19, then 18.
@@ -137,43 +126,40 @@ fn in_family(
     family: Family,
     codes: &[u8],
     list: &mut [i64],
-) -> Columned
-    requires { verdict columns_seal file.now none ≡ says flight }
+) -> Result<usize, Refusal>
+    requires { verdict columns_seal file.now None ≡ says flight }
     ensures { GridTold file.now codes.now (grid_in flight family codes.now (length list.old)) list.old result list.new }
 {
-    let layouts = flight.layouts;
-    let places = columns_asked::ask(check_state::layout_of(family, layouts), codes);
-    let outcome = places.outcome;
-    let spots = places.spots;
-    match outcome {
-        Outcome::Refused(why) => Columned::Refused(why),
-        Outcome::Accepted => store(file, flight, family, codes, spots, list),
-    }
+    let places = columns_asked::ask(check_state::layout_of(family, flight.layouts), codes);
+    places.outcome?;
+    store(file, flight, family, codes, places.spots, list)
 }
 
 // The columns of an accepted file: 17 where the letter is of no family.
-fn of_flight(file: &[u8], flight: Flight, letter: u8, codes: &[u8], list: &mut [i64]) -> Columned
-    requires { verdict columns_seal file.now none ≡ says flight }
+fn of_flight(
+    file: &[u8],
+    flight: Flight,
+    letter: u8,
+    codes: &[u8],
+    list: &mut [i64],
+) -> Result<usize, Refusal>
+    requires { verdict columns_seal file.now None ≡ says flight }
     ensures { GridTold file.now codes.now (grid_of flight letter codes.now (length list.old)) list.old result list.new }
 {
-    match layout_family::family(&[letter]) {
-        FamilyRead::NoFamily => Columned::Refused(file_lines::unplaced(Reason::BadValue)),
-        FamilyRead::Of(family) => in_family(file, flight, family, codes, list),
-    }
+    let Some(family) = layout_family::family(&[letter]) else {
+        return Err(file_lines::unplaced(Reason::BadValue));
+    };
+    in_family(file, flight, family, codes, list)
 }
 
 // The numbers of up to 13 columns of each line of a family, B, K or N, by the codes' three bytes each, from the list's front on, row by row: how many lines of that family there are. A text that is no number
 // has the least number of 64 bits. Refused with the usual check's refusal (no table is lent, so 15 is not met), then with 17 where the letter is none of the three or the codes are none, over 13, no three
 // bytes each or one comes twice, then with 19 where the file's layout for that family has one of them not, then with 18 where the list is shorter than the lines times the codes. No number is changed where
 // refused, and numbers past the last row stay.
-pub fn columns(file: &[u8], letter: u8, codes: &[u8], list: &mut [i64]) -> Columned
+pub fn columns(file: &[u8], letter: u8, codes: &[u8], list: &mut [i64]) -> Result<usize, Refusal>
     ensures { FileColumned file.now letter codes.now list.old result list.new }
 {
     let checked = check_file::check_untabled(Seal::Usual, file);
-    let outcome = checked.outcome;
-    let flight = checked.flight;
-    match outcome {
-        Outcome::Refused(why) => Columned::Refused(why),
-        Outcome::Accepted => of_flight(file, flight, letter, codes, list),
-    }
+    checked.outcome?;
+    of_flight(file, checked.flight, letter, codes, list)
 }

@@ -1,23 +1,21 @@
 -- Codes one after the other: what those from each one on say is what all say. Assumes nothing.
+use Rattle.rules.specs.declared.Span.{Span}
+use Rattle.std.specs.Prelude.{None, Ok, Option, Some}
 use Prim.Native.Nat.{ℕ, zero, suc, ◌+◌, ◌-◌, ◌*◌, ◌/◌, ◌%◌, ◌≤◌, ◌<◌}
 use mathlib.Core.Bool.{Bool, true, false, not, ◌&&◌}
 use mathlib.Core.List.{List, [], ◌∷◌}
 use mathlib.Core.Path.{◌≡◌, refl, sym, ap, ◌∙◌}
 use native.Mathlib.Omega.{arith}
-use borrow.Author.Tests.{le-leb, lt-leb, leb-true, eq-eqb, ne_eqb, not-true, not-false}
+use borrow.Author.Tests.{leb-true, eq-eqb, ne_eqb, not-true, not-false}
 use lib.Dec.{eqb, leb}
 use lib.ListN.{length, get_or, set, take, drop, replicate, length-set}
 use lib.Seq.{sets, get_or-take, get_or-drop, drop-drop}
 use Rattle.rules.specs.Layouts.{look, carries}
 use Rattle.rules.specs.Listed.{packed, packed_of}
-use Rattle.rules.specs.Refusals.{no, outcome_told}
+use Rattle.rules.specs.Refusals.{no, result_told}
 use Rattle.rules.specs.declared.Layout.{Layout}
-use Rattle.rules.specs.declared.Outcome.TheVariants as outcomes
 use Rattle.rules.specs.declared.Reason.TheVariants as reason
 use Rattle.rules.proofs.Inverse.{and_inv}
-use Rattle.layout_coded.specs.Spots.{spot_told}
-use Rattle.layout_coded.specs.declared.Spot.{Spot}
-use Rattle.layout_coded.specs.declared.Spot.TheVariants as spot
 use Rattle.columns_asked.specs.Asks.{names_from, names_of, among, again, are_codes, are_carried, places_of, places_said, asked_said, spotted, PlacesTold, PlacesAsked}
 use Rattle.columns_asked.specs.declared.Places.{Places}
 
@@ -93,18 +91,18 @@ module _ (codes : List ℕ) (n : ℕ) where
 
     -- ---- their places
 
-    module _ (layout : Layout) (y : ℕ) (e : y ≡ code i) (h : i < n) (s : Spot) (g : spot_told s ≡ look layout y) where
-      pub spot_none : s ≡ spot.Nowhere → are_carried layout (rest i) ≡ false
-      unfolding are_carried carries spot_told
+    module _ (layout : Layout) (y : ℕ) (e : y ≡ code i) (h : i < n) (s : Option Span) (g : s ≡ look layout y) where
+      pub spot_none : s ≡ None → are_carried layout (rest i) ≡ false
+      unfolding are_carried carries
       spot_none t = rw (rest_next h, named (drop (i * 3) codes), ← e, ← g, t)
 
-      module _ (a z : ℕ) (t : s ≡ spot.At a z) where
+      module _ (a z : ℕ) (t : s ≡ Some (record { first = a; last = z })) where
         pub spot_carried : are_carried layout (rest i) ≡ are_carried layout (rest (i + 1))
-        unfolding are_carried carries spot_told
+        unfolding are_carried carries
         spot_carried = rw (rest_next h, named (drop (i * 3) codes), ← e, ← g, t)
 
         pub spot_places : places_of layout (rest i) ≡ a ∷ z ∷ places_of layout (rest (i + 1))
-        unfolding places_of spot_told
+        unfolding places_of
         spot_places = rw (rest_next h, named (drop (i * 3) codes), ← e, ← g, t)
 
   -- the places so far, and what is left to be put behind them
@@ -118,11 +116,11 @@ module _ (codes : List ℕ) (n : ℕ) where
     spotting_first = record { long = refl; carried = rw rest_all; is = rw rest_all }
 
     module _ (spots : List ℕ) (i : ℕ) (w : Spotting layout spots i) where
-      pub spotting_none : (y : ℕ) → y ≡ code i → i < n → (s : Spot) → spot_told s ≡ look layout y → s ≡ spot.Nowhere → (r : Places) → PlacesTold (no reason.Absent 0) r → PlacesTold (places_said layout (names_from n codes)) r
+      pub spotting_none : (y : ℕ) → y ≡ code i → i < n → (s : Option Span) → s ≡ look layout y → s ≡ None → (r : Places) → PlacesTold (no reason.Absent 0) r → PlacesTold (places_said layout (names_from n codes)) r
       unfolding places_said
       spotting_none y e h s g t r p = rw (← w.carried, spot_none i layout y e h s g t) p
 
-      pub spotting_next : (y : ℕ) → y ≡ code i → i < n → (s : Spot) → spot_told s ≡ look layout y → (a z : ℕ) → s ≡ spot.At a z → Spotting layout (set (set spots (i * 2) a) (i * 2 + 1) z) (i + 1)
+      pub spotting_next : (y : ℕ) → y ≡ code i → i < n → (s : Option Span) → s ≡ look layout y → (a z : ℕ) → s ≡ Some (record { first = a; last = z }) → Spotting layout (set (set spots (i * 2) a) (i * 2 + 1) z) (i + 1)
       spotting_next y e h s g a z t =
           let m : i * 2 + 1 ≡ suc (i * 2) = omega arith in
           let k : (i + 1) * 2 ≡ suc (suc (i * 2)) = omega arith in
@@ -132,8 +130,8 @@ module _ (codes : List ℕ) (n : ℕ) where
             is = rw (m, k) (rw (spot_places i layout y e h s g a z t) at w.is);
           }
 
-      pub spotting_last : (i < n → ⊥) → PlacesTold (places_said layout (names_from n codes)) (record { outcome = outcomes.Accepted; spots = spots })
-      unfolding places_said are_carried places_of outcome_told
+      pub spotting_last : (i < n → ⊥) → PlacesTold (places_said layout (names_from n codes)) (record { outcome = (Ok tt); spots = spots })
+      unfolding places_said are_carried places_of result_told
       spotting_last h =
           let c : true ≡ are_carried layout (names_from n codes) = rw (rest_end i h) at w.carried in
           let p : spots ≡ spotted (places_of layout (names_from n codes)) = rw (rest_end i h) at w.is in
@@ -142,22 +140,6 @@ module _ (codes : List ℕ) (n : ℕ) where
 -- ---- whether they are codes
 
 module _ (codes : List ℕ) where
-  pub codes_none : length codes < 1 → false ≡ are_codes codes
-  unfolding are_codes
-  codes_none h = rw (lt-leb 1 (length codes) h)
-
-  pub codes_over : 1 ≤ length codes → 39 < length codes → false ≡ are_codes codes
-  unfolding are_codes
-  codes_over h g = rw (le-leb 1 (length codes) h, lt-leb (length codes) 39 g)
-
-  pub codes_odd : 1 ≤ length codes → length codes ≤ 39 → (length codes % 3 ≡ 0 → ⊥) → false ≡ are_codes codes
-  unfolding are_codes
-  codes_odd h g d = rw (le-leb 1 (length codes) h, le-leb (length codes) 39 g, ne_eqb (length codes % 3) 0 d)
-
-  pub codes_are : 1 ≤ length codes → length codes ≤ 39 → length codes % 3 ≡ 0 → (r : Bool) → r ≡ again (names_of codes) → not r ≡ are_codes codes
-  unfolding are_codes
-  codes_are h g d r e = rw (le-leb 1 (length codes) h, le-leb (length codes) 39 g, eq-eqb (length codes % 3) 0 d, ← e)
-
   pub codes_few : are_codes codes ≡ true → length codes ≤ 39
   unfolding are_codes
   codes_few e =

@@ -4,7 +4,7 @@ use Rattle.std.proofs.lemmas.List.Edits.{sets}
 use Rattle.rules.specs.Choice.{given, need}
 use Rattle.rules.specs.Layouts.{look, carries}
 use Rattle.rules.specs.Listed.{packed_of}
-use Rattle.rules.specs.Refusals.{Said, says, no, outcome, outcome_told, value_or}
+use Rattle.rules.specs.Refusals.{Said, says, no, outcome, value_or, result_told}
 use Rattle.rules.specs.declared.Layout.{Layout}
 use Rattle.rules.specs.declared.Reason.TheVariants.{BadValue, Absent}
 use Rattle.columns_asked.specs.declared.Places.{Places}
@@ -56,7 +56,7 @@ spotted places = sets (replicate 26 0) 0 places
 
 -- what is said of the places: they stand beside the outcome, none beside a refusal
 pub record PlacesTold (s : Said (List ℕ)) (r : Places) : Type 0 where
-  pub answer : outcome_told r.outcome ≡ outcome s
+  pub answer : result_told r.outcome ≡ outcome s
   pub spots : r.spots ≡ spotted (value_or [] s)
 
 abbrev pub PlacesAsked : Layout → List ℕ → Places → Type 0

@@ -6,13 +6,12 @@ ghost use Rattle.rules.specs.Listed.{packed_of};
 ghost use Rattle.rules.specs.Refusals.{no};
 ghost use Rattle.columns_asked.specs.Asks.{names_from, among, again, are_codes, places_said, PlacesTold, PlacesAsked};
 
-use layout_coded::Spot;
-use rules::{Layout, Outcome, Reason, Refusal};
+use rules::{Layout, Reason, Refusal, Span};
 
 // Where the columns of up to 13 codes stand: of each its first and its last byte, counted from 1, one code behind the other; 0 past the last, and beside a refusal.
 #[derive(Clone, Copy)]
 pub struct Places {
-    pub outcome: Outcome,
+    pub outcome: Result<(), Refusal>,
     pub spots: [u8; 26],
 }
 
@@ -33,12 +32,10 @@ fn is_among(codes: &[u8], n: usize, i: usize, x: u32) -> bool
     requires { n ≤ 13 }
     ensures { result ≡ among x (names_from (n - i) (drop (i * 3) codes.now)) }
 {
-    let mut j = i;
-    while j < n {
+    for j in i..n {
         if code_at(codes, j * 3) == x {
             return true;
         }
-        j += 1;
     }
     false
 }
@@ -48,31 +45,21 @@ fn comes_again(codes: &[u8], n: usize) -> bool
     requires { n ≤ 13 }
     ensures { result ≡ again (names_from n codes.now) }
 {
-    let mut i = 0;
-    while i < n {
+    for i in 0..n {
         if is_among(codes, n, i + 1, code_at(codes, i * 3)) {
             return true;
         }
-        i += 1;
     }
     false
 }
 
 // Whether a text is one to 13 codes of three bytes each, none twice.
+#[tactic(auto, unfolding(crate::specs::Asks::are_codes))]
 fn are_codes(codes: &[u8]) -> bool
     ensures { result ≡ are_codes codes.now }
 {
     let n = codes.len();
-    if n < 1 {
-        return false;
-    }
-    if 39 < n {
-        return false;
-    }
-    if n % 3 != 0 {
-        return false;
-    }
-    !comes_again(codes, n / 3)
+    1 <= n && n <= 39 && n % 3 == 0 && !comes_again(codes, n / 3)
 }
 
 // A refusal, with no places beside it.
@@ -80,7 +67,7 @@ fn refused(reason: Reason) -> Places
     ensures { PlacesTold (no reason 0) result }
 {
     Places {
-        outcome: Outcome::Refused(Refusal {
+        outcome: Err(Refusal {
             reason,
             line: 0,
             byte: 0,
@@ -95,17 +82,15 @@ fn spots_of(layout: Layout, codes: &[u8], n: usize) -> Places
     ensures { PlacesTold (places_said layout (names_from n codes.now)) result }
 {
     let mut spots: [u8; 26] = [0; 26];
-    let mut i = 0;
-    while i < n {
-        let Spot::At(first, last) = layout_coded::look(layout, code_at(codes, i * 3)) else {
+    for i in 0..n {
+        let Some(Span { first, last }) = layout_coded::look(layout, code_at(codes, i * 3)) else {
             return refused(Reason::Absent);
         };
         spots[i * 2] = first;
         spots[i * 2 + 1] = last;
-        i += 1;
     }
     Places {
-        outcome: Outcome::Accepted,
+        outcome: Ok(()),
         spots,
     }
 }

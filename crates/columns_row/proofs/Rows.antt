@@ -1,7 +1,8 @@
 -- Columns read and put one after the other: what is still to be put from each one on is the whole row. Assumes nothing.
+use Rattle.std.specs.Prelude.{None, Option, Some}
+use Rattle.std.specs.Option.{unwrap_or}
 use Prim.Native.Nat.{ℕ, zero, suc, ◌+◌, ◌-◌, ◌*◌, ◌/◌, ◌≤◌, ◌<◌}
 use mathlib.Core.List.{List, ◌∷◌}
-use mathlib.Core.Option.{Option}
 use mathlib.Core.Path.{◌≡◌, refl, ap, ◌∙◌}
 use native.Mathlib.Omega.{arith}
 use borrow.Author.Tests.{le-leb, lt-leb}
@@ -9,22 +10,16 @@ use lib.IntN.{ℤ}
 use lib.ListN.{length, get_or, set, drop, length-set}
 use lib.Seq.{sets, length-sets, drop-drop, get_or-drop}
 use Rattle.rules.specs.Choice.{part, byte}
-use Rattle.rules.specs.Numbers.{whole_of, whole_told}
+use Rattle.rules.specs.Numbers.{whole_of}
 use Rattle.rules.specs.declared.Signed.{Signed}
-use Rattle.rules.specs.declared.Whole.{Whole}
-use Rattle.rules.specs.declared.Whole.TheVariants as whole
 use Rattle.columns_row.specs.Cells.{no_number, marked, cell_of, row_from, row_of, RowPut}
 
--- ---- the number of a text
+-- ---- the number of a text: what stands in a look-up, or the mark
 
-module _ (o : Option Signed) (r : Whole) (e : whole_told r ≡ o) where
-  pub number_there : (z : Signed) → r ≡ whole.Of z → z ≡ marked o
-  unfolding whole_told marked
-  number_there z g = rw (← e, g)
-
-  pub number_none : r ≡ whole.NoWhole → record { value = no_number } ≡ marked o
-  unfolding whole_told marked
-  number_none g = rw (← e, g)
+pub number_there : (o : Option Signed) → unwrap_or o (record { value = no_number }) ≡ marked o
+unfolding marked
+number_there (Some z) = refl
+number_there None = refl
 
 -- ---- a row
 
@@ -80,11 +75,8 @@ pub put_length : (list after : List ℤ) (at : ℕ) (vs : List ℤ) → after �
 put_length list after at vs e = rw e (length-sets list at vs)
 
 module _ (line places : List ℕ) (at : ℕ) (list : List ℤ) where
-  pub row_short : length list < length places / 2 → RowPut line places at list list
-  row_short h = rw (lt-leb (at + length places / 2) (length list) (omega arith))
-
-  pub row_late : length places / 2 ≤ length list → length list - length places / 2 < at → RowPut line places at list list
-  row_late h g = rw (lt-leb (at + length places / 2) (length list) (omega arith))
+  pub row_past : length list < at + length places / 2 → RowPut line places at list list
+  row_past h = rw (lt-leb (at + length places / 2) (length list) h)
 
   pub row_there : length places / 2 ≤ length list → at ≤ length list - length places / 2 → (after : List ℤ) → after ≡ sets list at (row_of line places) → RowPut line places at list after
   row_there h g after e = rw (le-leb (at + length places / 2) (length list) (omega arith)) e

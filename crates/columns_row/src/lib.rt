@@ -6,18 +6,13 @@ ghost use Rattle.std.proofs.lemmas.List.Edits.{sets};
 ghost use Rattle.rules.specs.Numbers.{whole_of};
 ghost use Rattle.columns_row.specs.Cells.{marked, row_from, RowPut};
 
-use rules::{Signed, Whole};
+use rules::Signed;
 
 // The number that a text spells; the least number of 64 bits where it spells none.
 fn number_of(text: &[u8]) -> Signed
     ensures { result ≡ marked (whole_of text.now) }
 {
-    match byte_number::whole(text) {
-        Whole::Of(z) => z,
-        Whole::NoWhole => Signed {
-            value: -9223372036854775808,
-        },
-    }
+    byte_number::whole(text).unwrap_or(Signed { value: i64::MIN })
 }
 
 // The numbers of n columns of a line from a place of the list on, by the places of their first and last bytes.
@@ -25,12 +20,9 @@ fn fill_row(line: &[u8], places: &[u8], n: usize, list: &mut [i64], at: usize)
     requires { (n * 2 ≤ length places.now) × (at + n ≤ length list.old) }
     ensures { list.new ≡ sets list.old at (row_from n line.now places.now) }
 {
-    let mut i = 0;
-    while i < n {
+    for i in 0..n {
         let z = number_of(layout_column::text_of(line, places[i * 2], places[i * 2 + 1]));
-        let value = z.value;
-        list[at + i] = value;
-        i += 1;
+        list[at + i] = z.value;
     }
 }
 
@@ -40,10 +32,7 @@ pub fn put_row(line: &[u8], places: &[u8], list: &mut [i64], at: usize)
     ensures { RowPut line.now places.now at list.old list.new }
 {
     let n = places.len() / 2;
-    if list.len() < n {
-        return;
-    }
-    if list.len() - n < at {
+    if list.len() < n || list.len() - n < at {
         return;
     }
     fill_row(line, places, n, list, at);

@@ -1,21 +1,20 @@
 -- The points of a declaration put one after the other: what is left to be put from each line on gives the whole list. Assumes nothing.
+use Rattle.std.specs.Prelude.{Err, Ok, Result}
 use Prim.Native.Nat.{ℕ, zero, suc, ◌+◌, ◌-◌, ◌*◌, ◌≤◌, ◌<◌}
-use mathlib.Core.List.{List, [], ◌∷◌, ◌++◌}
+use mathlib.Core.List.{List, [], ◌∷◌, ◌++◌, append_assoc}
 use mathlib.Core.Path.{◌≡◌, refl, sym, ap, ◌∙◌}
 use native.Mathlib.Omega.{arith}
 use native.Mathlib.Numerals.{add-one}
-use lib.ListN.{length, get_or, set, drop, length-append, length-set, drop_of_length-le}
-use lib.Seq.{sets, length-sets, drop-cons}
+use borrow.Rule.Slice.PartMut.{put_mid}
+use lib.ListN.{length, take, drop, length-append}
+use lib.Seq.{sets, length-sets, sets-eq, drop-drop}
 use Rattle.rules.specs.Choice.{part}
-use Rattle.rules.specs.Reads.{head_said, head_told, point_said, point_told}
-use Rattle.rules.specs.Refusals.{says, refuses, value_or}
+use Rattle.rules.specs.Reads.{head_said, point_said}
+use Rattle.std.specs.Result.{result_unwrap_or}
+use Rattle.rules.specs.Refusals.{Said, value_or, result_told}
 use Rattle.rules.specs.Split.{Lines, end, broken, line, lines_of}
 use Rattle.rules.specs.declared.Head.{Head}
-use Rattle.rules.specs.declared.HeadRead.{HeadRead}
-use Rattle.rules.specs.declared.HeadRead.TheVariants as head_read
 use Rattle.rules.specs.declared.Point.{Point}
-use Rattle.rules.specs.declared.PointRead.{PointRead}
-use Rattle.rules.specs.declared.PointRead.TheVariants as point_read
 use Rattle.rules.specs.declared.Refusal.{Refusal}
 use Rattle.rules.proofs.Texts.{sets_append}
 use Rattle.file_lines.specs.Ends.{ended_at}
@@ -27,23 +26,10 @@ use Rattle.declaration.proofs.Starting.{part_long}
 
 -- ---- a head and a point that were read, or were not
 
-module _ (l : List ℕ) (r : HeadRead) (e : head_told r ≡ head_said l) where
-  pub head_there : (h : Head) → r ≡ head_read.Is h → h ≡ value_or no_head (head_said l)
-  unfolding head_told
-  head_there h g = rw (← e, g)
-
-  pub head_none : (w : Refusal) → r ≡ head_read.Refused w → (h : Head) → h ≡ no_head → h ≡ value_or no_head (head_said l)
-  unfolding head_told
-  head_none w g h k = rw (← e, g) k
-
-module _ (l : List ℕ) (r : PointRead) (e : point_told r ≡ point_said l) where
-  pub point_there : (p : Point) → r ≡ point_read.Is p → p ≡ value_or no_point (point_said l)
-  unfolding point_told
-  point_there p g = rw (← e, g)
-
-  pub point_none : (w : Refusal) → r ≡ point_read.Refused w → no_point ≡ value_or no_point (point_said l)
-  unfolding point_told
-  point_none w g = rw (← e, g)
+pub or_said : {A : Type 0} (d : A) (r : Result A Refusal) (s : Said A) → result_told r ≡ s → result_unwrap_or r d ≡ value_or d s
+unfolding result_told
+or_said d (Ok v) s e = rw (← e) refl
+or_said d (Err w) s e = rw (← e) refl
 
 -- the six numbers of a point that was read
 pub six_put : (list : List ℕ) (at from : ℕ) (t : List ℕ) (p : Point) → p ≡ value_or no_point (point_said t) → (n : ℕ) → n ≡ length t - 18 → (after : List ℕ)
@@ -52,24 +38,10 @@ six_put list at from t p e n g after k = rw (← e, ← g) k
 
 -- ---- six numbers
 
--- what is left to be put from number i on gives them all
-pub record Putting (list₀ : List ℕ) (at : ℕ) (six list : List ℕ) (i : ℕ) : Type 0 where
-  pub long : length list ≡ length list₀
-  pub few : i ≤ 6
-  pub is : sets list (at + i) (drop i six) ≡ sets list₀ at six
-
-pub putting_first : (list : List ℕ) (at : ℕ) (six : List ℕ) → Putting list at six list 0
-putting_first list at six = let m : at + 0 ≡ at = omega arith in record { long = refl; few = omega arith; is = rw m }
-
-module _ (list₀ : List ℕ) (at : ℕ) (six list : List ℕ) (i : ℕ) (w : Putting list₀ at six list i) (six_long : length six ≡ 6) where
-  pub putting_next : i < 6 → Putting list₀ at six (set list (at + i) (get_or six i 0)) (i + 1)
-  putting_next h =
-      let m : at + (i + 1) ≡ suc (at + i) = omega arith in
-      let d : drop i six ≡ get_or six i 0 ∷ drop (i + 1) six = rw add-one (drop-cons six i 0 (omega (arith, six_long))) in
-      record { long = length-set list (at + i) (get_or six i 0) ∙ w.long; few = omega arith; is = rw m (rw d at w.is) }
-
-  pub putting_last : (i < 6 → ⊥) → list ≡ sets list₀ at six
-  putting_last h = rw (drop_of_length-le six {i = i} (omega (arith, six_long))) at w.is
+pub six_there : (list six after : List ℕ) (at n : ℕ) → length six ≡ 6 → n ≡ 6 → at + 6 ≤ length list → after ≡ six → put_mid at n list after ≡ sets list at six
+six_there list six after at n long k h e =
+    let z : sets list at six ≡ take at list ++ six ++ drop (at + 6) list = rw long at (sets-eq six list at (omega (arith, long))) in
+    rw (e, k, drop-drop 6 at list) (sym (z ∙ append_assoc (take at list) six (drop (at + 6) list)))
 
 -- ---- the points
 

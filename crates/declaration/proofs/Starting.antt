@@ -1,8 +1,8 @@
 -- The search for the first C line, line by line: the line here is one, or the lines behind it decide. Assumes nothing.
+use Rattle.std.specs.Prelude.{None, Some}
 use Prim.Native.Nat.{ℕ, ◌+◌, ◌-◌, ◌≤◌, ◌<◌}
 use Prim.Native.Char.{code}
 use mathlib.Core.List.{List}
-use mathlib.Core.Option.{none, some}
 use mathlib.Core.Path.{◌≡◌, refl, sym, ap, ◌∙◌}
 use native.Mathlib.Omega.{arith}
 use borrow.Author.Tests.{eq-eqb, ne_eqb}
@@ -17,7 +17,7 @@ use Rattle.declaration.specs.Declaration.{first_c}
 use Rattle.declaration.specs.Starts.{Lies}
 
 -- no line is left where none is ended
-pub broken_none : (k : Lines) (n at e : ℕ) → ended.Broken e ≡ ended_at at k → first_c n at k ≡ none
+pub broken_none : (k : Lines) (n at e : ℕ) → ended.Broken e ≡ ended_at at k → first_c n at k ≡ None
 unfolding ended_at first_c
 broken_none end n at e q = refl
 broken_none (broken j) n at e q = refl
@@ -36,11 +36,11 @@ pub seeking_first : (f : List ℕ) → Seeking f 0 0
 seeking_first f = record { few = omega arith; is = refl }
 
 module _ (f : List ℕ) (lines at : ℕ) (w : Seeking f lines at) where
-  pub seeking_last : length f ≤ at → first_c 0 0 (lines_of f) ≡ none
+  pub seeking_last : length f ≤ at → first_c 0 0 (lines_of f) ≡ None
   unfolding lines_of first_c
   seeking_last h = w.is ∙ rw (drop_of_length-le f h)
 
-  pub seeking_broken : (r : Ended) → r ≡ ended_at at (lines_of (drop at f)) → (e : ℕ) → r ≡ ended.Broken e → first_c 0 0 (lines_of f) ≡ none
+  pub seeking_broken : (r : Ended) → r ≡ ended_at at (lines_of (drop at f)) → (e : ℕ) → r ≡ ended.Broken e → first_c 0 0 (lines_of f) ≡ None
   seeking_broken r q e d = w.is ∙ broken_none (lines_of (drop at f)) lines at e (sym d ∙ q)
 
   module _ (r : Ended) (q : r ≡ ended_at at (lines_of (drop at f))) (e : ℕ) (d : r ≡ ended.At e) where

@@ -1,21 +1,18 @@
 -- The declaration of a whole file: its head, the numbers of its points, what is said of them, the list afterwards, and the promise.
-use Rattle.std.specs.Prelude.{ℕ, zero, suc, ◌+◌, ◌-◌, ◌*◌, cond, List, [], ◌∷◌, ◌++◌, ◌≡◌, eqb, leb, length, get_or}
+use Rattle.rules.specs.declared.Refusal.{Refusal}
+use Rattle.std.specs.Prelude.{ℕ, zero, suc, ◌+◌, ◌-◌, ◌*◌, cond, List, [], ◌∷◌, ◌++◌, ◌≡◌, eqb, leb, length, get_or, None, Option, Result, Some}
 use Prim.Native.Char.{code}
-use Rattle.std.proofs.Math.Option.{Option, none, some}
 use Rattle.rules.specs.Choice.{need}
 use Rattle.rules.specs.Files.{verdict, over}
 use Rattle.rules.specs.Reads.{head_said, point_said}
-use Rattle.rules.specs.Refusals.{Said, says, refuses, no, refusal, value_or, and_then}
+use Rattle.rules.specs.Refusals.{Said, says, refuses, no, refusal, value_or, and_then, result_told}
 use Rattle.rules.specs.Split.{Lines, end, broken, line, lines_of}
 use Rattle.rules.specs.declared.Head.{Head}
-use Rattle.rules.specs.declared.Planned.TheVariants as planned
 use Rattle.rules.specs.declared.Point.{Point}
 use Rattle.rules.specs.declared.Reason.TheVariants.{NoRoom}
 use Rattle.rules.specs.declared.Seal.{Seal}
 use Rattle.rules.specs.declared.Seal.TheVariants as seal
 use Rattle.declaration.specs.declared.Declared.{Declared}
-use Rattle.declaration.specs.declared.DeclarationRead.{DeclarationRead}
-use Rattle.declaration.specs.declared.DeclarationRead.TheVariants as declaration_read
 
 -- the usual check
 abbrev pub declaration_seal : Seal
@@ -25,7 +22,7 @@ declaration_seal = seal.Usual
 
 -- a head and a point of zeros
 abbrev pub no_head : Head
-no_head = record { declared = record { day = 0; month = 0; year = 0 }; time = 0; flight = planned.NotGiven; task = 0; turns = 0 }
+no_head = record { declared = record { day = 0; month = 0; year = 0 }; time = 0; flight = None; task = 0; turns = 0 }
 
 abbrev pub no_point : Point
 no_point = record { lat = record { count = 0; letter = 0 }; lon = record { count = 0; letter = 0 } }
@@ -39,10 +36,10 @@ pub record Placed : Type 0 where
 
 -- the first line that begins with C, of lines that stand behind n lines and `at` bytes
 unfoldable pub first_c : ℕ → ℕ → Lines → Option Placed
-first_c n at end = none
-first_c n at (broken k) = none
+first_c n at end = None
+first_c n at (broken k) = None
 first_c n at (line t ls) =
-    cond (eqb (get_or t 0 0) (code "C")) (some (record { lines = n; at = at; text = t; later = ls })) (first_c (n + 1) (at + length t + 2) ls)
+    cond (eqb (get_or t 0 0) (code "C")) (Some (record { lines = n; at = at; text = t; later = ls })) (first_c (n + 1) (at + length t + 2) ls)
 
 -- the head that a line says; its points are its turn points, take-off, start, finish and landing; its text stands behind 25 bytes
 abbrev pub head_in : List ℕ → Head
@@ -56,8 +53,8 @@ abbrev pub undeclared : Declared
 undeclared = record { head = no_head; points = 0; line = 0; text = 0; length = 0 }
 
 abbrev pub declared_in : Option Placed → Declared
-declared_in none = undeclared
-declared_in (some p) = declared_at p.lines p.at p.text
+declared_in None = undeclared
+declared_in (Some p) = declared_at p.lines p.at p.text
 
 -- ---- the points
 
@@ -80,8 +77,8 @@ abbrev pub points_of : Placed → List ℕ
 points_of p = points_from ((head_in p.text).turns + 4) (p.at + length p.text + 2) p.later
 
 abbrev pub points_in : Option Placed → List ℕ
-points_in none = []
-points_in (some p) = points_of p
+points_in None = []
+points_in (Some p) = points_of p
 
 -- ---- what is said
 
@@ -91,7 +88,7 @@ room_said o room = need (leb ((declared_in o).points * 6) room) (no NoRoom 0) λ
 
 -- the file's own refusal first
 unfoldable pub placed_said : List ℕ → ℕ → Said (Option Placed)
-placed_said file room = and_then (verdict declaration_seal file none) λ _. room_said (first_c 0 0 (lines_of file)) room
+placed_said file room = and_then (verdict declaration_seal file None) λ _. room_said (first_c 0 0 (lines_of file)) room
 
 abbrev pub declared_said : Said (Option Placed) → Said Declared
 declared_said s = and_then s λ o. says (declared_in o)
@@ -111,14 +108,11 @@ points_after file list = over (numbers_in (placed_said file (length list))) list
 -- ---- the promises
 
 -- the answer, in the paper's terms
-unfoldable pub declaration_told : DeclarationRead → Said Declared
-declaration_told (declaration_read.Is d) = says d
-declaration_told (declaration_read.Refused r) = refusal r
 
 -- the answer and the list afterwards, by what is said
-pub record StartTold (s : Said (Option Placed)) (list : List ℕ) (r : DeclarationRead) (after : List ℕ) : Type 0 where
-  pub told : declaration_told r ≡ declared_said s
+pub record StartTold (s : Said (Option Placed)) (list : List ℕ) (r : Result Declared Refusal) (after : List ℕ) : Type 0 where
+  pub told : result_told r ≡ declared_said s
   pub numbers : after ≡ over (numbers_in s) list
 
-abbrev pub FileDeclared : List ℕ → List ℕ → DeclarationRead → List ℕ → Type 0
+abbrev pub FileDeclared : List ℕ → List ℕ → Result Declared Refusal → List ℕ → Type 0
 FileDeclared file list r after = StartTold (placed_said file (length list)) list r after

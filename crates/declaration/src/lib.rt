@@ -10,9 +10,7 @@ ghost use Rattle.declaration.specs.Declaration.{no_head, no_point, undeclared, d
 ghost use Rattle.declaration.specs.Starts.{Found};
 
 use file_lines::Ended;
-use rules::{
-    Date, Head, HeadRead, Outcome, Planned, Point, PointRead, Position, Reason, Refusal, Seal,
-};
+use rules::{Date, Head, Point, Position, Reason, Refusal, Seal};
 
 // What a declaration says: its head, how many points follow it, the number of the head's line, counted from 1, and the head's text: how many bytes of the file stand before it, and how many it has.
 // All are zero where a file has no declaration.
@@ -25,24 +23,12 @@ pub struct Declared {
     pub length: usize,
 }
 
-#[derive(Clone, Copy)]
-pub enum DeclarationRead {
-    Is(Declared),
-    Refused(Refusal),
-}
-
 // Where a line stands: how many lines and how many bytes stand before it, and how many bytes stand before its CR LF.
 #[derive(Clone, Copy)]
 pub struct Start {
     pub lines: usize,
     pub at: usize,
     pub end: usize,
-}
-
-#[derive(Clone, Copy)]
-pub enum StartRead {
-    At(Start),
-    Nowhere,
 }
 
 // A head of zeros.
@@ -56,7 +42,7 @@ fn no_head() -> Head
             year: 0,
         },
         time: 0,
-        flight: Planned::NotGiven,
+        flight: None,
         task: 0,
         turns: 0,
     }
@@ -66,39 +52,28 @@ fn no_head() -> Head
 fn head_of(line: &[u8]) -> Head
     ensures { result ≡ value_or no_head (head_said line.now) }
 {
-    match line_read::head(line) {
-        HeadRead::Is(h) => h,
-        HeadRead::Refused(_) => no_head(),
-    }
+    line_read::head(line).unwrap_or(no_head())
 }
 
 // What a point's line says; zeros where it is none.
 fn point_of(line: &[u8]) -> Point
     ensures { result ≡ value_or no_point (point_said line.now) }
 {
-    match line_read::point(line) {
-        PointRead::Is(p) => p,
-        PointRead::Refused(_) => Point {
-            lat: Position {
-                count: 0,
-                letter: 0,
-            },
-            lon: Position {
-                count: 0,
-                letter: 0,
-            },
-        },
-    }
+    let nowhere = Position {
+        count: 0,
+        letter: 0,
+    };
+    line_read::point(line).unwrap_or(Point {
+        lat: nowhere,
+        lon: nowhere,
+    })
 }
 
 // How many bytes of a line stand behind the first n.
 fn behind(line: &[u8], n: usize) -> usize
     ensures { result ≡ length line.now - n }
 {
-    if line.len() < n {
-        return 0;
-    }
-    line.len() - n
+    line.len().saturating_sub(n)
 }
 
 // A declaration, by its head's line and how many lines and bytes stand before it.
@@ -119,22 +94,23 @@ fn declared_at(line: &[u8], lines: usize, at: usize) -> Declared
 }
 
 // The first C line of a file.
-fn find(file: &[u8]) -> StartRead
+fn find(file: &[u8]) -> Option<Start>
     ensures { Found file.now result }
 {
     let mut lines = 0;
     let mut at = 0;
+    // No `for`: the place jumps from line to line.
     while at < file.len() {
         let Ended::At(end) = file_lines::line_end(file, at) else {
-            return StartRead::Nowhere;
+            return None;
         };
         if byte_chars::byte(&file[at..end], 0) == b'C' {
-            return StartRead::At(Start { lines, at, end });
+            return Some(Start { lines, at, end });
         }
         lines += 1;
         at = end + 2;
     }
-    StartRead::Nowhere
+    None
 }
 
 // Six numbers put one after the other into a list.
@@ -142,11 +118,7 @@ fn put_six(list: &mut [u64], at: usize, six: [u64; 6])
     requires { at + 6 ≤ length list.old }
     ensures { list.new ≡ sets list.old at six }
 {
-    let mut i = 0;
-    while i < 6 {
-        list[at + i] = six[i];
-        i += 1;
-    }
+    list[at..at + 6].copy_from_slice(&six);
 }
 
 // The six numbers of a point, by its line and how many bytes of the file stand before it: its position, and where its text stands.
@@ -174,23 +146,21 @@ fn fill(file: &[u8], from: usize, n: usize, list: &mut [u64])
     ensures { list.new ≡ sets list.old 0 (points_from n from (lines_of (drop from file.now))) }
 {
     let mut at = from;
-    let mut i = 0;
-    while i < n {
+    for i in 0..n {
         let Ended::At(end) = file_lines::line_end(file, at) else {
             return;
         };
         put_point(&file[at..end], at, list, i * 6);
         at = end + 2;
-        i += 1;
     }
 }
 
 // The declaration of an accepted file: its points stored where the list has room for them, else 18.
-fn store(file: &[u8], list: &mut [u64]) -> DeclarationRead
+fn store(file: &[u8], list: &mut [u64]) -> Result<Declared, Refusal>
     ensures { StartTold (room_said (first_c 0 0 (lines_of file.now)) (length list.old)) list.old result list.new }
 {
-    let StartRead::At(start) = find(file) else {
-        return DeclarationRead::Is(Declared {
+    let Some(start) = find(file) else {
+        return Ok(Declared {
             head: no_head(),
             points: 0,
             line: 0,
@@ -203,22 +173,18 @@ fn store(file: &[u8], list: &mut [u64]) -> DeclarationRead
     let d = declared_at(&file[at..end], start.lines, at);
     let n = d.points;
     if list.len() / 6 < n {
-        return DeclarationRead::Refused(file_lines::unplaced(Reason::NoRoom));
+        return Err(file_lines::unplaced(Reason::NoRoom));
     }
     fill(file, end + 2, n, list);
-    DeclarationRead::Is(d)
+    Ok(d)
 }
 
 // The declaration of a file: what its head says, and six numbers of each of its points, from the list's front on, in the order of the lines: latitude, N or S, longitude, E or W, where its text starts in
 // the file and how many bytes that text has. A file without C lines has none: then all is zero, and the list stays. Refused with the usual check's refusal (no table is lent, so 15 is not met), then with
 // 18 where the list has fewer numbers than six for each point. No number is changed where refused, and numbers past the last point's stay.
-pub fn declaration(file: &[u8], list: &mut [u64]) -> DeclarationRead
+pub fn declaration(file: &[u8], list: &mut [u64]) -> Result<Declared, Refusal>
     ensures { FileDeclared file.now list.old result list.new }
 {
-    let checked = check_file::check_untabled(Seal::Usual, file);
-    let outcome = checked.outcome;
-    match outcome {
-        Outcome::Refused(why) => DeclarationRead::Refused(why),
-        Outcome::Accepted => store(file, list),
-    }
+    check_file::check_untabled(Seal::Usual, file).outcome?;
+    store(file, list)
 }

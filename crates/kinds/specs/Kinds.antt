@@ -1,18 +1,16 @@
 -- The kinds of the lines of a whole file, a byte for each: what is said of them, the list afterwards, and the promise.
-use Rattle.std.specs.Prelude.{ℕ, Bool, true, false, not, ◌&&◌, ◌||◌, cond, List, [], ◌∷◌, ◌++◌, ◌≡◌, eqb, leb, length, get_or, drop}
+use Rattle.rules.specs.declared.Refusal.{Refusal}
+use Rattle.std.specs.Prelude.{ℕ, Bool, true, false, not, ◌&&◌, ◌||◌, cond, List, [], ◌∷◌, ◌++◌, ◌≡◌, eqb, leb, length, get_or, drop, None, Result}
 use Prim.Native.Char.{code}
-use Rattle.std.proofs.Math.Option.{none}
 use Rattle.rules.specs.Choice.{need}
 use Rattle.rules.specs.Files.{verdict, over}
-use Rattle.rules.specs.Refusals.{Said, says, refuses, no, refusal, and_then}
+use Rattle.rules.specs.Refusals.{Said, says, refuses, no, refusal, and_then, result_told}
 use Rattle.rules.specs.Split.{Lines, end, broken, line, lines_of}
 use Rattle.rules.specs.declared.Flight.{Flight}
 use Rattle.rules.specs.declared.Reason.TheVariants.{NoRoom}
 use Rattle.rules.specs.declared.Seal.{Seal}
 use Rattle.rules.specs.declared.Seal.TheVariants as seal
 use Rattle.notes_rules.specs.Notes.{is_seal, sealed}
-use Rattle.kinds.specs.declared.Kinded.{Kinded}
-use Rattle.kinds.specs.declared.Kinded.TheVariants as kinded
 
 -- the usual check
 abbrev pub kinds_seal : Seal
@@ -50,7 +48,7 @@ kinds_in f room = need (leb f.lines room) (no NoRoom 0) λ _. says f.lines
 
 -- the file's own refusal first
 unfoldable pub kinds_said : List ℕ → ℕ → Said ℕ
-kinds_said file room = and_then (verdict kinds_seal file none) λ f. kinds_in f room
+kinds_said file room = and_then (verdict kinds_seal file None) λ f. kinds_in f room
 
 -- the bytes that are stored; none where refused
 abbrev pub bytes_in : List ℕ → Said ℕ → List ℕ
@@ -63,14 +61,11 @@ kinds_after file list = over (bytes_in file (kinds_said file (length list))) lis
 -- ---- the promises
 
 -- the answer, in the paper's terms
-unfoldable pub kinded_told : Kinded → Said ℕ
-kinded_told (kinded.Lines n) = says n
-kinded_told (kinded.Refused r) = refusal r
 
 -- the answer and the list afterwards, by what is said
-pub record KindsTold (file : List ℕ) (s : Said ℕ) (list : List ℕ) (r : Kinded) (after : List ℕ) : Type 0 where
-  pub told : kinded_told r ≡ s
+pub record KindsTold (file : List ℕ) (s : Said ℕ) (list : List ℕ) (r : Result ℕ Refusal) (after : List ℕ) : Type 0 where
+  pub told : result_told r ≡ s
   pub bytes : after ≡ over (bytes_in file s) list
 
-abbrev pub FileKinded : List ℕ → List ℕ → Kinded → List ℕ → Type 0
+abbrev pub FileKinded : List ℕ → List ℕ → Result ℕ Refusal → List ℕ → Type 0
 FileKinded file list r after = KindsTold file (kinds_said file (length list)) list r after

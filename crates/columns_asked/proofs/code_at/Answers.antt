@@ -1,5 +1,4 @@
 -- `columns_asked::code_at` meets its contract. Assumes nothing.
-use borrow.Author.Rules.{rules}
 use Rattle.columns_asked.proofs.Asking.{code_there}
 use Rattle.columns_asked.proofs.code_at.Goals as goal
 

@@ -1,9 +1,8 @@
 -- `columns_asked::comes_again` meets its contract: the codes from i on decide as all do. Assumes nothing.
-use Prim.Native.Nat.{◌-◌}
-use mathlib.Core.Path.{◌≡◌, sym, ap, ◌∙◌}
+use mathlib.Core.Path.{sym, ap, ◌∙◌}
 use borrow.Author.Rules.{rules}
-use Rattle.columns_asked.specs.Asks.{names_from, again}
-use Rattle.columns_asked.proofs.Asking.{rest, rest_all, again_here, again_next, again_end}
+use Rattle.columns_asked.specs.Asks.{again}
+use Rattle.columns_asked.proofs.Asking.{rest_all, again_here, again_next, again_end}
 use Rattle.columns_asked.proofs.comes_again.Goals as goal
 
 pub returns-then-is_among : goal.returns-then-is_among

@@ -1,9 +1,7 @@
 -- `columns_asked::is_among` meets its contract: the codes from j on decide as all from i on do. Assumes nothing.
-use Prim.Native.Nat.{◌-◌}
-use mathlib.Core.Path.{◌≡◌, sym, ◌∙◌}
+use mathlib.Core.Path.{sym, ◌∙◌}
 use borrow.Author.Rules.{rules}
-use Rattle.columns_asked.specs.Asks.{among}
-use Rattle.columns_asked.proofs.Asking.{rest, among_here, among_next, among_end}
+use Rattle.columns_asked.proofs.Asking.{among_here, among_next, among_end}
 use Rattle.columns_asked.proofs.is_among.Goals as goal
 
 pub returns-then-code_at-x : goal.returns-then-code_at-x

@@ -1,7 +1,6 @@
 -- `columns_asked::spots_of` meets its contract: what is left to be put from each code on gives all places. Assumes nothing.
-use Prim.Native.Nat.{◌-◌}
 use borrow.Author.Rules.{rules}
-use Rattle.columns_asked.proofs.Asking.{Spotting, spotting_first, spotting_none, spotting_next, spotting_last}
+use Rattle.columns_asked.proofs.Asking.{spotting_first, spotting_none, spotting_next, spotting_last}
 use Rattle.columns_asked.proofs.spots_of.Goals as goal
 
 pub returns-in_default : goal.returns-in_default
@@ -12,7 +11,7 @@ returns-in_default c =
 pub loop-i-preserved : goal.loop-i-preserved
 loop-i-preserved c =
     let a = c.args in
-    spotting_next a.codes.now a.n a.layout c.loop-i.spots c.loop-i.i c.loop-i.invariant _ c.code_at.ensures (search rules) _ c.look.ensures _ _ c.in-At.is
+    spotting_next a.codes.now a.n a.layout c.loop-i.spots c.loop-i.i c.loop-i.invariant _ c.code_at.ensures (search rules) _ c.look.ensures _ _ c.in-Some.is
 
 pub returns : goal.returns
 returns c = spotting_last _ _ _ _ _ c.loop-i.invariant (search rules)

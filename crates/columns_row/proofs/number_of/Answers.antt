@@ -1,10 +1,8 @@
 -- `columns_row::number_of` meets its contract. Assumes nothing.
-use borrow.Author.Rules.{rules}
-use Rattle.columns_row.proofs.Rows.{number_there, number_none}
+use mathlib.Core.Path.{ap, ◌∙◌}
+use Rattle.columns_row.specs.Cells.{marked}
+use Rattle.columns_row.proofs.Rows.{number_there}
 use Rattle.columns_row.proofs.number_of.Goals as goal
 
-pub returns-in-Of : goal.returns-in-Of
-returns-in-Of c = search (number_there, rules)
-
-pub returns-in-NoWhole : goal.returns-in-NoWhole
-returns-in-NoWhole c = search (number_none, rules)
+pub returns : goal.returns
+returns c = c.unwrap_or.ensures ∙ number_there c.whole.result ∙ ap marked c.whole.ensures

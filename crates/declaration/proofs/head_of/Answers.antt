@@ -1,10 +1,9 @@
 -- `declaration::head_of` meets its contract. Assumes nothing.
-use borrow.Author.Rules.{rules}
-use Rattle.declaration.proofs.Pointing.{head_there, head_none}
+use mathlib.Core.Path.{ap, ◌∙◌}
+use Rattle.std.specs.Result.{result_unwrap_or}
+use Rattle.rules.specs.declared.Head.{Head}
+use Rattle.declaration.proofs.Pointing.{or_said}
 use Rattle.declaration.proofs.head_of.Goals as goal
 
-pub returns-in-Is : goal.returns-in-Is
-returns-in-Is c = head_there _ _ c.head.ensures _ c.in-Is.is
-
-pub returns-in-Refused : goal.returns-in-Refused
-returns-in-Refused c = head_none _ _ c.head.ensures _ c.in-Refused.is _ c.no_head.ensures
+pub returns : goal.returns
+returns c = c.unwrap_or.ensures ∙ ap (λ (d : Head). result_unwrap_or c.head.result d) c.no_head.ensures ∙ or_said _ _ _ c.head.ensures

@@ -17,17 +17,5 @@ returns c = sym (marking_last c.loop-i.list c.loop-i.i c.args.to (omega arith)) 
 pub loop-i-init : goal.loop-i-init
 loop-i-init c = (refl, refl)
 
-pub bounds-list-i : goal.bounds-list-i
-bounds-list-i c = omega (arith, c.loop-i.invariant.0, c.requires)
-
-pub bounds-list-i-in-loop-i : goal.bounds-list-i-in-loop-i
-bounds-list-i-in-loop-i c = omega (arith, c.loop-i.invariant.0, c.requires)
-
-pub overflow_add-i : goal.overflow_add-i
-overflow_add-i c = omega arith
-
-pub loop-i-smaller : goal.loop-i-smaller
-loop-i-smaller c = omega arith
-
 pub shape_of-list : goal.shape_of-list
 shape_of-list c = c.loop-i.invariant.0

@@ -9,6 +9,3 @@ use Rattle.kinds.proofs.mark.Given as goal
 
 abbrev pub invariant-loop-i : goal.invariant-loop-i
 invariant-loop-i l = (length l.list ≡ length l.initial.list) × (marked_in l.list l.i l.to ≡ marked_in l.initial.list l.from l.to)
-
-abbrev pub decreases-loop-i : goal.decreases-loop-i
-decreases-loop-i l = l.to - l.i

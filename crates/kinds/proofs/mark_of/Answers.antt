@@ -5,5 +5,5 @@ use Rattle.kinds.proofs.mark_of.Goals as goal
 pub returns-then-letter-eq76 : goal.returns-then-letter-eq76
 returns-then-letter-eq76 c = rw (eq-eqb _ 76 c.if-letter-eq76.true)
 
-pub returns : goal.returns
-returns c = rw (ne_eqb _ 76 c.if-letter-eq76.false)
+pub returns-else-letter-eq76 : goal.returns-else-letter-eq76
+returns-else-letter-eq76 c = rw (ne_eqb _ 76 c.if-letter-eq76.false)
