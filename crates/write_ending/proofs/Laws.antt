@@ -1,4 +1,6 @@
 -- A line filled part by part into the part of an output that is lent, and a writer's ways out. Assumes nothing.
+use Rattle.rules.specs.declared.Refusal.{Refusal}
+use Rattle.std.specs.Prelude.{Ok, Result}
 use Prim.Native.Nat.{ℕ, zero, suc, ◌+◌, ◌-◌, ◌≤◌, ◌<◌}
 use mathlib.Core.Bool.{Bool, true, false, not}
 use mathlib.Core.List.{List, [], ◌∷◌, ◌++◌, append_assoc, append-nil}
@@ -8,12 +10,10 @@ use borrow.Author.Tests.{le-leb, lt-leb, not-true, not-false}
 use borrow.Rule.Slice.PartMut.{mid_of, put_mid}
 use lib.ListN.{length, take, drop, set, length-append, length-drop, drop_of_length-le}
 use lib.Seq.{sets, take_all}
-use Rattle.rules.specs.Refusals.{no}
-use Rattle.rules.specs.Writes.{crlf, written, out_after, wrote_told}
+use Rattle.rules.specs.Refusals.{no, result_told}
+use Rattle.rules.specs.Writes.{crlf, written, out_after}
 use Rattle.rules.specs.Promises.{Written}
 use Rattle.rules.specs.declared.Reason.TheVariants.{BadValue, NoRoom}
-use Rattle.rules.specs.declared.Wrote.{Wrote}
-use Rattle.rules.specs.declared.Wrote.TheVariants.{Next}
 use Rattle.byte_put.specs.Puts.{Fills}
 
 -- ---- a line that is filled part by part, and its end
@@ -44,24 +44,24 @@ lent l y a t h f =
 
 -- ---- a writer's ways out: b is what the test of the values said, n the length of the line with its CR LF
 
-module _ (good test : Bool) (text : List ℕ) (place : ℕ) (out : List ℕ) (r : Wrote) (b : Bool) (e : good ≡ test) (f : b ≡ test) where
-  pub bad : (after : List ℕ) → not b ≡ true → wrote_told r ≡ no BadValue 0 → after ≡ out → Written good text place out r after
+module _ (good test : Bool) (text : List ℕ) (place : ℕ) (out : List ℕ) (r : Result ℕ Refusal) (b : Bool) (e : good ≡ test) (f : b ≡ test) where
+  pub bad : (after : List ℕ) → not b ≡ true → result_told r ≡ no BadValue 0 → after ≡ out → Written good text place out r after
   unfolding written out_after
   bad after g w k =
       let t : good ≡ false = e ∙ sym f ∙ not-true b g in
       record { told = rw t w; bytes = rw t k }
 
   module _ (g : not b ≡ false) (n : ℕ) (h : length text + 2 ≡ n) where
-    pub short : (after : List ℕ) → length out < place + n → wrote_told r ≡ no NoRoom 0 → after ≡ out → Written good text place out r after
+    pub short : (after : List ℕ) → length out < place + n → result_told r ≡ no NoRoom 0 → after ≡ out → Written good text place out r after
     unfolding written out_after
     short after s w k =
         let t : good ≡ true = e ∙ sym f ∙ not-false b g in
         let q = lt-leb (place + length text + 2) (length out) (omega arith) in
         record { told = rw (t, q) w; bytes = rw (t, q) k }
 
-    pub done : (y : List ℕ) → place + n ≤ length out → r ≡ Next (place + n) → Fills (mid_of place (length out - place) out) 0 (text ++ crlf) y
+    pub done : (y : List ℕ) → place + n ≤ length out → r ≡ Ok (place + n) → Fills (mid_of place (length out - place) out) 0 (text ++ crlf) y
         → Written good text place out r (put_mid place (length out - place) out y)
-    unfolding written out_after wrote_told
+    unfolding written out_after result_told
     done y s w k =
         let t : good ≡ true = e ∙ sym f ∙ not-false b g in
         let q = le-leb (place + length text + 2) (length out) (omega arith) in

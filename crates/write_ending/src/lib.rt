@@ -3,7 +3,7 @@
 
 ghost use Rattle.write_ending.specs.Ends.{LineClosed, WriteRefused};
 
-use rules::{Reason, Refusal, Wrote};
+use rules::{Reason, Refusal};
 
 // The text behind a line's fields, and its CR LF. They have room there as a whole, or nothing changes.
 pub fn close(out: &mut [u8], at: usize, rest: &[u8])
@@ -17,10 +17,10 @@ pub fn close(out: &mut [u8], at: usize, rest: &[u8])
 }
 
 // The refusal of a writer: line 0, byte 0.
-pub fn refused(reason: Reason) -> Wrote
+pub fn refused(reason: Reason) -> Result<usize, Refusal>
     ensures { WriteRefused reason result }
 {
-    Wrote::Refused(Refusal {
+    Err(Refusal {
         reason,
         line: 0,
         byte: 0,

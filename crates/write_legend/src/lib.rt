@@ -9,7 +9,7 @@ ghost use Rattle.rules.specs.Promises.{LayoutWritten};
 ghost use Rattle.byte_put.specs.Puts.{Fills};
 ghost use Rattle.write_legend.specs.Spelling.{Spellable};
 
-use rules::{Entry, Family, Layout, Reason, Wrote};
+use rules::{Entry, Family, Layout, Reason, Refusal};
 use write_ending::refused;
 
 // The three characters of a code.
@@ -37,12 +37,8 @@ fn fill_entries(l: Layout, out: &mut [u8])
     requires { Spellable l }
     ensures { Fills out.old 3 (entry_texts (entries_of l)) out.new }
 {
-    let n = l.count;
-    let mut i = 0;
-    while i < n {
-        let e = l.entries[i];
-        fill_entry(e, out, 3 + 7 * i);
-        i += 1;
+    for i in 0..l.count {
+        fill_entry(l.entries[i], out, 3 + 7 * i);
     }
 }
 
@@ -60,17 +56,16 @@ fn fill_layout(family: Family, l: Layout, out: &mut [u8])
 
 // An I line of a layout for B lines, a J line of one for K lines or an M line of one for N lines, into an output from a place on; the place after its CR
 // LF. BadValue where no line tells the layout, NoRoom where the output is too short.
-pub fn layout(family: Family, l: Layout, out: &mut [u8], place: usize) -> Wrote
+pub fn layout(family: Family, l: Layout, out: &mut [u8], place: usize) -> Result<usize, Refusal>
     ensures { LayoutWritten family l place out.old result out.new }
 {
     if !layout::allowed(family, l) {
         return refused(Reason::BadValue);
     }
-    let count = l.count;
-    let n = 5 + 7 * count;
+    let n = 5 + 7 * l.count;
     if out.len() < place || out.len() - place < n {
         return refused(Reason::NoRoom);
     }
     fill_layout(family, l, &mut out[place..]);
-    Wrote::Next(place + n)
+    Ok(place + n)
 }

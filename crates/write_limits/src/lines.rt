@@ -9,61 +9,40 @@ use rules::{AtLimit, Extra, Family, Fix, FixFields, Head, Layout};
 use write_values::{is_altitude, is_clean, is_date, is_latitude, is_longitude, is_planned};
 
 // Whether the fields of a C head are within their limits.
+#[tactic(auto, unfolding(rules::specs::Limits::good_head_fields))]
 fn good_head_fields(h: Head) -> bool
     ensures { result ≡ good_head_fields h }
 {
-    if !is_date(h.declared) {
-        return false;
-    }
-    if 86400 < h.time {
-        return false;
-    }
-    let flight = h.flight;
-    if !is_planned(flight) {
-        return false;
-    }
-    if 9999 < h.task {
-        return false;
-    }
-    h.turns <= 99
+    is_date(h.declared)
+        && h.time <= 86400
+        && is_planned(h.flight)
+        && h.task <= 9999
+        && h.turns <= 99
 }
 
 // Whether some C head line reads as the head, with this text behind it.
+#[tactic(auto, unfolding(rules::specs::Limits::good_head))]
 pub fn good_head(h: Head, rest: &[u8]) -> bool
     ensures { HeadTest h rest.now result }
 {
-    if !good_head_fields(h) {
-        return false;
-    }
-    if 255 < 25 + rest.len() {
-        return false;
-    }
-    is_clean(rest)
+    good_head_fields(h) && 25 + rest.len() <= 255 && is_clean(rest)
 }
 
 // Whether the fields of a B line are within their limits.
+#[tactic(auto, unfolding(rules::specs::Limits::good_fix_fields))]
 fn good_fix_fields(f: FixFields) -> bool
     ensures { result ≡ good_fix_fields f }
 {
-    if 86400 < f.time {
-        return false;
-    }
-    if !is_latitude(f.lat) {
-        return false;
-    }
-    if !is_longitude(f.lon) {
-        return false;
-    }
-    if !byte_chars::is_either(f.validity, b'A', b'V') {
-        return false;
-    }
-    if !is_altitude(f.pressure) {
-        return false;
-    }
-    is_altitude(f.gnss)
+    f.time <= 86400
+        && is_latitude(f.lat)
+        && is_longitude(f.lon)
+        && byte_chars::is_either(f.validity, b'A', b'V')
+        && is_altitude(f.pressure)
+        && is_altitude(f.gnss)
 }
 
 // Whether some B line with this layout reads as the fix, with this tail. The decimals are looked at first, so that no power of ten is too great.
+#[tactic(auto, unfolding(rules::specs::Limits::good_fix, rules::specs::Choice::on))]
 pub fn good_fix(f: Fix, tail: &[u8], l: Layout) -> bool
     ensures { FixTest f tail.now l result }
 {
@@ -71,25 +50,19 @@ pub fn good_fix(f: Fix, tail: &[u8], l: Layout) -> bool
         return false;
     }
     let fields = fields_of(f);
-    if !good_fix_fields(fields) {
-        return false;
-    }
-    if !good_tail(Family::B, 36, tail, l, line_fix::at_limit(fields)) {
-        return false;
-    }
-    are_split(f, tail, line_finer::finer_of(l))
+    good_fix_fields(fields)
+        && good_tail(Family::B, 36, tail, l, line_fix::at_limit(fields))
+        && are_split(f, tail, line_finer::finer_of(l))
 }
 
 // Whether some K line with this layout reads as the time, with this tail; and whether some N line does, which is the same.
+#[tactic(auto, unfolding(rules::specs::Limits::good_extra))]
 pub fn good_extra(t: u32, tail: &[u8], l: Layout) -> bool
     ensures { ExtraTest t tail.now l result }
 {
-    if 86400 < t {
-        return false;
-    }
     let no_coordinates = AtLimit {
         lat: false,
         lon: false,
     };
-    good_tail(Family::Extra(Extra::K), 8, tail, l, no_coordinates)
+    t <= 86400 && good_tail(Family::Extra(Extra::K), 8, tail, l, no_coordinates)
 }

@@ -34,35 +34,25 @@ fn keeps_all(start: u8, tail: &[u8], l: Layout, at: AtLimit) -> bool
     requires { 1 ≤ start }
     ensures { result ≡ given (bad_tail at start tail.now l) true (λ _. false) }
 {
-    let n = l.count;
-    let mut i = 0;
-    while i < 13 {
-        if n <= i {
+    for i in 0..13 {
+        if l.count <= i {
             return true;
         }
-        let e = l.entries[i];
-        if !keeps(start, tail, e, at) {
+        if !keeps(start, tail, l.entries[i], at) {
             return false;
         }
-        i += 1;
     }
     true
 }
 
 // Whether a tail is what a layout of the family gives, whose first column starts at `start`, in a line that has these coordinates at their limits.
+#[tactic(auto, unfolding(rules::specs::Limits::good_tail))]
 pub(crate) fn good_tail(family: Family, start: u8, tail: &[u8], l: Layout, at: AtLimit) -> bool
     requires { (start ≡ first_start family) × (1 ≤ start) }
     ensures { result ≡ good_tail at start tail.now l }
 {
-    if !layout::allowed(family, l) {
-        return false;
-    }
-    let n = layout::line_length(family, l);
-    if (start as usize) - 1 + tail.len() != n as usize {
-        return false;
-    }
-    if !is_clean(tail) {
-        return false;
-    }
-    keeps_all(start, tail, l, at)
+    layout::allowed(family, l)
+        && (start as usize) - 1 + tail.len() == layout::line_length(family, l) as usize
+        && is_clean(tail)
+        && keeps_all(start, tail, l, at)
 }

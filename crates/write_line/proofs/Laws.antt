@@ -1,4 +1,6 @@
 -- How long the lines are; and a line's letter and a flight date, each put before what follows it. Assumes nothing.
+use Rattle.rules.specs.declared.Date.{Date}
+use Rattle.std.specs.Prelude.{Option}
 use Prim.Native.Nat.{ℕ, ◌+◌}
 use mathlib.Core.List.{List, [], ◌∷◌, ◌++◌}
 use mathlib.Core.Path.{◌≡◌}
@@ -8,7 +10,6 @@ use Rattle.rules.specs.Writes.{put_at, planned_text, head_text, extra_text, fiel
 use Rattle.rules.specs.declared.Extra.{Extra}
 use Rattle.rules.specs.declared.Fix.{Fix}
 use Rattle.rules.specs.declared.Head.{Head}
-use Rattle.rules.specs.declared.Planned.{Planned}
 use Rattle.rules.proofs.Texts.{digits_length, planned_length}
 use Rattle.byte_put.specs.Puts.{Fills}
 use Rattle.byte_put.proofs.Laws.{put_then, byte_then}
@@ -34,5 +35,5 @@ head_length h rest = simp (length-append, date_length, time_length, planned_leng
 pub letter_then : (x l l₁ : List ℕ) (b r : ℕ) (t : List ℕ) → r ≡ b → l₁ ≡ put_at l 0 (r ∷ []) → Fills l₁ 1 t x → Fills l 0 (b ∷ t) x
 letter_then x l l₁ b r t e p g = byte_then x l l₁ 0 b t (rw e at p) g
 
-pub planned_then : (x l l₁ : List ℕ) (at : ℕ) (f : Planned) (b : List ℕ) → l₁ ≡ put_at l at (planned_text f) → Fills l₁ (at + 6) b x → Fills l at (planned_text f ++ b) x
+pub planned_then : (x l l₁ : List ℕ) (at : ℕ) (f : Option Date) (b : List ℕ) → l₁ ≡ put_at l at (planned_text f) → Fills l₁ (at + 6) b x → Fills l at (planned_text f ++ b) x
 planned_then x l l₁ at f b e g = put_then x l l₁ at (planned_text f) b 6 (planned_length f) e g

@@ -5,7 +5,7 @@ ghost use Rattle.rules.specs.Promises.{FixWritten};
 ghost use Rattle.byte_put.specs.Puts.{Fills};
 ghost use Rattle.write_line.specs.Parts.{heights_text, place_text};
 
-use rules::{Fix, FixFields, Layout, Reason, Wrote};
+use rules::{Fix, FixFields, Layout, Reason, Refusal};
 use write_ending::{close, refused};
 
 // A fix's two altitudes, and the columns.
@@ -38,7 +38,7 @@ fn fill_fix(f: FixFields, tail: &[u8], out: &mut [u8])
 
 // A B line of a fix and its columns, the line's whole tail, into an output from a place on; the place after its CR LF. BadValue where no line with this
 // layout reads as the fix with that tail, NoRoom where the output is too short.
-pub fn fix(f: Fix, tail: &[u8], l: Layout, out: &mut [u8], place: usize) -> Wrote
+pub fn fix(f: Fix, tail: &[u8], l: Layout, out: &mut [u8], place: usize) -> Result<usize, Refusal>
     ensures { FixWritten f tail.now l place out.old result out.new }
 {
     if !write_limits::good_fix(f, tail, l) {
@@ -49,5 +49,5 @@ pub fn fix(f: Fix, tail: &[u8], l: Layout, out: &mut [u8], place: usize) -> Wrot
         return refused(Reason::NoRoom);
     }
     fill_fix(write_limits::fields_of(f), tail, &mut out[place..]);
-    Wrote::Next(place + n)
+    Ok(place + n)
 }

@@ -5,26 +5,24 @@ ghost use Rattle.rules.specs.Promises.{HeadWritten};
 ghost use Rattle.byte_put.specs.Puts.{Fills};
 ghost use Rattle.write_line.specs.Parts.{plan_text};
 
-use rules::{Head, Planned, Reason, Wrote};
+use rules::{Date, Head, Reason, Refusal};
 use write_ending::{close, refused};
 
 // A flight date: DDMMYY, or six zeros where it is not given.
-fn put_planned(out: &mut [u8], at: usize, f: Planned)
+fn put_planned(out: &mut [u8], at: usize, f: Option<Date>)
     ensures { out.new ≡ put_at out.old at (planned_text f) }
 {
-    let Planned::On(d) = f else {
-        byte_put::digits(out, at, 6, 0);
-        return;
-    };
-    write_fields::date(out, at, d);
+    match f {
+        Some(d) => write_fields::date(out, at, d),
+        None => byte_put::digits(out, at, 6, 0),
+    }
 }
 
 // What stands behind a head's date and time.
 fn fill_plan(h: Head, rest: &[u8], out: &mut [u8])
     ensures { Fills out.old 13 (plan_text h rest.now ++ crlf) out.new }
 {
-    let flight = h.flight;
-    put_planned(out, 13, flight);
+    put_planned(out, 13, h.flight);
     byte_put::digits(out, 19, 4, h.task as u64);
     byte_put::digits(out, 23, 2, h.turns as u64);
     close(out, 25, rest);
@@ -42,7 +40,7 @@ fn fill_head(h: Head, rest: &[u8], out: &mut [u8])
 
 // A C head line with the text behind its fields, into an output from a place on; the place after its CR LF. BadValue where no line reads as the head
 // with that text, NoRoom where the output is too short.
-pub fn head(h: Head, rest: &[u8], out: &mut [u8], place: usize) -> Wrote
+pub fn head(h: Head, rest: &[u8], out: &mut [u8], place: usize) -> Result<usize, Refusal>
     ensures { HeadWritten h rest.now place out.old result out.new }
 {
     if !write_limits::good_head(h, rest) {
@@ -53,5 +51,5 @@ pub fn head(h: Head, rest: &[u8], out: &mut [u8], place: usize) -> Wrote
         return refused(Reason::NoRoom);
     }
     fill_head(h, rest, &mut out[place..]);
-    Wrote::Next(place + n)
+    Ok(place + n)
 }

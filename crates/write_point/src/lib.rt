@@ -6,7 +6,7 @@ ghost use Rattle.rules.specs.Writes.{point_text, crlf};
 ghost use Rattle.rules.specs.Promises.{PointWritten};
 ghost use Rattle.byte_put.specs.Puts.{Fills};
 
-use rules::{Point, Reason, Wrote};
+use rules::{Point, Reason, Refusal};
 use write_ending::{close, refused};
 
 // A point's line and its CR LF, at the front of an output.
@@ -21,7 +21,7 @@ fn fill_point(p: Point, rest: &[u8], out: &mut [u8])
 
 // A C point line with the text behind its fields, into an output from a place on; the place after its CR LF. BadValue where no line reads as the point
 // with that text, NoRoom where the output is too short.
-pub fn point(p: Point, rest: &[u8], out: &mut [u8], place: usize) -> Wrote
+pub fn point(p: Point, rest: &[u8], out: &mut [u8], place: usize) -> Result<usize, Refusal>
     ensures { PointWritten p rest.now place out.old result out.new }
 {
     if !write_values::good_point(p, rest) {
@@ -32,5 +32,5 @@ pub fn point(p: Point, rest: &[u8], out: &mut [u8], place: usize) -> Wrote
         return refused(Reason::NoRoom);
     }
     fill_point(p, rest, &mut out[place..]);
-    Wrote::Next(place + n)
+    Ok(place + n)
 }

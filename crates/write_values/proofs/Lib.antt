@@ -1,3 +1,2 @@
--- Laws that the proofs share, and that each promise has one answer.
-pub mod Laws
+-- That each promise has one answer.
 pub mod Only

@@ -1,8 +1,8 @@
 -- One answer at most meets each promise of this crate. Assumes nothing.
+use Rattle.std.specs.Prelude.{Option}
 use Prim.Native.Nat.{ℕ}
 use mathlib.Core.List.{List}
 use Rattle.rules.specs.declared.Date.{Date}
-use Rattle.rules.specs.declared.Planned.{Planned}
 use Rattle.rules.specs.declared.Point.{Point}
 use Rattle.rules.specs.declared.Position.{Position}
 use Rattle.rules.specs.declared.Height.{Height}
@@ -15,7 +15,7 @@ only_clean_test text = same
 pub only_date_test : (d : Date) → Only (DateTest d)
 only_date_test d = same
 
-pub only_planned_test : (f : Planned) → Only (PlannedTest f)
+pub only_planned_test : (f : Option Date) → Only (PlannedTest f)
 only_planned_test f = same
 
 pub only_latitude_test : (p : Position) → Only (LatitudeTest p)

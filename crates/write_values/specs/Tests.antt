@@ -1,8 +1,7 @@
 -- The promises of the tests of one value: whether a field or a text of some line reads as it; and of a point with its text: whether some C point line does.
-use Rattle.std.specs.Prelude.{ℕ, Bool, List, ◌≡◌}
+use Rattle.std.specs.Prelude.{ℕ, Bool, List, ◌≡◌, Option}
 use Rattle.rules.specs.Degrees.{is_latitude, is_longitude}
 use Rattle.rules.specs.declared.Date.{Date}
-use Rattle.rules.specs.declared.Planned.{Planned}
 use Rattle.rules.specs.declared.Point.{Point}
 use Rattle.rules.specs.declared.Position.{Position}
 use Rattle.rules.specs.declared.Height.{Height}
@@ -14,7 +13,7 @@ CleanTest text r = r ≡ is_clean text
 abbrev pub DateTest : Date → Bool → Type 0
 DateTest d r = r ≡ is_date d
 
-abbrev pub PlannedTest : Planned → Bool → Type 0
+abbrev pub PlannedTest : Option Date → Bool → Type 0
 PlannedTest f r = r ≡ is_planned f
 
 abbrev pub LatitudeTest : Position → Bool → Type 0

@@ -5,56 +5,42 @@ ghost use Rattle.std.specs.Prelude.{◌≡◌};
 ghost use Rattle.rules.specs.Degrees.{is_position};
 ghost use Rattle.write_values.specs.Tests.{CleanTest, DateTest, PlannedTest, LatitudeTest, LongitudeTest, AltitudeTest, PointTest};
 
-use rules::{Date, Found, Height, Planned, Point, Position};
+use rules::{Date, Height, Point, Position};
 
 // Whether no character of a text is invalid outside H lines.
+#[tactic(auto, unfolding(rules::specs::Limits::is_clean))]
 pub fn is_clean(text: &[u8]) -> bool
     ensures { CleanTest text.now result }
 {
-    let Found::At(_) = byte_chars::first_invalid(false, text) else {
-        return true;
-    };
-    false
+    byte_chars::first_invalid(false, text).is_none()
 }
 
 // Whether a day exists, in a year of 1980 to 2079.
+#[tactic(auto, unfolding(rules::specs::Limits::is_date, rules::specs::Choice::on))]
 pub fn is_date(d: Date) -> bool
     ensures { DateTest d result }
 {
-    if d.year < 1980 {
-        return false;
-    }
-    if 2079 < d.year {
-        return false;
-    }
-    if d.day < 1 {
-        return false;
-    }
     let days = field_time::days_of(d.year, d.month as u64);
-    if days < d.day as u64 {
-        return false;
-    }
-    true
+    1980 <= d.year && d.year <= 2079 && 1 <= d.day && d.day as u64 <= days
 }
 
 // Whether a flight date is not given, or exists.
-pub fn is_planned(f: Planned) -> bool
+#[tactic(auto, unfolding(rules::specs::Limits::is_planned))]
+pub fn is_planned(f: Option<Date>) -> bool
     ensures { PlannedTest f result }
 {
-    let Planned::On(d) = f else {
-        return true;
-    };
-    is_date(d)
+    match f {
+        Some(d) => is_date(d),
+        None => true,
+    }
 }
 
 // Whether a count is `most` at most, and its letter one of two.
+#[tactic(auto, unfolding(rules::specs::Degrees::is_position))]
 fn is_position(p: Position, most: u64, a: u8, b: u8) -> bool
     ensures { result ≡ is_position most a b p }
 {
-    if most < p.count {
-        return false;
-    }
-    byte_chars::is_either(p.letter, a, b)
+    p.count <= most && byte_chars::is_either(p.letter, a, b)
 }
 
 // Whether a latitude is 5,400,000 at most, N or S.
@@ -72,28 +58,17 @@ pub fn is_longitude(p: Position) -> bool
 }
 
 // Whether an altitude is one of -9,999 to 99,999.
+#[tactic(auto, unfolding(rules::specs::Limits::is_altitude))]
 pub fn is_altitude(h: Height) -> bool
     ensures { AltitudeTest h result }
 {
-    let z = h.metres;
-    if z < -9999 {
-        return false;
-    }
-    z <= 99999
+    -9999 <= h.metres && h.metres <= 99999
 }
 
 // Whether some C point line reads as the point, with this text behind it.
+#[tactic(auto, unfolding(rules::specs::Limits::good_point))]
 pub fn good_point(p: Point, rest: &[u8]) -> bool
     ensures { PointTest p rest.now result }
 {
-    if !is_latitude(p.lat) {
-        return false;
-    }
-    if !is_longitude(p.lon) {
-        return false;
-    }
-    if 255 < 18 + rest.len() {
-        return false;
-    }
-    is_clean(rest)
+    is_latitude(p.lat) && is_longitude(p.lon) && 18 + rest.len() <= 255 && is_clean(rest)
 }

@@ -1,8 +1,8 @@
 -- `write_ending::refused` meets its contract. Assumes nothing.
+use Rattle.rules.specs.Refusals.{result_told}
 use mathlib.Core.Path.{refl}
-use Rattle.rules.specs.Writes.{wrote_told}
 use Rattle.write_ending.proofs.refused.Goals as goal
 
 pub returns : goal.returns
-unfolding wrote_told
+unfolding result_told
 returns c = refl

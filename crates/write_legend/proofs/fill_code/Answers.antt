@@ -1,5 +1,4 @@
 -- `write_legend::fill_code` meets its contract. Assumes nothing.
-use borrow.Author.Rules.{rules}
 use Rattle.byte_put.proofs.Laws.{puts}
 use Rattle.write_legend.proofs.fill_code.Goals as goal
 

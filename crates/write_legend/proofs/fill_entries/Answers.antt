@@ -1,18 +1,13 @@
 -- `write_legend::fill_entries` meets its contract: what stands there after i turns are the first i entries. Assumes nothing.
-use Prim.Native.Nat.{◌≤◌, ◌-◌}
-use mathlib.Core.Path.{◌≡◌, refl}
+use mathlib.Core.Path.{◌≡◌}
 use native.Mathlib.Omega.{arith}
-use borrow.Author.Rules.{rules}
-use lib.ListN.{length, take}
-use Rattle.rules.specs.Layouts.{entries_of}
-use Rattle.rules.specs.Writes.{entry_texts}
-use Rattle.byte_put.specs.Puts.{Fills}
+use lib.ListN.{length}
 use Rattle.layout_coded.proofs.Turns.{unmapped}
 use Rattle.write_legend.proofs.Entries.{entry_more, entries_none, entries_all}
 use Rattle.write_legend.proofs.fill_entries.Goals as goal
 
 pub loop-i-init : goal.loop-i-init
-loop-i-init c = (entries_none _, refl, search rules, refl)
+loop-i-init c = entries_none _
 
 pub bounds-l-i : goal.bounds-l-i
 bounds-l-i c = omega (arith, c.requires.few)
@@ -25,15 +20,8 @@ fill_entry-requires c =
 pub loop-i-preserved : goal.loop-i-preserved
 loop-i-preserved c =
     let few = c.requires.few in
-    let long : length c.args.l.entries ≡ 13 = search unmapped in (
-      entry_more _ _ _ c.args.l c.loop-i.i c.loop-i-test.true (omega (arith, long, few)) c.loop-i.invariant.0 c.fill_entry.ensures,
-      search rules,
-      search rules,
-      refl,
-    )
-
-pub shape_of-out : goal.shape_of-out
-shape_of-out c = c.loop-i.invariant.1
+    let long : length c.args.l.entries ≡ 13 = search unmapped in
+    entry_more _ _ _ c.args.l c.loop-i.i c.loop-i-test.true (omega (arith, long, few)) c.loop-i.invariant c.fill_entry.ensures
 
 pub returns : goal.returns
-returns c = entries_all _ _ c.args.l c.loop-i.i (omega arith) c.loop-i.invariant.0
+returns c = entries_all _ _ c.args.l c.loop-i.i (omega arith) c.loop-i.invariant

@@ -1,5 +1,4 @@
 -- `write_legend::fill_entry` meets its contract. Assumes nothing.
-use borrow.Author.Rules.{rules}
 use Rattle.rules.specs.Writes.{entry_text}
 use Rattle.byte_put.proofs.Laws.{puts}
 use Rattle.write_legend.proofs.fill_entry.Goals as goal

@@ -1,7 +1,6 @@
 -- `write_legend::fill_layout` meets its contract. Assumes nothing.
 use mathlib.Core.Path.{◌≡◌}
 use native.Mathlib.Omega.{arith}
-use borrow.Author.Rules.{rules}
 use lib.ListN.{length}
 use Rattle.layout_coded.proofs.Turns.{unmapped}
 use Rattle.write_legend.proofs.Entries.{layout_filled}

@@ -1,9 +1,7 @@
 -- `write_legend::layout` meets its contract. Assumes nothing.
 use Prim.Native.Nat.{◌≤◌}
-use mathlib.Core.Logic.{⊎_elim}
 use mathlib.Core.Path.{◌≡◌, refl, sym, ◌∙◌}
 use native.Mathlib.Omega.{arith}
-use borrow.Author.Rules.{rules}
 use borrow.Author.Tests.{ltb-true, ltb-false, not-false}
 use lib.ListN.{length}
 use Rattle.write_legend.proofs.layout.Goals.{then-out-place-via-then-out-place, then-out-place-via-else-out-place+then-out-place-2}

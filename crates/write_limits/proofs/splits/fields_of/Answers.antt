@@ -1,6 +1,5 @@
 -- `write_limits::splits::fields_of` meets its contract: field by field. Assumes nothing.
 use native.Mathlib.Omega.{arith}
-use borrow.Author.Rules.{rules}
 use Rattle.rules.specs.Fixes.{fields_of}
 use Rattle.write_limits.proofs.Laws.{plain_below}
 use Rattle.write_limits.proofs.splits.fields_of.Goals as goal

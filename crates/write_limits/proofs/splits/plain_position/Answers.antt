@@ -1,5 +1,4 @@
 -- `write_limits::splits::plain_position` meets its contract. Assumes nothing.
-use borrow.Author.Rules.{rules}
 use Rattle.rules.specs.Fixes.{plain_position}
 use Rattle.write_limits.proofs.splits.plain_position.Goals as goal
 

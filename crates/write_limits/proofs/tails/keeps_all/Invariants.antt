@@ -1,18 +1,15 @@
 -- `write_limits::tails::keeps_all` meets its contract: the entries from i on decide as all do. Assumes nothing.
-use Prim.Native.Nat.{ℕ, ◌≤◌, ◌-◌, ◌+◌}
+use Prim.Native.Nat.{ℕ, ◌-◌, ◌+◌}
 use mathlib.Core.Bool.{Bool, not}
 use mathlib.Core.List.{List}
-use mathlib.Core.Path.{◌≡◌, refl, sym, ◌∙◌, ap}
-use borrow.Author.Rules.{rules}
-use lib.ListN.{length, drop}
+use mathlib.Core.Path.{◌≡◌}
+use lib.ListN.{drop}
 use Rattle.rules.specs.Choice.{first_of, part}
 use Rattle.rules.specs.Listed.{keeps_limit}
 use Rattle.rules.specs.Layouts.{entries_of}
 use Rattle.rules.specs.declared.AtLimit.{AtLimit}
 use Rattle.rules.specs.declared.Entry.{Entry}
-use Rattle.layout_coded.proofs.Turns.{unmapped, entry_hit, entry_miss, entry_past, entry_end}
 use Rattle.rules.specs.Limits.{bad_tail}
-use Rattle.write_limits.proofs.Laws.{none_breaks, one_breaks}
 use Rattle.write_limits.proofs.tails.keeps_all.Given as goal
 
 abbrev pub breaking : AtLimit → ℕ → List ℕ → Entry → Bool
@@ -22,7 +19,4 @@ abbrev pub first : ℕ → Entry → ℕ
 first k e = e.first
 
 abbrev pub invariant-loop-i : goal.invariant-loop-i
-invariant-loop-i l = (l.i ≤ 13) × (l.n ≡ l.l.count) × (first_of (breaking l.at l.start l.tail) first (drop l.i (entries_of l.l)) l.i ≡ bad_tail l.at l.start l.tail l.l)
-
-abbrev pub decreases-loop-i : goal.decreases-loop-i
-decreases-loop-i l = 13 - l.i
+invariant-loop-i l = first_of (breaking l.at l.start l.tail) first (drop l.i (entries_of l.l)) l.i ≡ bad_tail l.at l.start l.tail l.l

@@ -1,8 +1,6 @@
 -- `write_line::extras::extra` meets its contract. Assumes nothing.
-use mathlib.Core.Logic.{⊎_elim}
 use mathlib.Core.Path.{refl}
 use native.Mathlib.Omega.{arith}
-use borrow.Author.Rules.{rules}
 use borrow.Author.Tests.{ltb-true, ltb-false}
 use Rattle.write_line.proofs.extras.extra.Goals.{then-out-place-via-then-out-place, then-out-place-via-else-out-place+then-out-place-2}
 use Rattle.rules_trips.proofs.Extras.{extra_good}

@@ -1,5 +1,4 @@
 -- `write_line::extras::fill_extra` meets its contract. Assumes nothing.
-use borrow.Author.Rules.{rules}
 use Rattle.rules.specs.Writes.{extra_text}
 use Rattle.write_fields.proofs.Laws.{fields}
 use Rattle.write_ending.proofs.Laws.{regroup}

@@ -1,5 +1,4 @@
 -- `write_line::fixes::fill_fix` meets its contract. Assumes nothing.
-use borrow.Author.Rules.{rules}
 use Rattle.rules.specs.Writes.{fields_text}
 use Rattle.write_fields.proofs.Laws.{fields}
 use Rattle.write_ending.proofs.Laws.{regroup}

@@ -1,5 +1,4 @@
 -- `write_line::fixes::fill_place` meets its contract. Assumes nothing.
-use borrow.Author.Rules.{rules}
 use Rattle.write_fields.proofs.Laws.{fields}
 use Rattle.write_ending.proofs.Laws.{regroup}
 use Rattle.write_line.proofs.fixes.fill_place.Goals as goal

@@ -1,5 +1,4 @@
 -- `write_line::heads::fill_plan` meets its contract. Assumes nothing.
-use borrow.Author.Rules.{rules}
 use Rattle.byte_put.proofs.Laws.{puts}
 use Rattle.write_ending.proofs.Laws.{regroup}
 use Rattle.write_line.proofs.Laws.{planned_then}

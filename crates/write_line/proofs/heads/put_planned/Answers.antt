@@ -1,12 +1,11 @@
 -- `write_line::heads::put_planned` meets its contract. Assumes nothing.
-use borrow.Author.Rules.{rules}
 use Rattle.rules.specs.Writes.{planned_text}
 use Rattle.write_line.proofs.heads.put_planned.Goals as goal
 
-pub returns-in_default : goal.returns-in_default
+pub returns-in-Some : goal.returns-in-Some
 unfolding planned_text
-returns-in_default c = rw c.in_default.is c.digits.ensures
+returns-in-Some c = rw c.in-Some.is c.date.ensures
 
-pub returns : goal.returns
+pub returns-in-None : goal.returns-in-None
 unfolding planned_text
-returns c = rw c.in-On.is c.date.ensures
+returns-in-None c = rw c.in-None.is c.digits.ensures
