@@ -5,39 +5,26 @@ ghost use Rattle.std.specs.Prelude.{◌<◌, ◌≡◌};
 ghost use Rattle.shelf_rules.specs.Contents.{one_kept, two_kept, slot_sound};
 ghost use Rattle.shelf_contents.specs.Questions.{SoundTest, EntryFound};
 
-use rules::Found;
 use shelf_rules::Slot;
 
 // Whether an entry keeps the rules for one entry, in a buffer of `room` bytes.
+#[tactic(auto, unfolding(shelf_rules::specs::Contents::one_kept))]
 fn one_kept(s: Slot, room: usize) -> bool
     ensures { result ≡ one_kept room s }
 {
     if s.number == 0 {
-        if s.start != 0 {
-            return false;
-        }
-        return s.size == 0;
+        return s.start == 0 && s.size == 0;
     }
-    if s.size < 1 {
-        return false;
-    }
-    if s.start < 768 {
-        return false;
-    }
-    s.start as usize + s.size as usize <= room
+    1 <= s.size && 768 <= s.start && s.start as usize + s.size as usize <= room
 }
 
 // Whether two entries keep the rules for two entries.
+#[tactic(auto, unfolding(shelf_rules::specs::Contents::two_kept))]
 fn two_kept(s: Slot, t: Slot) -> bool
     ensures { result ≡ two_kept s t }
 {
-    if !shelf_slot::is_clear(s.start as usize, s.size as usize, t) {
-        return false;
-    }
-    if s.number == 0 {
-        return true;
-    }
-    s.number != t.number
+    shelf_slot::is_clear(s.start as usize, s.size as usize, t)
+        && (s.number == 0 || s.number != t.number)
 }
 
 // Whether the entry n keeps the rules, alone and with those before it.
@@ -49,12 +36,10 @@ fn slot_sound(b: &[u8], n: usize) -> bool
     if !one_kept(s, b.len()) {
         return false;
     }
-    let mut m = 0;
-    while m < n {
+    for m in 0..n {
         if !two_kept(s, shelf_slot::slot_at(b, m)) {
             return false;
         }
-        m += 1;
     }
     true
 }
@@ -63,33 +48,25 @@ fn slot_sound(b: &[u8], n: usize) -> bool
 pub fn is_sound(b: &[u8]) -> bool
     ensures { SoundTest b.now result }
 {
-    if b.len() < 768 {
+    if b.len() < 768 || 16777216 < b.len() {
         return false;
     }
-    if 16777216 < b.len() {
-        return false;
-    }
-    let mut n = 0;
-    while n < 64 {
+    for n in 0..64 {
         if !slot_sound(b, n) {
             return false;
         }
-        n += 1;
     }
     true
 }
 
 // The first entry with a flight number; with 0, the first free entry. Nothing, where no entry has it.
-pub fn entry_of(b: &[u8], number: u32) -> Found
+pub fn entry_of(b: &[u8], number: u32) -> Option<usize>
     ensures { EntryFound b.now number result }
 {
-    let mut n = 0;
-    while n < 64 {
-        let s = shelf_slot::slot_at(b, n);
-        if s.number == number {
-            return Found::At(n);
+    for n in 0..64 {
+        if shelf_slot::slot_at(b, n).number == number {
+            return Some(n);
         }
-        n += 1;
     }
-    Found::Nothing
+    None
 }

@@ -1,8 +1,6 @@
 -- The promise of the search for a free run.
-use Rattle.std.specs.Prelude.{ℕ, List, ◌≡◌}
-use Rattle.rules.specs.Promises.{found_told}
-use Rattle.rules.specs.declared.Found.{Found}
+use Rattle.std.specs.Prelude.{ℕ, List, ◌≡◌, Option}
 use Rattle.shelf_rules.specs.Shelf.{place_for}
 
-abbrev pub PlaceFound : List ℕ → ℕ → Found → Type 0
-PlaceFound b size r = found_told r ≡ place_for b size
+abbrev pub PlaceFound : List ℕ → ℕ → Option ℕ → Type 0
+PlaceFound b size r = r ≡ place_for b size

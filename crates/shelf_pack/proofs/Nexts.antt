@@ -1,4 +1,5 @@
 -- The body that starts next, one entry more; a body moved; a turn of the packing; and the two ways out of the call. Assumes nothing.
+use Rattle.std.specs.Prelude.{Err, None, Ok, Option, Some}
 use Prim.Native.Nat.{ℕ, ◌+◌, ◌*◌, ◌≤◌, ◌<◌}
 use mathlib.Core.Bool.{Bool, true, false, not}
 use mathlib.Core.List.{List}
@@ -7,11 +8,8 @@ use native.Mathlib.Omega.{arith}
 use borrow.Author.Tests.{le-leb}
 use lib.ListN.{length}
 use lib.Seq.{sets, length-sets}
-use Rattle.rules.specs.Refusals.{outcome_told}
+use Rattle.rules.specs.Refusals.{result_told}
 use Rattle.rules.specs.Writes.{put_at}
-use Rattle.rules.specs.declared.Found.{Found}
-use Rattle.rules.specs.declared.Found.TheVariants as found
-use Rattle.rules.specs.declared.Outcome.TheVariants as outcome
 use Rattle.rules.specs.declared.Reason.TheVariants as reason
 use Rattle.rules.specs.declared.Refusal.{Refusal}
 use Rattle.file_lines.specs.Ends.{unplaced}
@@ -36,33 +34,33 @@ size_is b n s e = ap (λ (t : Slot). t.size) e
 
 -- ---- what was found, by its case
 
-pub next_at : (b : List ℕ) (from k m : ℕ) (r : Found) → r ≡ found.At m → NextOf b from k r → NextOf b from k (found.At m)
+pub next_at : (b : List ℕ) (from k m : ℕ) (r : Option ℕ) → r ≡ Some m → NextOf b from k r → NextOf b from k (Some m)
 next_at b from k m r e x = rw e at x
 
-pub next_nothing : (b : List ℕ) (from k : ℕ) (r : Found) → r ≡ found.Nothing → NextOf b from k r → NextOf b from k found.Nothing
+pub next_nothing : (b : List ℕ) (from k : ℕ) (r : Option ℕ) → r ≡ None → NextOf b from k r → NextOf b from k None
 next_nothing b from k r e x = rw e at x
 
 -- ---- one entry more
 
 module _ (b : List ℕ) (from n : ℕ) where
-  pub next_skip : (best : Found) → start_of b n < from → NextOf b from n best → NextOf b from (n + 1) best
-  next_skip (found.At m) h x =
+  pub next_skip : (best : Option ℕ) → start_of b n < from → NextOf b from n best → NextOf b from (n + 1) best
+  next_skip (Some m) h x =
       (let y = x.0 in omega arith, x.1, λ k p g. by_eq k n (λ e. let w : from ≤ start_of b n = rw e at g in absurd (omega arith)) (λ d. x.2 k (omega arith) g))
-  next_skip found.Nothing h x = λ k p. by_eq k n (λ e. rw e h) (λ d. x k (omega arith))
+  next_skip None h x = λ k p. by_eq k n (λ e. rw e h) (λ d. x k (omega arith))
 
-  pub next_old : (m : ℕ) → start_of b m ≤ start_of b n → NextOf b from n (found.At m) → NextOf b from (n + 1) (found.At m)
+  pub next_old : (m : ℕ) → start_of b m ≤ start_of b n → NextOf b from n (Some m) → NextOf b from (n + 1) (Some m)
   next_old m h x = (let y = x.0 in omega arith, x.1, λ k p g. by_eq k n (λ e. rw e h) (λ d. x.2 k (omega arith) g))
 
-  pub next_new : (m : ℕ) → from ≤ start_of b n → start_of b n < start_of b m → NextOf b from n (found.At m) → NextOf b from (n + 1) (found.At n)
+  pub next_new : (m : ℕ) → from ≤ start_of b n → start_of b n < start_of b m → NextOf b from n (Some m) → NextOf b from (n + 1) (Some n)
   next_new m f h x = (omega arith, f, λ k p g. by_eq k n (λ e. rw e (omega arith)) (λ d. let y = x.2 k (omega arith) g in omega arith))
 
-  pub next_one : from ≤ start_of b n → NextOf b from n found.Nothing → NextOf b from (n + 1) (found.At n)
+  pub next_one : from ≤ start_of b n → NextOf b from n None → NextOf b from (n + 1) (Some n)
   next_one f x = (omega arith, f, λ k p g. by_eq k n (λ e. rw e (omega arith)) (λ d. let y = x k (omega arith) in absurd (omega arith)))
 
-  pub next_none : NextOf b from 0 found.Nothing
+  pub next_none : NextOf b from 0 None
   next_none k p = absurd (omega arith)
 
-  pub next_all : (best : Found) → n ≡ 64 → NextOf b from n best → NextOf b from 64 best
+  pub next_all : (best : Option ℕ) → n ≡ 64 → NextOf b from n best → NextOf b from 64 best
   next_all best e x = rw e at x
 
 -- ---- a body moved, and its start put
@@ -87,7 +85,7 @@ pub record Turn (o : List ℕ) (at from : ℕ) (b : List ℕ) (n : ℕ) : Type 0
   pub most_room : length o ≤ 16777216
   pub ahead : from < start_of b n + size_of b n
 
-module _ (o : List ℕ) (at from : ℕ) (b : List ℕ) (n : ℕ) (r : Found) (e : sound o ≡ true) (k : Mid o at from b) (f : r ≡ found.At n) (x : NextOf b from 64 r) where
+module _ (o : List ℕ) (at from : ℕ) (b : List ℕ) (n : ℕ) (r : Option ℕ) (e : sound o ≡ true) (k : Mid o at from b) (f : r ≡ Some n) (x : NextOf b from 64 r) where
   pub turn : Turn o at from b n
   turn =
       let s = sound_read o e in
@@ -111,14 +109,14 @@ module _ (o : List ℕ) (at from : ℕ) (b : List ℕ) (n : ℕ) (r : Found) (e 
       let v = size_is b n s w.0 in
       rw w.1 (mid_move o at from b n (sound_read o e) k (next_at b from 64 n r f x) a u (omega arith) (omega arith))
 
-pub turns_end : (o : List ℕ) (at from : ℕ) (b : List ℕ) (r : Found) → sound o ≡ true → Mid o at from b → r ≡ found.Nothing → NextOf b from 64 r → Packed o b
+pub turns_end : (o : List ℕ) (at from : ℕ) (b : List ℕ) (r : Option ℕ) → sound o ≡ true → Mid o at from b → r ≡ None → NextOf b from 64 r → Packed o b
 turns_end o at from b r e k f x = mid_last o at from b (sound_read o e) k (next_nothing b from 64 r f x)
 
 -- ---- the two ways out of the call
 
 -- "the shelf is changed by none of them", the refusals
-pub pack_refused : (b : List ℕ) (t : Bool) (r : Refusal) → t ≡ sound b → not t ≡ true → r ≡ unplaced reason.Shelf → ShelfPacked b (outcome.Refused r) b
-unfolding outcome_told
+pub pack_refused : (b : List ℕ) (t : Bool) (r : Refusal) → t ≡ sound b → not t ≡ true → r ≡ unplaced reason.Shelf → ShelfPacked b (Err r) b
+unfolding result_told
 pack_refused b t r e g h =
     let f = not_not (sound b) t e g in
     record {
@@ -126,8 +124,8 @@ pack_refused b t r e g h =
       bytes = record { packed = λ w. let z : ◌≡◌ {A = ℕ} 0 1 = let v = rw f at w in cc in absurd (omega arith); refused = λ w. refl };
     }
 
-pub pack_done : (b : List ℕ) (t : Bool) (after : List ℕ) → t ≡ sound b → not t ≡ false → Packed b after → ShelfPacked b outcome.Accepted after
-unfolding outcome_told
+pub pack_done : (b : List ℕ) (t : Bool) (after : List ℕ) → t ≡ sound b → not t ≡ false → Packed b after → ShelfPacked b (Ok tt) after
+unfolding result_told
 pack_done b t after e g h =
     let f = not_so (sound b) t e g in
     record { told = rw f; bytes = record { packed = λ w. h; refused = λ w. absurd (w (rw f)) } }

@@ -8,7 +8,7 @@ use lib.ListN.{get_or, drop}
 use lib.Seq.{get_or-take, get_or-drop, ext_get_or}
 use Rattle.rules.specs.Refusals.{says}
 use Rattle.rules.proofs.Inverse.{by_bool}
-use Rattle.rules_only.proofs.Told.{outcome_one}
+use Rattle.rules_only.proofs.Told.{result_one}
 use Rattle.rules_only.proofs.Only.{OnlyBoth, alike}
 use Rattle.shelf_rules.specs.Contents.{number_of, size_of, sound}
 use Rattle.shelf_rules.specs.Packing.{pack_said, packed_start, Untouched, Packed, PackedOrSame}
@@ -64,4 +64,4 @@ only_packed_or_same b c c' w w' =
     w.refused no ∙ sym (w'.refused no))
 
 pub only_shelf_packed : (b : List ℕ) → OnlyBoth (ShelfPacked b)
-only_shelf_packed b r r' after after' w w' = (alike outcome_one r r' w.told w'.told, only_packed_or_same b after after' w.bytes w'.bytes)
+only_shelf_packed b r r' after after' w w' = (alike result_one r r' w.told w'.told, only_packed_or_same b after after' w.bytes w'.bytes)

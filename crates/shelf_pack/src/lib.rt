@@ -7,11 +7,11 @@ ghost use Rattle.shelf_rules.specs.Moves.{NextOf, moved_to};
 ghost use Rattle.shelf_rules.specs.Packing.{Packed};
 ghost use Rattle.shelf_pack.specs.Pack.{ShelfPacked};
 
-use rules::{Found, Outcome, Reason};
+use rules::{Reason, Refusal};
 use shelf_rules::Slot;
 
 // Of the first n + 1 entries, the one that starts least from a place on, told that of the first n.
-fn nearer(shelf: &[u8], from: usize, best: Found, n: usize) -> Found
+fn nearer(shelf: &[u8], from: usize, best: Option<usize>, n: usize) -> Option<usize>
     requires { NextOf shelf.now from n best }
     ensures { NextOf shelf.now from (n + 1) result }
 {
@@ -20,25 +20,18 @@ fn nearer(shelf: &[u8], from: usize, best: Found, n: usize) -> Found
         return best;
     }
     match best {
-        Found::At(m) => {
-            if shelf_slot::slot_at(shelf, m).start as usize <= start {
-                return Found::At(m);
-            }
-            Found::At(n)
-        }
-        Found::Nothing => Found::At(n),
+        Some(m) if shelf_slot::slot_at(shelf, m).start as usize <= start => best,
+        _ => Some(n),
     }
 }
 
 // The entry that starts least from a place on.
-fn next(shelf: &[u8], from: usize) -> Found
+fn next(shelf: &[u8], from: usize) -> Option<usize>
     ensures { NextOf shelf.now from 64 result }
 {
-    let mut best = Found::Nothing;
-    let mut n = 0;
-    while n < 64 {
+    let mut best = None;
+    for n in 0..64 {
         best = nearer(shelf, from, best, n);
-        n += 1;
     }
     best
 }
@@ -61,10 +54,7 @@ fn pack_sound(shelf: &mut [u8])
 {
     let mut at = 768;
     let mut from = 768;
-    loop {
-        let Found::At(n) = next(shelf, from) else {
-            return;
-        };
+    while let Some(n) = next(shelf, from) {
         let s = move_to(shelf, n, at);
         at += s.size as usize;
         from = s.start as usize + s.size as usize;
@@ -73,12 +63,12 @@ fn pack_sound(shelf: &mut [u8])
 
 // A shelf packed: its bodies moved to the front in order of start, without gaps, their starts told anew, and no other byte changed. Refused with 27 where the buffer breaks the rules of a
 // shelf, and then nothing changes.
-pub fn pack(shelf: &mut [u8]) -> Outcome
+pub fn pack(shelf: &mut [u8]) -> Result<(), Refusal>
     ensures { ShelfPacked shelf.old result shelf.new }
 {
     if !shelf_contents::is_sound(shelf) {
-        return Outcome::Refused(file_lines::unplaced(Reason::Shelf));
+        return Err(file_lines::unplaced(Reason::Shelf));
     }
     pack_sound(shelf);
-    Outcome::Accepted
+    Ok(())
 }

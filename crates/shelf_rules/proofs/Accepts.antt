@@ -1,8 +1,8 @@
 -- What it means that a call is accepted. Assumes nothing.
+use Rattle.std.specs.Prelude.{None, Some}
 use Prim.Native.Nat.{ℕ, ◌≤◌, ◌<◌}
 use mathlib.Core.Bool.{true, false, not}
 use mathlib.Core.List.{List}
-use mathlib.Core.Option.{none, some}
 use mathlib.Core.Path.{◌≡◌, ap}
 use native.Mathlib.Omega.{arith}
 use borrow.Author.Tests.{eqb-true, eqb-false, not-true}
@@ -15,19 +15,20 @@ use Rattle.rules.specs.declared.Flight.{Flight}
 use Rattle.rules.specs.declared.Reason.TheVariants as reason
 use Rattle.rules.proofs.Inverse.{false_true, refuses_says, and_inv, need_inv, given_inv, given_none, then_inv}
 use Rattle.shelf_rules.specs.Contents.{sound, number_of, Sound}
-use Rattle.shelf_rules.specs.Shelf.{usable, entry_of, place_for, held_at, Spot, spot_for, add_said, shelf_seal}
+use Rattle.shelf_rules.specs.declared.Spot.{Spot}
+use Rattle.shelf_rules.specs.Shelf.{usable, entry_of, place_for, held_at, spot_for, add_said, shelf_seal}
 use Rattle.shelf_rules.proofs.Ranges.{least_some, least_none}
 use Rattle.shelf_rules.proofs.Sounds.{sound_read}
 use Rattle.shelf_rules.proofs.Places.{Fits, place_smallest}
 
 -- an entry by its number
-pub entry_is : (b : List ℕ) (number n : ℕ) → entry_of b number ≡ some n → (n < 64) × (number_of b n ≡ number)
+pub entry_is : (b : List ℕ) (number n : ℕ) → entry_of b number ≡ Some n → (n < 64) × (number_of b n ≡ number)
 unfolding entry_of
 entry_is b number n e =
     let l = least_some (λ m. eqb (number_of b m) number) 0 64 n e in
     (l.high, eqb-true (number_of b n) number l.passes)
 
-pub entry_none : (b : List ℕ) (number : ℕ) → entry_of b number ≡ none → (n : ℕ) → n < 64 → number_of b n ≡ number → ⊥
+pub entry_none : (b : List ℕ) (number : ℕ) → entry_of b number ≡ None → (n : ℕ) → n < 64 → number_of b n ≡ number → ⊥
 unfolding entry_of
 entry_none b number e n p = eqb-false (number_of b n) number (least_none (λ m. eqb (number_of b m) number) 0 64 e n (omega arith) p)
 
@@ -85,12 +86,12 @@ spotted b number size s e =
 pub record Adds (b : List ℕ) (number : ℕ) (file : List ℕ) (k at : ℕ) : Type 0 where
   pub sound_shelf : Sound b
   pub flight : Flight
-  pub checked : verdict shelf_seal file none ≡ says flight
+  pub checked : verdict shelf_seal file None ≡ says flight
   pub spot : Spotted b number (length file) k at
 
 pub adds : (b : List ℕ) (number : ℕ) (file : List ℕ) (s : Spot) → add_said b number file ≡ says s → Adds b number file s.entry s.start
 unfolding add_said
 adds b number file s e =
-    let p = need_inv (sound b) (no reason.Shelf 0) (says s) (λ _. and_then (verdict shelf_seal file none) λ _. spot_for b number (length file)) refuses_says e in
-    let v = then_inv (verdict shelf_seal file none) s (λ _. spot_for b number (length file)) p.1 in
+    let p = need_inv (sound b) (no reason.Shelf 0) (says s) (λ _. and_then (verdict shelf_seal file None) λ _. spot_for b number (length file)) refuses_says e in
+    let v = then_inv (verdict shelf_seal file None) s (λ _. spot_for b number (length file)) p.1 in
     record { sound_shelf = sound_read b p.0; flight = v.0; checked = v.1; spot = spotted b number (length file) s v.2 }

@@ -1,11 +1,11 @@
 -- Packing, one body at a time: what holds between two moves, from the first to the last. Assumes nothing.
+use Rattle.std.specs.Prelude.{None, Some}
 use Prim.Native.Nat.{ℕ, ◌+◌, ◌*◌, ◌≤◌, ◌<◌}
 use mathlib.Core.List.{List}
 use mathlib.Core.Logic.{◌⊎◌, inl, inr, ⊎_elim}
 use mathlib.Core.Path.{◌≡◌, refl, sym, ◌∙◌}
 use native.Mathlib.Omega.{arith}
 use lib.ListN.{length, get_or}
-use Rattle.rules.specs.declared.Found.TheVariants as found
 use Rattle.shelf_rules.specs.Contents.{word_bytes, number_of, start_of, size_of, body_of, Sound}
 use Rattle.shelf_rules.specs.Packing.{before, packed_start, Untouched, Packed}
 use Rattle.shelf_rules.specs.Moves.{moved_to, NextOf}
@@ -86,7 +86,7 @@ module _ (o : List ℕ) (at from : ℕ) (b : List ℕ) (s : Sound o) (k : Mid o 
 
 -- ---- a move
 
-module _ (o : List ℕ) (at from : ℕ) (b : List ℕ) (n : ℕ) (s : Sound o) (k : Mid o at from b) (x : NextOf b from 64 (found.At n)) where
+module _ (o : List ℕ) (at from : ℕ) (b : List ℕ) (n : ℕ) (s : Sound o) (k : Mid o at from b) (x : NextOf b from 64 (Some n)) where
   -- the entry is used, and its body was not moved yet
   next_used : number_of o n ≡ 0 → ⊥
   next_used z = let f = start_free o at from b s k n x.0 z in let g = k.low in let h = k.order in let y = x.1 in omega arith
@@ -215,7 +215,7 @@ module _ (o : List ℕ) (at from : ℕ) (b : List ℕ) (n : ℕ) (s : Sound o) (
 
 -- ---- after the last move
 
-pub mid_last : (o : List ℕ) (at from : ℕ) (b : List ℕ) → Sound o → Mid o at from b → NextOf b from 64 found.Nothing → Packed o b
+pub mid_last : (o : List ℕ) (at from : ℕ) (b : List ℕ) → Sound o → Mid o at from b → NextOf b from 64 None → Packed o b
 mid_last o at from b s k x =
     let all : (m : ℕ) → m < 64 → start_of o m < from = λ m p. by_le from (start_of o m)
     (λ g. let e = start_todo o at from b s k m p g in let y = x m p in absurd (omega arith)) (λ g. g) in

@@ -1,9 +1,9 @@
 -- Where a body fits: a body in the way moves the search to its end, and loses no start. Assumes nothing.
+use Rattle.std.specs.Prelude.{None, Some}
 use Prim.Native.Nat.{ℕ, ◌+◌, ◌-◌, ◌≤◌, ◌<◌}
 use mathlib.Core.Bool.{true, false, not, and-false}
 use mathlib.Core.List.{List}
 use mathlib.Core.Logic.{◌⊎◌}
-use mathlib.Core.Option.{none, some}
 use mathlib.Core.Path.{◌≡◌, sym, ◌∙◌}
 use native.Mathlib.Omega.{arith}
 use borrow.Author.Tests.{leb-true, leb-false, le-leb, lt-leb, not-true, not-false}
@@ -42,7 +42,7 @@ module _ (b : List ℕ) (size at : ℕ) where
   unfolding fits
   fits_over h = rw (lt-leb (at + size) (length b) h)
 
-  pub fits_here : at + size ≤ length b → blocker_of b size at ≡ none → fits b size at ≡ true
+  pub fits_here : at + size ≤ length b → blocker_of b size at ≡ None → fits b size at ≡ true
   unfolding fits blocker_of
   fits_here h e =
       both (leb (at + size) (length b)) (every (clear_of b size at) 64) (le-leb (at + size) (length b) h)
@@ -55,7 +55,7 @@ module _ (b : List ℕ) (size at : ℕ) where
     pub low : start_of b n < at + size
     pub high : at < end_of b n
 
-  pub blocks : (n : ℕ) → blocker_of b size at ≡ some n → Blocks n
+  pub blocks : (n : ℕ) → blocker_of b size at ≡ Some n → Blocks n
   unfolding blocker_of
   blocks n e =
       let l = least_some (λ m. not (clear_of b size at m)) 0 64 n e in
@@ -71,7 +71,7 @@ fits_blocked b size at n u k p q =
 
 -- the search from a start on decides as the whole search: one turn, and its three ends
 module _ (b : List ℕ) (size at : ℕ) where
-  pub place_turn : (n : ℕ) → blocker_of b size at ≡ some n → least (fits b size) at (length b - at) ≡ least (fits b size) (end_of b n) (length b - end_of b n)
+  pub place_turn : (n : ℕ) → blocker_of b size at ≡ Some n → least (fits b size) at (length b - at) ≡ least (fits b size) (end_of b n) (length b - end_of b n)
   place_turn n e =
       let k = blocks b size at n e in
       by_le (end_of b n) (length b)
@@ -82,17 +82,17 @@ module _ (b : List ℕ) (size at : ℕ) where
       (λ h. least_over (fits b size) at (length b - at) (λ u g f. fits_blocked b size at n u k g (omega arith))
       ∙ sym (least_over (fits b size) (end_of b n) (length b - end_of b n) (λ u g f. absurd (omega arith))))
 
-  pub place_here : at < length b → size ≤ length b - at → blocker_of b size at ≡ none → least (fits b size) at (length b - at) ≡ some at
+  pub place_here : at < length b → size ≤ length b - at → blocker_of b size at ≡ None → least (fits b size) at (length b - at) ≡ Some at
   place_here g h e = least_hit (fits b size) at (length b - at) (omega arith) (fits_here b size at (omega arith) e)
 
-  pub place_over : length b - at < size → least (fits b size) at (length b - at) ≡ none
+  pub place_over : length b - at < size → least (fits b size) at (length b - at) ≡ None
   place_over h = least_over (fits b size) at (length b - at) (λ u p q. fits_over b size u (omega arith))
 
-  pub place_end : length b ≤ at → least (fits b size) at (length b - at) ≡ none
+  pub place_end : length b ≤ at → least (fits b size) at (length b - at) ≡ None
   place_end h = least_over (fits b size) at (length b - at) (λ u p q. absurd (omega arith))
 
 -- "the smallest start where it fits"
-pub place_smallest : (b : List ℕ) (size at : ℕ) → place_for b size ≡ some at
+pub place_smallest : (b : List ℕ) (size at : ℕ) → place_for b size ≡ Some at
     → (768 ≤ at) × (Fits b size at) × ((u : ℕ) → 768 ≤ u → u < at → fits b size u ≡ false)
 unfolding place_for
 place_smallest b size at e =

@@ -1,7 +1,7 @@
 -- The three ways to go through numbers. Assumes nothing.
+use Rattle.std.specs.Prelude.{None, Some}
 use Prim.Native.Nat.{ℕ, zero, suc, ◌+◌, ◌-◌, ◌≤◌, ◌<◌}
 use mathlib.Core.Bool.{Bool, true, false, cond, and-false}
-use mathlib.Core.Option.{none, some}
 use mathlib.Core.Path.{◌≡◌, refl, sym}
 use native.Mathlib.Nat.{add-zero, sub-zero}
 use native.Mathlib.Numerals.{add-one}
@@ -28,7 +28,7 @@ pub record Least (test : ℕ → Bool) (at k v : ℕ) : Type 0 where
   pub passes : test v ≡ true
   pub first : (u : ℕ) → at ≤ u → u < v → test u ≡ false
 
-least_found : (test : ℕ → Bool) (at k v : ℕ) (t : Bool) → test at ≡ t → cond t (some at) (least test (suc at) k) ≡ some v → (least test (suc at) k ≡ some v → Least test (suc at) k v)
+least_found : (test : ℕ → Bool) (at k v : ℕ) (t : Bool) → test at ≡ t → cond t (Some at) (least test (suc at) k) ≡ Some v → (least test (suc at) k ≡ Some v → Least test (suc at) k v)
     → Least test at (suc k) v
 least_found test at k v true e g ih =
     let z : at ≡ v = cc in
@@ -42,12 +42,12 @@ least_found test at k v false e g ih =
       first = λ u p q. by_eq u at (λ h. rw h e) (λ h. r.first u (omega arith) q);
     }
 
-pub least_some : (test : ℕ → Bool) (at k v : ℕ) → least test at k ≡ some v → Least test at k v
+pub least_some : (test : ℕ → Bool) (at k v : ℕ) → least test at k ≡ Some v → Least test at k v
 unfolding least
 least_some test at zero v e = let z : ◌≡◌ {A = ℕ} 0 1 = cc in absurd (omega arith)
 least_some test at (suc k) v e = least_found test at k v (test at) refl e (least_some test (suc at) k v)
 
-pub least_none : (test : ℕ → Bool) (at k : ℕ) → least test at k ≡ none → (u : ℕ) → at ≤ u → u < at + k → test u ≡ false
+pub least_none : (test : ℕ → Bool) (at k : ℕ) → least test at k ≡ None → (u : ℕ) → at ≤ u → u < at + k → test u ≡ false
 unfolding least
 least_none test at zero e u p q = absurd (omega arith)
 least_none test at (suc k) e u p q =
@@ -56,13 +56,13 @@ least_none test at (suc k) e u p q =
     (λ t. by_eq u at (λ h. rw h t) (λ h. least_none test (suc at) k (rw t at e) u (omega arith) (omega arith)))
 
 -- nothing passes
-pub least_over : (test : ℕ → Bool) (at k : ℕ) → ((u : ℕ) → at ≤ u → u < at + k → test u ≡ false) → least test at k ≡ none
+pub least_over : (test : ℕ → Bool) (at k : ℕ) → ((u : ℕ) → at ≤ u → u < at + k → test u ≡ false) → least test at k ≡ None
 unfolding least
 least_over test at zero f = refl
 least_over test at (suc k) f = rw (f at (omega arith) (omega arith)) (least_over test (suc at) k (λ u p q. f u (omega arith) (omega arith)))
 
 -- one turn: the number in hand passes, or fails
-pub least_hit : (test : ℕ → Bool) (at k : ℕ) → 0 < k → test at ≡ true → least test at k ≡ some at
+pub least_hit : (test : ℕ → Bool) (at k : ℕ) → 0 < k → test at ≡ true → least test at k ≡ Some at
 unfolding least
 least_hit test at zero h e = absurd (omega arith)
 least_hit test at (suc k) h e = rw e

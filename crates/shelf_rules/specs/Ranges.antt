@@ -1,11 +1,10 @@
 -- The three ways to go through numbers one after the other: the least that passes, whether all pass, and a sum.
-use Rattle.std.specs.Prelude.{ℕ, zero, suc, ◌+◌, Bool, true, ◌&&◌, cond}
-use Rattle.std.proofs.Math.Option.{Option, none, some}
+use Rattle.std.specs.Prelude.{ℕ, zero, suc, ◌+◌, Bool, true, ◌&&◌, cond, None, Option, Some}
 
 -- the least of the `count` numbers from `at` on that passes
 unfoldable pub least : (ℕ → Bool) → ℕ → ℕ → Option ℕ
-least test at zero = none
-least test at (suc k) = cond (test at) (some at) (least test (suc at) k)
+least test at zero = None
+least test at (suc k) = cond (test at) (Some at) (least test (suc at) k)
 
 -- each number below `count` passes
 unfoldable pub every : (ℕ → Bool) → ℕ → Bool

@@ -1,6 +1,5 @@
 -- Document 02, 'A shelf of flights on the tablet': what adding, asking and removing say, and the buffer afterwards.
-use Rattle.std.specs.Prelude.{ℕ, ◌+◌, ◌*◌, ◌-◌, Bool, true, false, not, ◌&&◌, List, [], eqb, leb, length, take, drop, replicate}
-use Rattle.std.proofs.Math.Option.{Option, none}
+use Rattle.std.specs.Prelude.{ℕ, ◌+◌, ◌*◌, ◌-◌, Bool, true, false, not, ◌&&◌, List, [], eqb, leb, length, take, drop, replicate, None, Option}
 use Rattle.std.proofs.lemmas.List.Edits.{sets}
 use Rattle.rules.specs.Choice.{given, need}
 use Rattle.rules.specs.Files.{verdict}
@@ -11,6 +10,7 @@ use Rattle.rules.specs.declared.Seal.TheVariants as seal
 use Rattle.shelf_rules.specs.Ranges.{least, every}
 use Rattle.shelf_rules.specs.Contents.{number_of, start_of, end_of, slot_of, slot_bytes, clear, sound}
 use Rattle.shelf_rules.specs.declared.Slot.{Slot}
+use Rattle.shelf_rules.specs.declared.Spot.{Spot}
 
 -- ---- finding
 
@@ -44,11 +44,6 @@ shelf_seal = seal.Usual
 unfoldable pub usable : List ℕ → ℕ → Bool
 usable b number = not (eqb number 0) && given (entry_of b number) true (λ _. false)
 
--- the entry that an added body takes, and its start
-pub record Spot : Type 0 where
-  pub entry : ℕ
-  pub start : ℕ
-
 -- where a body of `size` bytes goes: "then 28 ID for number 0 or one in use, 29 ENTRIES when none is free, 30 NO_RUN exactly when no free run is long enough"
 unfoldable pub spot_for : List ℕ → ℕ → ℕ → Said Spot
 spot_for b number size =
@@ -61,7 +56,7 @@ spot_for b number size =
 unfoldable pub add_said : List ℕ → ℕ → List ℕ → Said Spot
 add_said b number file =
     need (sound b) (no reason.Shelf 0) λ _.
-    and_then (verdict shelf_seal file none) λ _.
+    and_then (verdict shelf_seal file None) λ _.
     spot_for b number (length file)
 
 -- "takes the first free entry and puts the body at the smallest start where it fits between the others"; "the shelf is changed by none of them", the refusals

@@ -7,29 +7,27 @@ ghost use Rattle.shelf_slot.specs.Entries.{SlotRead, ClearTest, SlotPut};
 
 use shelf_rules::Slot;
 
-// A byte as a number of four bytes.
-fn wide(b: u8) -> u32
-    ensures { (result ≡ b) × (result < 256) }
-{
-    b as u32
-}
-
 // The four bytes from a place on as one number, the low byte first.
+#[tactic(auto, unfolding(shelf_rules::specs::Contents::word))]
 fn word_at(b: &[u8], at: usize) -> u32
     requires { at + 4 ≤ length b.now }
     ensures { result ≡ word b.now at }
 {
-    wide(b[at]) + 256 * wide(b[at + 1]) + 65536 * wide(b[at + 2]) + 16777216 * wide(b[at + 3])
+    u32::from_le_bytes([b[at], b[at + 1], b[at + 2], b[at + 3]])
 }
 
-// The same where the buffer may end: a byte past the end is 0.
+// The same where the buffer may end: a byte past the end is 0. Beside `word_at`, since an entry that lies inside the buffer, as all do in a shelf, is read without a test for each byte.
+#[tactic(auto, unfolding(shelf_rules::specs::Contents::word))]
 fn last_word(b: &[u8], at: usize) -> u32
     requires { at + 3 < 18446744073709551616 }
     ensures { result ≡ word b.now at }
 {
-    let low = wide(byte_chars::byte(b, at)) + 256 * wide(byte_chars::byte(b, at + 1));
-    let high = wide(byte_chars::byte(b, at + 2)) + 256 * wide(byte_chars::byte(b, at + 3));
-    low + 65536 * high
+    u32::from_le_bytes([
+        byte_chars::byte(b, at),
+        byte_chars::byte(b, at + 1),
+        byte_chars::byte(b, at + 2),
+        byte_chars::byte(b, at + 3),
+    ])
 }
 
 // The entry n where the buffer may end.
@@ -37,11 +35,7 @@ fn last_slot(b: &[u8], n: usize) -> Slot
     ensures { SlotRead b.now n result }
 {
     if b.len() / 12 < n {
-        return Slot {
-            number: 0,
-            start: 0,
-            size: 0,
-        };
+        return Slot::default();
     }
     Slot {
         number: last_word(b, 12 * n),
@@ -68,20 +62,14 @@ pub fn slot_at(b: &[u8], n: usize) -> Slot
 fn ends_by(start: usize, size: usize, place: usize) -> bool
     ensures { result ≡ leb (start + size) place }
 {
-    if place < start {
-        return false;
-    }
-    size <= place - start
+    start <= place && size <= place - start
 }
 
 // Whether `size` bytes from a start on overlap no byte of an entry's body.
 pub fn is_clear(start: usize, size: usize, t: Slot) -> bool
     ensures { ClearTest start size t result }
 {
-    if ends_by(start, size, t.start as usize) {
-        return true;
-    }
-    t.start as usize + t.size as usize <= start
+    ends_by(start, size, t.start as usize) || t.start as usize + t.size as usize <= start
 }
 
 // The entry n. Its bytes have room as a whole, or nothing changes.
@@ -93,5 +81,5 @@ pub fn put_slot(b: &mut [u8], n: usize, s: Slot)
     }
     shelf_bytes::put_word(b, 12 * n, s.number);
     shelf_bytes::put_word(b, 12 * n + 4, s.start);
-    shelf_bytes::put_word(b, 12 * n + 4 + 4, s.size);
+    shelf_bytes::put_word(b, 12 * n + 8, s.size);
 }

@@ -1,6 +1,5 @@
 -- `shelf_pack::nearer` meets its contract: the entry n takes the place of the one in hand where it starts from the place on, and before it. Assumes nothing.
 use native.Mathlib.Omega.{arith}
-use borrow.Author.Rules.{rules}
 use Rattle.shelf_pack.proofs.Nexts.{start_is, next_at, next_nothing, next_skip, next_old, next_new, next_one}
 use Rattle.shelf_pack.proofs.nearer.Goals as goal
 
@@ -10,24 +9,24 @@ returns-then-start-from c =
     let e = start_is _ _ _ c.slot_at-start.ensures in
     next_skip a.shelf.now a.from a.n a.best (omega arith) c.requires
 
-pub returns-then-slot_at-start : goal.returns-then-slot_at-start
-returns-then-slot_at-start c =
+pub returns-in-Some : goal.returns-in-Some
+returns-in-Some c =
     let a = c.args in
     let e = start_is _ _ _ c.slot_at-start.ensures in
     let f = start_is _ _ _ c.slot_at.ensures in
-    let x = next_at a.shelf.now a.from a.n _ a.best c.in-At.is c.requires in
+    let x = next_at a.shelf.now a.from a.n _ a.best c.in-Some.is c.requires in
     next_old a.shelf.now a.from a.n _ (omega arith) x
 
-pub returns-else-slot_at-start : goal.returns-else-slot_at-start
-returns-else-slot_at-start c =
+pub returns-in_default : goal.returns-in_default
+returns-in_default c =
     let a = c.args in
     let e = start_is _ _ _ c.slot_at-start.ensures in
     let f = start_is _ _ _ c.slot_at.ensures in
-    let x = next_at a.shelf.now a.from a.n _ a.best c.in-At.is c.requires in
+    let x = next_at a.shelf.now a.from a.n _ a.best c.in-Some.is c.requires in
     next_new a.shelf.now a.from a.n _ (omega arith) (omega arith) x
 
-pub returns-in-Nothing : goal.returns-in-Nothing
-returns-in-Nothing c =
+pub returns-in_default-2 : goal.returns-in_default-2
+returns-in_default-2 c =
     let a = c.args in
     let e = start_is _ _ _ c.slot_at-start.ensures in
-    next_one a.shelf.now a.from a.n (omega arith) (next_nothing a.shelf.now a.from a.n a.best c.in-Nothing.is c.requires)
+    next_one a.shelf.now a.from a.n (omega arith) (next_nothing a.shelf.now a.from a.n a.best c.in_default.is c.requires)

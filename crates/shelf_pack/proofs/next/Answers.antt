@@ -1,8 +1,5 @@
 -- `shelf_pack::next` meets its contract: of the entries so far, the one that starts least from the place on. Assumes nothing.
-use Prim.Native.Nat.{◌-◌, ◌≤◌}
 use native.Mathlib.Omega.{arith}
-use borrow.Author.Rules.{rules}
-use Rattle.shelf_rules.specs.Moves.{NextOf}
 use Rattle.shelf_pack.proofs.Nexts.{next_none, next_all}
 use Rattle.shelf_pack.proofs.next.Goals as goal
 
@@ -10,13 +7,13 @@ pub returns : goal.returns
 returns c =
     let a = c.args in
     let l = c.loop-n in
-    next_all a.shelf.now a.from l.n l.best (omega arith) l.invariant.1
+    next_all a.shelf.now a.from l.n l.best (omega arith) l.invariant
 
 pub loop-n-init : goal.loop-n-init
-loop-n-init c = (omega arith, next_none _ _ 0)
+loop-n-init c = next_none _ _ 0
 
 pub nearer-best-requires : goal.nearer-best-requires
-nearer-best-requires c = c.loop-n.invariant.1
+nearer-best-requires c = c.loop-n.invariant
 
 pub loop-n-preserved : goal.loop-n-preserved
-loop-n-preserved c = (omega arith, c.nearer-best.ensures)
+loop-n-preserved c = c.nearer-best.ensures

@@ -1,11 +1,7 @@
 -- `shelf_pack::pack_sound` meets its contract: before each turn the bodies that started before `from` are packed below `at`, and all else is as it was. Assumes nothing.
 use Prim.Native.Nat.{◌-◌}
-use native.Mathlib.Omega.{arith}
-use borrow.Author.Rules.{rules}
 use lib.ListN.{length}
-use Rattle.shelf_rules.proofs.Sounds.{sound_read}
-use Rattle.shelf_rules.proofs.Mids.{Mid, mid_first}
-use Rattle.shelf_pack.proofs.Nexts.{start_is, size_is, turn, turn_mid, turns_end}
+use Rattle.shelf_rules.proofs.Mids.{Mid}
 use Rattle.shelf_pack.proofs.pack_sound.Given as goal
 
 abbrev pub invariant-loop-n : goal.invariant-loop-n
