@@ -1,30 +1,28 @@
 -- Each way out of a function that puts a line is that line put; and a block that fills line by line is at each line a part of its page. Assumes nothing.
-use Prim.Native.Nat.{ℕ, suc, ◌+◌, ◌-◌, ◌≤◌, ◌<◌}
+use Rattle.rules.specs.Refusals.{result_told}
+use Rattle.std.specs.Prelude.{Err, Ok, Result}
+use Prim.Native.Nat.{ℕ, suc, ◌+◌, ◌-◌, ◌≤◌, ◌<◌, min}
 use mathlib.Core.Bool.{Bool, true, false, not, cond}
 use mathlib.Core.List.{List, [], ◌∷◌, ◌++◌, append_assoc, append-nil}
 use mathlib.Core.Path.{◌≡◌, refl, sym, ap, ◌∙◌}
 use native.Mathlib.Numerals.{add-one}
 use native.Mathlib.Omega.{arith}
-use borrow.Author.Tests.{le-leb, lt-leb, lt-ltb, le-ltb, eq-eqb, ne_eqb, ltb-false, not-true, not-false}
+use borrow.Author.Tests.{leb-true, leb-false, lt-ltb, le-ltb, eq-eqb, ne_eqb, ltb-false, not-true, not-false}
 use Prim.Native.Char.{code}
-use lib.Dec.{ltb}
+use lib.Dec.{leb, ltb}
 use lib.ListN.{length, get_or, take, drop, length-append, take-append-drop}
-use lib.Seq.{take_all, length-take-le, get_or-take, take-suc, take_at, drop_at, drop-drop, sets-eq, length-sets}
-use Rattle.rules.specs.Choice.{part}
+use lib.Seq.{take_all, length-take-le, take-suc, take_at, drop_at, drop-drop, sets-eq, length-sets}
+use Rattle.rules.specs.Choice.{need, part}
 use Rattle.rules.specs.Layouts.{unused, entries_of, allowed}
 use Rattle.rules.specs.Lines.{fix_fields}
-use Rattle.rules.specs.Reads.{fix_fields_told}
 use Rattle.rules.specs.Listing.{fix_shown, line_shown}
 use Rattle.rules.specs.declared.Refusal.{Refusal}
 use Rattle.rules.specs.declared.Entry.{Entry}
 use Rattle.rules.specs.declared.Layout.{Layout}
 use Rattle.rules.specs.declared.FixFields.{FixFields}
-use Rattle.rules.specs.declared.FixFieldsRead.{FixFieldsRead}
-use Rattle.rules.specs.declared.FixFieldsRead.TheVariants as fix_fields_read
 use Rattle.text_pieces.specs.Buffer.{PiecePut}
 use Rattle.text_pieces.proofs.Laws.{then, nothing}
 use Rattle.text_listing.specs.Lines.{column_line}
-use Rattle.rules_values.proofs.Laws.{take_most}
 use Rattle.text_block.specs.Blocks.{end_of, text_at, printed, column_lines, Leaf, leaf, before, printed_at, leaf_from, leaf_at, LeafPut, LinesFilled, Filled}
 use Rattle.text_block.specs.declared.Page.{Page}
 use Rattle.text_block.proofs.Spelt.{lines_shown, printed_room}
@@ -32,17 +30,9 @@ use Rattle.text_block.proofs.Spelt.{lines_shown, printed_room}
 -- ---- where a line stands
 
 module _ (file table : List ℕ) (lines passed from to : ℕ) (f : from ≡ get_or table passed 0) (t : to ≡ end_of table lines passed (length file)) where
-  pub ends_before : to < from → [] ≡ text_at file table lines passed
+  pub stands : (need (leb from to) [] λ _. need (leb to (length file)) [] λ _. part from to file) ≡ text_at file table lines passed
   unfolding text_at
-  ends_before h = rw (← f, ← t, lt-leb from to h)
-
-  pub ends_past : from ≤ to → length file < to → [] ≡ text_at file table lines passed
-  unfolding text_at
-  ends_past g h = rw (← f, ← t, le-leb from to g, lt-leb to (length file) h)
-
-  pub stands : from ≤ to → to ≤ length file → part from to file ≡ text_at file table lines passed
-  unfolding text_at
-  stands g h = rw (← f, ← t, le-leb from to g, le-leb to (length file) h)
+  stands = rw (← f, ← t)
 
 module _ (table : List ℕ) (lines passed size : ℕ) where
   pub ends_next : (n r : ℕ) → passed + 1 < lines → n ≡ get_or table (passed + 1) 0 → r ≡ n - 2 → r ≡ end_of table lines passed size
@@ -55,33 +45,30 @@ module _ (table : List ℕ) (lines passed size : ℕ) where
 
 -- ---- the columns
 
-module _ (layout : Layout) (slots : length layout.entries ≡ 13) where
-  pub all_slots : 13 < layout.count → 13 ≡ length (entries_of layout)
-  all_slots h = sym (ap length (take_all layout.count layout.entries (omega (arith, slots))) ∙ slots)
-
-  pub some_slots : layout.count ≤ 13 → layout.count ≡ length (entries_of layout)
-  some_slots h = sym (length-take-le layout.count layout.entries (omega (arith, slots)))
+-- a layout value has 13 slots
+pub all_slots : (layout : Layout) → length layout.entries ≡ 13 → take (min layout.count 13) layout.entries ≡ entries_of layout
+all_slots layout slots = by (leb layout.count 13) refl
+  where
+    by : (t : Bool) → leb layout.count 13 ≡ t → take (min layout.count 13) layout.entries ≡ take layout.count layout.entries
+    by true e = let n : min layout.count 13 ≡ layout.count = omega (arith, leb-true layout.count 13 e) in rw n
+    by false e =
+        let h : 13 < layout.count = leb-false layout.count 13 e in
+        let n : min layout.count 13 ≡ 13 = omega arith in
+        rw (n, take_all 13 layout.entries (omega (arith, slots)), take_all layout.count layout.entries (omega (arith, slots)))
 
 line_more : (l : List ℕ) (es : List Entry) (e : Entry) → column_lines l (es ++ (e ∷ [])) ≡ column_lines l es ++ column_line l e
 unfolding column_lines
 line_more l [] e = append-nil _
 line_more l (x ∷ es) e = ap (λ (r : List ℕ). column_line l x ++ r) (line_more l es e) ∙ sym (append_assoc (column_line l x) (column_lines l es) (column_line l e))
 
-module _ (l : List ℕ) (layout : Layout) (out : List ℕ) (at : ℕ) where
-  pub no_columns_lem : PiecePut out at (column_lines l (take 0 (entries_of layout))) at out
+module _ (l : List ℕ) (out : List ℕ) (at : ℕ) where
+  pub no_columns_lem : PiecePut out at (column_lines l []) at out
   unfolding column_lines
   no_columns_lem = nothing out at
 
-  pub column_more : (mid after : List ℕ) (n i m r : ℕ) → n ≡ length (entries_of layout) → i < n → PiecePut out at (column_lines l (take i (entries_of layout))) m mid
-      → PiecePut mid m (column_line l (get_or layout.entries i unused)) r after → PiecePut out at (column_lines l (take (i + 1) (entries_of layout))) r after
-  column_more mid after n i m r e h p q =
-      let low : i < length (entries_of layout) = omega arith in
-      let within : i < layout.count = omega (arith, take_most layout.count layout.entries) in
-      rw (add-one, take-suc (entries_of layout) i unused low, line_more l (take i (entries_of layout)) (get_or (entries_of layout) i unused), get_or-take layout.count layout.entries i unused within) (then p q)
-
-  pub all_columns : (after : List ℕ) (n i r : ℕ) → n ≡ length (entries_of layout) → n ≤ i → PiecePut out at (column_lines l (take i (entries_of layout))) r after
-      → PiecePut out at (column_lines l (entries_of layout)) r after
-  all_columns after n i r e h p = rw (← take_all i (entries_of layout) (omega arith)) p
+  pub column_more : (es : List Entry) (mid after : List ℕ) (i m r : ℕ) → i < length es → PiecePut out at (column_lines l (take i es)) m mid → PiecePut mid m (column_line l (get_or es i unused)) r after
+      → PiecePut out at (column_lines l (take (i + 1) es)) r after
+  column_more es mid after i m r h p q = rw (add-one, take-suc es i unused h, line_more l (take i es) (get_or es i unused)) (then p q)
 
 -- ---- a line
 
@@ -90,27 +77,17 @@ module _ (passed : ℕ) (l : List ℕ) (layout : Layout) (out : List ℕ) (at : 
   unfolding printed
   no_b b e h = rw (← e, ne_eqb b 66 h) (nothing out at)
 
-  module _ (b : ℕ) (e : b ≡ get_or l 0 0) (h : b ≡ code "B") (r : FixFieldsRead) (g : fix_fields_told r ≡ fix_fields l) where
-    pub no_fix : (w : Refusal) → r ≡ fix_fields_read.Refused w → PiecePut out at (printed passed layout l) at out
-    unfolding printed line_shown fix_fields_told
+  module _ (b : ℕ) (e : b ≡ get_or l 0 0) (h : b ≡ code "B") (r : Result FixFields Refusal) (g : result_told r ≡ fix_fields l) where
+    pub no_fix : (w : Refusal) → r ≡ Err w → PiecePut out at (printed passed layout l) at out
+    unfolding printed line_shown result_told
     no_fix w is = rw (← e, eq-eqb b 66 h, ← g, is) (nothing out at)
 
-    pub a_fix : (f : FixFields) (mid after : List ℕ) (m n : ℕ) → allowed 36 layout ≡ true → r ≡ fix_fields_read.Is f → PiecePut out at (fix_shown (passed + 1) f) m mid
+    pub a_fix : (f : FixFields) (mid after : List ℕ) (m n : ℕ) → allowed 36 layout ≡ true → r ≡ Ok f → PiecePut out at (fix_shown (passed + 1) f) m mid
         → PiecePut mid m (column_lines l (entries_of layout)) n after → PiecePut out at (printed passed layout l) n after
-    unfolding printed line_shown fix_fields_told
+    unfolding printed line_shown result_told
     a_fix f mid after m n ok is p q = rw (← e, eq-eqb b 66 h, ← g, is, ← lines_shown l layout ok) (then p q)
 
 -- ---- a block that fills
-
-module _ (used size : ℕ) where
-  pub small_full : size < 4096 → true ≡ ltb size (used + 4096)
-  small_full h = sym (lt-ltb size (used + 4096) (omega arith))
-
-  pub over_full : 4096 ≤ size → size - 4096 < used → true ≡ ltb size (used + 4096)
-  over_full g h = sym (lt-ltb size (used + 4096) (omega arith))
-
-  pub not_full : 4096 ≤ size → used ≤ size - 4096 → false ≡ ltb size (used + 4096)
-  not_full g h = sym (le-ltb size (used + 4096) (omega arith))
 
 -- a text for which there is room is put whole
 put_whole : {now after t : List ℕ} {used r : ℕ} → used + length t ≤ length now → PiecePut now used t r after → r ≡ used + length t

@@ -11,7 +11,7 @@ use rules::{Family, Layout};
 mod lines;
 
 // A page of the listing in a lent block: how many bytes of it are used, and how many lines of the file are passed with it.
-#[derive(Clone, Copy)]
+#[derive(Clone, Copy, Debug, PartialEq, Eq)]
 pub struct Page {
     pub used: usize,
     pub passed: u32,
@@ -21,13 +21,7 @@ pub struct Page {
 fn is_full(used: usize, size: usize) -> bool
     ensures { result ≡ ltb size (used + 4096) }
 {
-    if size < 4096 {
-        return true;
-    }
-    if size - 4096 < used {
-        return true;
-    }
-    false
+    size < 4096 || size - 4096 < used
 }
 
 // The lines behind those passed, as many as the block surely has room for.
@@ -43,19 +37,20 @@ fn fill_lines(
     ensures { LinesFilled file.now table.now lines layout passed block.old result block.new }
 {
     let mut used = 0;
-    let mut next = passed;
-    while next < lines {
+    for next in passed..lines {
         if is_full(used, block.len()) {
             return Page { used, passed: next };
         }
         let line = line_at(file, table, lines, next);
         used = put_line(next, line, layout, block, used);
-        next += 1;
     }
-    Page { used, passed: next }
+    Page {
+        used,
+        passed: passed.max(lines),
+    }
 }
 
-// PiecePut a block with what is printed for the lines behind those passed: FIX and its columns for each fix, nothing for another line. As many lines as it surely has
+// Fills a block with what is printed for the lines behind those passed: FIX and its columns for each fix, nothing for another line. As many lines as it surely has
 // room for; the rest of the block stays as it is. A layout that is not allowed reads no fix, so nothing is left to print.
 pub fn fill(
     passed: u32,

@@ -1,29 +1,16 @@
 // What is printed for one line of a file: where it stands, and its fix and columns put into a block.
-ghost use Rattle.std.specs.Prelude.{◌≤◌, ◌<◌, ◌-◌, true, ◌≡◌, length, get_or};
+ghost use Rattle.std.specs.Prelude.{◌<◌, true, ◌≡◌, get_or};
 ghost use Rattle.rules.specs.Layouts.{entries_of, allowed};
 ghost use Rattle.text_pieces.specs.Buffer.{PiecePut};
 ghost use Rattle.text_block.specs.Blocks.{end_of, text_at, column_lines, printed};
 
-use rules::{FixFieldsRead, Layout};
+use rules::{FixFields, Layout, Refusal};
 
 // An entry of a table, 0 past its end.
 fn entry(table: &[u32], i: usize) -> usize
     ensures { result ≡ get_or table.now i 0 }
 {
-    if i < table.len() {
-        return table[i] as usize;
-    }
-    0
-}
-
-// How many bytes stand before a CR LF that ends behind n bytes.
-fn before_end(n: usize) -> usize
-    ensures { result ≡ n - 2 }
-{
-    if n < 2 {
-        return 0;
-    }
-    n - 2
+    table.get(i).copied().unwrap_or(0) as usize
 }
 
 // Where the line behind those passed ends: at the CR LF before the next line, or before the end of the file.
@@ -32,10 +19,12 @@ fn end_of(table: &[u32], lines: u32, passed: u32, size: usize) -> usize
     ensures { result ≡ end_of table.now lines passed size }
 {
     let next = passed + 1;
-    if next < lines {
-        return before_end(entry(table, next as usize));
-    }
-    before_end(size)
+    let end = if next < lines {
+        entry(table, next as usize)
+    } else {
+        size
+    };
+    end.saturating_sub(2)
 }
 
 // The line behind those passed, without its CR LF, by a table of the lines' offsets; no bytes where the offsets are no part of the file.
@@ -45,36 +34,17 @@ pub(crate) fn line_at<'a>(file: &'a [u8], table: &[u32], lines: u32, passed: u32
 {
     let start = entry(table, passed as usize);
     let end = end_of(table, lines, passed, file.len());
-    if end < start {
-        return &file[0..0];
-    }
-    if file.len() < end {
-        return &file[0..0];
-    }
-    &file[start..end]
-}
-
-// How many entries a layout has, of the 13 that there can be.
-fn entries_in(layout: Layout) -> usize
-    ensures { (result ≡ length (entries_of layout)) × (result ≤ 13) }
-{
-    if 13 < layout.count {
-        return 13;
-    }
-    layout.count
+    file.get(start..end).unwrap_or_default()
 }
 
 // COL, a code and its text, for each entry of the layout.
 fn put_columns(out: &mut [u8], at: usize, line: &[u8], layout: Layout) -> usize
     ensures { PiecePut out.old at (column_lines line.now (entries_of layout)) result out.new }
 {
-    let n = entries_in(layout);
+    let entries = &layout.entries[..layout.count.min(13)];
     let mut next = at;
-    let mut i = 0;
-    while i < n {
-        let e = layout.entries[i];
-        next = text_listing::put_column(out, next, line, e);
-        i += 1;
+    for e in entries {
+        next = text_listing::put_column(out, next, line, *e);
     }
     next
 }
@@ -87,7 +57,7 @@ pub(crate) fn put_line(passed: u32, line: &[u8], layout: Layout, out: &mut [u8],
     if byte_chars::byte(line, 0) != b'B' {
         return at;
     }
-    let FixFieldsRead::Is(f) = line_fix::fix_fields(line) else {
+    let Ok(f) = line_fix::fix_fields(line) else {
         return at;
     };
     let next = text_listing::put_fix(out, at, passed + 1, f);

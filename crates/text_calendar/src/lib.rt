@@ -88,6 +88,7 @@ fn walk(year: u32, month: u8, days: u64) -> Civil
 {
     let mut y = year;
     let mut left = days;
+    // No `for`: a turn takes a whole year of the days that are left, and below a whole month.
     while 366 <= left {
         left -= year_from(y, month);
         y += 1;

@@ -24,11 +24,11 @@ pub record Walked (f : List ℕ) (lines at left : ℕ) : Type 0 where
   pub within : at ≤ length f
   pub same : text_behind lines (lines_of f) f ≡ text_behind left (lines_of (drop at f)) (drop at f)
 
-pub walk_start : (f : List ℕ) (lines : ℕ) → Walked f lines 0 lines
-walk_start f lines = record { within = omega arith; same = refl }
+pub walk_start : (f : List ℕ) (lines : ℕ) → Walked f lines 0 (lines - 0)
+walk_start f lines = let z : lines - 0 ≡ lines = omega arith in record { within = omega arith; same = rw z }
 
-pub walk_end : (f : List ℕ) (lines at left : ℕ) → Walked f lines at left → left ≤ 0 → LineStartGiven f lines at
-walk_end f lines at left w h = let e : left ≡ 0 = omega arith in record { within = w.within; same = rw e at w.same }
+pub walk_end : (f : List ℕ) (lines at n : ℕ) → Walked f lines at (lines - n) → lines ≤ n → LineStartGiven f lines at
+walk_end f lines at n w h = let e : lines - n ≡ 0 = omega arith in record { within = w.within; same = rw e at w.same }
 
 behind : (k : ℕ) (t : List ℕ) (ls : Lines) (l : List ℕ) → text_behind (suc k) (line t ls) l ≡ text_behind k ls (drop (length t + 2) l)
 unfolding text_behind
@@ -49,12 +49,15 @@ module _ (f : List ℕ) (at e : ℕ) (r : Ended) (q : r ≡ ended_at at (lines_o
   pub fits : length f * 1 < 2 ^ 63 → r ≡ ended.At e → Fits w64 (e + 2)
   fits h g = omega (arith, (cut f at e (sym g ∙ q)).fits)
 
-  module _ (lines left : ℕ) (w : Walked f lines at left) (h : 0 < left) where
-    one_less : text_behind lines (lines_of f) f ≡ text_behind (suc (left - 1)) (lines_of (drop at f)) (drop at f)
-    one_less = let one : left ≡ suc (left - 1) = omega arith in w.same ∙ ap (λ (n : ℕ). text_behind n (lines_of (drop at f)) (drop at f)) one
+  module _ (lines n : ℕ) (w : Walked f lines at (lines - n)) (h : n < lines) where
+    abbrev left : ℕ
+    left = lines - (n + 1)
+
+    one_less : text_behind lines (lines_of f) f ≡ text_behind (suc left) (lines_of (drop at f)) (drop at f)
+    one_less = let one : lines - n ≡ suc (lines - (n + 1)) = omega arith in w.same ∙ ap (λ (k : ℕ). text_behind k (lines_of (drop at f)) (drop at f)) one
 
     -- with CR LF: on to the next
-    pub walk_on : r ≡ ended.At e → Walked f lines (e + 2) (left - 1)
+    pub walk_on : r ≡ ended.At e → Walked f lines (e + 2) (lines - (n + 1))
     walk_on g =
         let c = cut f at e (sym g ∙ q) in
         let t = take (e - at) (drop at f) in
@@ -62,14 +65,14 @@ module _ (f : List ℕ) (at e : ℕ) (r : Ended) (q : r ≡ ended_at at (lines_o
         let place : at + (e - at + 2) ≡ e + 2 = omega (arith, c.start) in
         record {
           within = c.fits;
-          same = one_less ∙ rw c.lines (behind (left - 1) t (lines_of (drop (e + 2) f)) (drop at f) ∙ rw (long, drop-drop (e - at + 2) at f, place));
+          same = one_less ∙ rw c.lines (behind left t (lines_of (drop (e + 2) f)) (drop at f) ∙ rw (long, drop-drop (e - at + 2) at f, place));
         }
 
     -- not so: none is left
     pub walk_none : r ≡ ended.Broken e → LineStartGiven f lines (length f)
     walk_none g = record {
       within = omega arith;
-      same = one_less ∙ none_behind (left - 1) at e (lines_of (drop at f)) (drop at f) (sym q ∙ g) ∙ sym (no_text 0 f (length f) (omega arith));
+      same = one_less ∙ none_behind left at e (lines_of (drop at f)) (drop at f) (sym q ∙ g) ∙ sym (no_text 0 f (length f) (omega arith));
     }
 
 -- ---- the text of the line at a place

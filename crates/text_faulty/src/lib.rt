@@ -10,14 +10,12 @@ use file_lines::{Ended, line_end};
 fn line_start(file: &[u8], lines: u32) -> usize
     ensures { LineStartGiven file.now lines result }
 {
-    let mut at: usize = 0;
-    let mut left = lines;
-    while 0 < left {
+    let mut at = 0;
+    for _ in 0..lines {
         let Ended::At(end) = line_end(file, at) else {
             return file.len();
         };
         at = end + 2;
-        left -= 1;
     }
     at
 }
@@ -28,8 +26,7 @@ fn text_end(file: &[u8], start: usize) -> usize
     ensures { TextEndGiven file.now start result }
 {
     match line_end(file, start) {
-        Ended::At(end) => end,
-        Ended::Broken(end) => end,
+        Ended::At(end) | Ended::Broken(end) => end,
     }
 }
 

@@ -6,7 +6,6 @@ use Rattle.rules.specs.Numbers.{digits_of}
 use Rattle.rules.specs.Fields.{time_text, is_leap, days_of}
 use Rattle.rules.specs.Fixes.{plain}
 use Rattle.rules.specs.Listing.{decimal, decimal_in}
-use Rattle.rules.specs.declared.Date.{Date}
 use Rattle.rules.specs.declared.FineTime.{FineTime}
 use Rattle.byte_tens.specs.Tens.{few_of}
 use Rattle.text_dates.specs.Dates.{two_digits, date_shown}

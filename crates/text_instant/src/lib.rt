@@ -4,12 +4,13 @@
 ghost use Rattle.text_pieces.specs.Buffer.{PiecePut};
 ghost use Rattle.text_calendar.specs.Calendar.{civil_told};
 ghost use Rattle.text_dates.specs.Dates.{date_shown};
-ghost use Rattle.text_instant.specs.Instants.{moment_of, metres_behind};
+ghost use Rattle.text_instant.specs.Instants.{moment_of};
 
-use rules::{Date, FineTime, Height};
+use rules::{Date, FineTime};
 use text_calendar::Civil;
 use text_dates::put_two;
 use text_decimals::put_clock_behind;
+pub use text_listing::put_height;
 use text_pieces::{put_byte, put_decimal};
 
 // A date such as 2024-07-15.
@@ -29,17 +30,4 @@ pub fn put_instant(out: &mut [u8], at: usize, date: Date, day: u32, t: FineTime)
     let a = put_civil(out, at, c);
     let b = put_clock_behind(out, a, b'T', t);
     put_byte(out, b, b'Z')
-}
-
-// A mark and a height in whole metres. The answer is the place behind it; a full buffer takes no more.
-pub fn put_height(out: &mut [u8], at: usize, mark: u8, h: Height) -> usize
-    ensures { PiecePut out.old at (metres_behind mark h.metres) result out.new }
-{
-    let metres = rules_values::magnitude(h);
-    let a = put_byte(out, at, mark);
-    if rules_values::has_no_minus(h) {
-        return put_decimal(out, a, metres);
-    }
-    let b = put_byte(out, a, b'-');
-    put_decimal(out, b, metres)
 }

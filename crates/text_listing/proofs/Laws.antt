@@ -1,11 +1,11 @@
 -- The pieces that the listing's lines alone have, signs, layouts and columns; and that each line has room. Assumes nothing.
-use Prim.Native.Nat.{ℕ, ◌+◌, ◌-◌, ◌≤◌, ◌<◌}
+use Prim.Native.Nat.{ℕ, ◌+◌, ◌-◌, ◌≤◌, ◌<◌, min}
 use mathlib.Core.Bool.{Bool, true, false}
 use mathlib.Core.List.{List, [], ◌∷◌, ◌++◌, append_assoc}
 use mathlib.Core.Path.{◌≡◌, refl, sym, ap, ◌∙◌}
 use native.Mathlib.Numerals.{add-one}
 use native.Mathlib.Omega.{arith}
-use borrow.Author.Tests.{ne_eqb}
+use borrow.Author.Tests.{le-leb, leb-true, leb-false, ne_eqb}
 use lib.Dec.{leb}
 use lib.IntN.{ℤ, pos, negsuc, nat_abs}
 use lib.ListN.{length, drop, length-append, length-drop, drop_of_length-le, get_or-eq_default}
@@ -21,24 +21,29 @@ use Rattle.rules.specs.declared.Flight.{Flight}
 use Rattle.rules_values.proofs.Laws.{take_most}
 use Rattle.text_pieces.specs.Buffer.{PiecePut}
 use Rattle.text_pieces.proofs.Laws.{number_room}
-use Rattle.text_listing.specs.Lines.{column_line, counted, two_shown, ok_numbers, position_shown, fix_places, fix_heights}
+use Rattle.text_listing.specs.Lines.{column_line, counted, two_shown, ok_numbers, position_shown, fix_places, fix_heights, metres_behind}
 
--- ---- an altitude's text by its sign and its size
-plain_metres : (z : ℤ) → non_neg z ≡ true → shown_metres z ≡ shown (nat_abs z)
-plain_metres (pos n) h = refl
-plain_metres (negsuc n) h = let e : ◌≡◌ {A = ℕ} 0 1 = cc in absurd (omega arith)
+-- ---- a height's text by its sign and its size
 
-minus_metres : (z : ℤ) → non_neg z ≡ false → shown_metres z ≡ 32 ∷ 45 ∷ decimal (nat_abs z)
-minus_metres (pos n) h = let e : ◌≡◌ {A = ℕ} 0 1 = cc in absurd (omega arith)
-minus_metres (negsuc n) h = rw add-one
+plain_metres : (mark : ℕ) (z : ℤ) → non_neg z ≡ true → metres_behind mark z ≡ mark ∷ decimal (nat_abs z)
+plain_metres mark (pos n) h = refl
+plain_metres mark (negsuc n) h = let e : ◌≡◌ {A = ℕ} 0 1 = cc in absurd (omega arith)
+
+minus_metres : (mark : ℕ) (z : ℤ) → non_neg z ≡ false → metres_behind mark z ≡ mark ∷ 45 ∷ decimal (nat_abs z)
+minus_metres mark (pos n) h = let e : ◌≡◌ {A = ℕ} 0 1 = cc in absurd (omega arith)
+minus_metres mark (negsuc n) h = rw add-one
 
 -- t is what the test of the sign said, and m the size
-module _ (out after : List ℕ) (at r : ℕ) (z : ℤ) (t : Bool) (m : ℕ) (e : t ≡ non_neg z) (f : m ≡ nat_abs z) where
-  pub plain_fills : t ≡ true → PiecePut out at (shown m) r after → PiecePut out at (shown_metres z) r after
-  plain_fills g p = rw (plain_metres z (sym e ∙ g), ← f) p
+module _ (out after : List ℕ) (at r mark : ℕ) (z : ℤ) (t : Bool) (m : ℕ) (e : t ≡ non_neg z) (f : m ≡ nat_abs z) where
+  pub plain_fills : t ≡ true → PiecePut out at (mark ∷ decimal m) r after → PiecePut out at (metres_behind mark z) r after
+  plain_fills g p = rw (plain_metres mark z (sym e ∙ g), ← f) p
 
-  pub minus_fills : t ≡ false → PiecePut out at (32 ∷ 45 ∷ decimal m) r after → PiecePut out at (shown_metres z) r after
-  minus_fills g p = rw (minus_metres z (sym e ∙ g), ← f) p
+  pub minus_fills : t ≡ false → PiecePut out at (mark ∷ 45 ∷ decimal m) r after → PiecePut out at (metres_behind mark z) r after
+  minus_fills g p = rw (minus_metres mark z (sym e ∙ g), ← f) p
+
+pub behind_space : (z : ℤ) → metres_behind 32 z ≡ shown_metres z
+behind_space (pos n) = refl
+behind_space (negsuc n) = refl
 
 -- ---- layouts
 
@@ -51,19 +56,36 @@ length_past start l e h =
 
 -- ---- columns
 
-module _ (a e : ℕ) (l : List ℕ) where
-  pub part_past : length l ≤ a → part a e l ≡ []
-  part_past h = rw (drop_of_length-le l h) (take-nil (e - a))
+-- a part is cut where the text ends, and is none where it begins behind its end
+pub part_cut : (from last to : ℕ) (l : List ℕ) → to ≡ min last (length l) → (need (leb from to) [] λ _. need (leb to (length l)) [] λ _. part from to l) ≡ part from last l
+part_cut from last to l e = by (leb from to) refl
+  where
+    whole_or_cut : from ≤ to → part from to l ≡ part from last l
+    whole_or_cut g = by_end (leb last (length l)) refl
+      where
+        by_end : (t : Bool) → leb last (length l) ≡ t → part from to l ≡ part from last l
+        by_end true h = let same : to ≡ last = omega (arith, e, leb-true last (length l) h) in rw same
+        by_end false h =
+            let over : length l < last = leb-false last (length l) h in
+            rw (
+              take_all (to - from) (drop from l) (simp length-drop (omega (arith, e))),
+              take_all (last - from) (drop from l) (simp length-drop (omega arith)),
+            )
 
-  pub part_none : e ≤ a → part a e l ≡ []
-  part_none h = let z : e - a ≡ 0 = omega arith in rw z
+    none : to < from → [] ≡ part from last l
+    none h = by_end (leb last from) refl
+      where
+        by_end : (t : Bool) → leb last from ≡ t → [] ≡ part from last l
+        by_end true g = let z : last - from ≡ 0 = omega (arith, leb-true last from g) in rw z
+        by_end false g =
+            let past : length l ≤ from = omega (arith, e, leb-false last from g) in
+            rw (drop_of_length-le l past) (sym (take-nil (last - from)))
 
-  -- a part that runs past the end is what is there
-  pub part_over : length l < e → part a e l ≡ part a (length l) l
-  part_over h = rw (
-    take_all (e - a) (drop a l) (simp length-drop (omega arith)),
-    take_all (length l - a) (drop a l) (simp length-drop (omega arith)),
-  )
+    by : (t : Bool) → leb from to ≡ t → (need t [] λ _. need (leb to (length l)) [] λ _. part from to l) ≡ part from last l
+    by true h =
+        let within : to ≤ length l = omega (arith, e) in
+        rw (le-leb to (length l) within) (whole_or_cut (leb-true from to h))
+    by false h = none (leb-false from to h)
 
 -- ---- lines of their parts
 

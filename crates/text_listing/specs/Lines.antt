@@ -1,9 +1,10 @@
 -- The promises of the lines that the listing prints, each put into a lent buffer.
-use Rattle.std.specs.Prelude.{ℕ, List, [], ◌++◌, leb}
+use Rattle.std.specs.Prelude.{ℕ, ◌+◌, List, [], ◌∷◌, ◌++◌, leb, ℤ, pos, negsuc}
+use Prim.Native.Char.{code}
 pub use Rattle.text_pieces.specs.Buffer.{Shown}
 use Rattle.rules.specs.Choice.{need, bytes}
 use Rattle.rules.specs.Refusals.{number}
-use Rattle.rules.specs.Listing.{shown, shown_letter, shown_metres, lf, refused_text, ok_text, fix_shown, column_shown}
+use Rattle.rules.specs.Listing.{decimal, shown, shown_letter, shown_metres, lf, refused_text, ok_text, fix_shown, column_shown}
 use Rattle.rules.specs.declared.Refusal.{Refusal}
 use Rattle.rules.specs.declared.Counts.{Counts}
 use Rattle.rules.specs.declared.Entry.{Entry}
@@ -49,5 +50,13 @@ unfoldable pub fix_places : ℕ → FixFields → List ℕ
 unfolding bytes
 fix_places n f = bytes "FIX" ++ (shown n ++ (shown f.time ++ (position_shown f.lat ++ position_shown f.lon)))
 
+unfoldable pub heights_line : ℕ → ℤ → ℤ → List ℕ
+heights_line validity pressure gnss = shown_letter validity ++ (shown_metres pressure ++ (shown_metres gnss ++ lf))
+
 unfoldable pub fix_heights : FixFields → List ℕ
 fix_heights f = shown_letter f.validity ++ (shown_metres f.pressure.metres ++ (shown_metres f.gnss.metres ++ lf))
+
+-- behind a mark, whole metres
+abbrev pub metres_behind : ℕ → ℤ → List ℕ
+metres_behind mark (pos n) = mark ∷ decimal n
+metres_behind mark (negsuc n) = mark ∷ code "-" ∷ decimal (n + 1)

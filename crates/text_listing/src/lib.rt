@@ -7,16 +7,15 @@ mod values;
 ghost use Rattle.text_listing.specs.Lines.{RefusalShown, FlightShown, FixShown, ColumnShown};
 
 use lines::{line_length, put_flight, put_refusal};
-pub use lines::{put_column, put_fix};
+pub use lines::{put_column, put_fix, put_heights};
 use rules::{Entry, FixFields, Flight, Refusal};
-pub use values::{put_letter, put_metres};
+pub use values::{put_height, put_letter, put_metres};
 
 // REFUSED, the refusal's number, its line and its byte: how many bytes the line has.
 pub fn refused(why: Refusal, out: &mut [u8; 288]) -> usize
     ensures { RefusalShown why out.old result out.new }
 {
-    let reason = why.reason;
-    let number = text_refusal::number(reason);
+    let number = text_refusal::number(why.reason);
     put_refusal(out, number, why.line, why.byte)
 }
 
@@ -24,13 +23,9 @@ pub fn refused(why: Refusal, out: &mut [u8; 288]) -> usize
 pub fn ok(f: Flight, out: &mut [u8; 288]) -> usize
     ensures { FlightShown f out.old result out.new }
 {
-    let layouts = f.layouts;
-    let fixes = layouts.b;
-    let extras = layouts.k;
-    let unsigned = layouts.n;
-    let b = line_length(36, fixes);
-    let k = line_length(8, extras);
-    let n = line_length(8, unsigned);
+    let b = line_length(36, f.layouts.b);
+    let k = line_length(8, f.layouts.k);
+    let n = line_length(8, f.layouts.n);
     put_flight(out, f.lines, f.counts, b, k, n)
 }
 

@@ -1,13 +1,12 @@
 // The lines that the listing prints, each put together from its pieces.
 ghost use Rattle.std.specs.Prelude.{◌≤◌, ◌≡◌};
-ghost use Rattle.rules.specs.Choice.{byte};
 ghost use Rattle.rules.specs.Layouts.{line_length, column_text, span_of};
 ghost use Rattle.rules.specs.Listing.{refused_text, fix_shown, column_shown};
 ghost use Rattle.text_pieces.specs.Buffer.{PiecePut};
-ghost use Rattle.text_listing.specs.Lines.{column_line, counted, two_shown, ok_numbers, position_shown, fix_places, fix_heights};
+ghost use Rattle.text_listing.specs.Lines.{column_line, counted, two_shown, ok_numbers, position_shown, fix_places, heights_line};
 
 use crate::values::{put_letter, put_metres};
-use rules::{Counts, Entry, FixFields, Layout, Position};
+use rules::{Counts, Entry, FixFields, Height, Layout, Position};
 use text_pieces::{put_byte, put_shown, put_text};
 
 // A word and three numbers, with which a line begins.
@@ -37,11 +36,10 @@ pub(crate) fn line_length(start: usize, l: Layout) -> usize
     if n == 0 {
         return start - 1;
     }
-    if 13 < n {
-        return 0;
+    match l.entries.get(n - 1) {
+        Some(e) => e.last as usize,
+        None => 0,
     }
-    let last = l.entries[n - 1];
-    last.last as usize
 }
 
 // Two numbers.
@@ -93,13 +91,13 @@ fn put_places(out: &mut [u8], at: usize, line: u32, f: FixFields) -> usize
     put_position(out, b, f.lon)
 }
 
-// A fix's line from its validity on.
-fn put_heights(out: &mut [u8], at: usize, f: FixFields) -> usize
-    ensures { PiecePut out.old at (fix_heights f) result out.new }
+// The end of a fix's line: its validity and both altitudes.
+pub fn put_heights(out: &mut [u8], at: usize, validity: u8, pressure: Height, gnss: Height) -> usize
+    ensures { PiecePut out.old at (heights_line validity pressure.metres gnss.metres) result out.new }
 {
-    let a = put_letter(out, at, f.validity);
-    let b = put_metres(out, a, f.pressure);
-    let c = put_metres(out, b, f.gnss);
+    let a = put_letter(out, at, validity);
+    let b = put_metres(out, a, pressure);
+    let c = put_metres(out, b, gnss);
     put_byte(out, c, b'\n')
 }
 
@@ -108,35 +106,16 @@ pub fn put_fix(out: &mut [u8], at: usize, line: u32, f: FixFields) -> usize
     ensures { PiecePut out.old at (fix_shown line f) result out.new }
 {
     let a = put_places(out, at, line, f);
-    put_heights(out, a, f)
-}
-
-// How many bytes of a line stand before a place.
-fn bytes_before(place: u8) -> usize
-    ensures { result ≡ byte place }
-{
-    if place == 0 {
-        return 0;
-    }
-    (place - 1) as usize
+    put_heights(out, a, f.validity, f.pressure, f.gnss)
 }
 
 // The text of a column: as much of it as the line has.
 fn column_text(line: &[u8], e: Entry) -> &[u8]
     ensures { result.now ≡ column_text line.now (span_of e) }
 {
-    let from = bytes_before(e.first);
-    let to = e.last as usize;
-    if line.len() <= from {
-        return &line[0..0];
-    }
-    if to <= from {
-        return &line[0..0];
-    }
-    if line.len() < to {
-        return &line[from..];
-    }
-    &line[from..to]
+    let from = e.first.saturating_sub(1) as usize;
+    let to = (e.last as usize).min(line.len());
+    line.get(from..to).unwrap_or_default()
 }
 
 // A column's line, where the code is three bytes.

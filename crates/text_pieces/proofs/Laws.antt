@@ -4,12 +4,11 @@ use mathlib.Core.Bool.{Bool, true, false, cond}
 use mathlib.Core.List.{List, [], ◌∷◌, ◌++◌}
 use mathlib.Core.Path.{◌≡◌, ◌∙◌, ap, ap₂}
 use native.Mathlib.Nat.{zero-add, div-lt_iff_lt-mul, pow-suc}
-use native.Mathlib.Numerals.{add-one}
 use native.Mathlib.Omega.{arith}
 use borrow.Author.Tests.{lt-ltb, le-ltb}
 use lib.Dec.{ltb, lit<}
-use lib.ListN.{length, take, drop, set, length-append, length-take, length-drop, length-set}
-use lib.Seq.{sets, length-sets, sets-eq, set_split, drop_at, length-take-le, take_all, take-nil, append_snoc}
+use lib.ListN.{length, take, set, length-append, length-take}
+use lib.Seq.{sets, length-sets, sets-eq, take_all, take-nil}
 use Rattle.rules.specs.Listing.{decimal_in, decimal, shown, shown_letter}
 use Rattle.rules.proofs.Texts.{sets_append}
 use Rattle.text_pieces.specs.Buffer.{Shown, PiecePut}
@@ -72,32 +71,31 @@ whole {out} {after} {text} {n} {r} e h f =
 
 -- ---- digits
 
-drop_set : (l : List ℕ) (i b : ℕ) → i < length l → drop i (set l i b) ≡ b ∷ drop (suc i) l
-drop_set l i b h = rw (set_split l i b h) (drop_at (take i l) (b ∷ drop (suc i) l) i (length-take-le i l (omega arith)))
+pub tenth : (k n : ℕ) → n < 10 ^ suc k → n / 10 < 10 ^ k
+tenth k n h = (div-lt_iff_lt-mul (lit< tt)).1 (rw (pow-suc 10 k) at h)
 
--- a number of more than one digit has room for another
-pub roomy : (i x : ℕ) → 10 ≤ x → x < 10 ^ (i + 1) → 0 < i
-roomy zero x g h = omega arith
-roomy (suc i) x g h = omega arith
-
--- one digit more stands before those that do
-pub digit_more : (l : List ℕ) (i x : ℕ) → 10 ≤ x → 0 < i → i < length l
-    → decimal_in (i + 1) x ++ drop (i + 1) l ≡ decimal_in (i - 1 + 1) (x / 10) ++ drop (i - 1 + 1) (set l i (48 + x % 10))
+-- room for more digits than a number has changes nothing
+room_for_more : (k n : ℕ) → n < 10 ^ suc k → decimal_in (suc k) n ≡ decimal_in (suc (suc k)) n
 unfolding decimal_in
-digit_more l i x g p h =
-    let e : i - 1 + 1 ≡ i = omega arith in
-    rw (e, add-one, drop_set l i (48 + x % 10) h, le-ltb x 10 g) (append_snoc (decimal_in i (x / 10)) (48 + x % 10) (drop (suc i) l))
+room_for_more zero n h = rw (lt-ltb n 10 h)
+room_for_more (suc k) n h = ap (λ (s : List ℕ). cond (ltb n 10) ((48 + n) ∷ []) (s ++ ((48 + n % 10) ∷ []))) (room_for_more k (n / 10) (tenth (suc k) n h))
 
--- the first digit, with all that stand behind it
-pub digit_first : (l : List ℕ) (i x : ℕ) → x < 10 → i ≤ 19 → length l ≡ 20 → decimal_in (i + 1) x ++ drop (i + 1) l ≡ take (20 - i) (drop i (set l i (48 + x)))
+more_in : (k n : ℕ) → 10 ≤ n → n < 10 ^ suc (suc k) → decimal_in (suc (suc k)) n ≡ decimal_in (suc (suc k)) (n / 10) ++ ((48 + n % 10) ∷ [])
 unfolding decimal_in
-digit_first l i x g h e =
-    rw (take_all (20 - i) (drop i (set l i (48 + x))) (simp (length-drop, length-set) (omega arith)), add-one, drop_set l i (48 + x) (omega arith), lt-ltb x 10 g)
+more_in k n g h = rw (le-ltb n 10 g) (ap (λ (s : List ℕ). s ++ ((48 + n % 10) ∷ [])) (room_for_more k (n / 10) (tenth (suc k) n h)))
 
-pub tenth : (i x : ℕ) → 0 < i → x < 10 ^ (i + 1) → x / 10 < 10 ^ (i - 1 + 1)
-tenth i x p h =
-    let e : i - 1 + 1 ≡ i = omega arith in
-    rw e ((div-lt_iff_lt-mul (lit< tt)).1 (rw (add-one, pow-suc 10 i) at h))
+-- the digits before the last, and the last
+pub more_digits : (n : ℕ) → 10 ≤ n → n < 10 ^ 20 → decimal n ≡ decimal (n / 10) ++ ((48 + n % 10) ∷ [])
+unfolding decimal
+more_digits n g h = more_in 18 n g h
+
+one_in : (k n : ℕ) → n < 10 → decimal_in (suc k) n ≡ (48 + n % 10) ∷ []
+unfolding decimal_in
+one_in k n h = let same : n % 10 ≡ n = omega arith in rw (lt-ltb n 10 h, same)
+
+pub one_digit : (n : ℕ) → n < 10 → decimal n ≡ (48 + n % 10) ∷ []
+unfolding decimal
+one_digit n h = one_in 19 n h
 
 -- ---- room
 

@@ -11,9 +11,10 @@ pub fn put_byte(out: &mut [u8], at: usize, b: u8) -> usize
 {
     if at < out.len() {
         out[at] = b;
-        return at + 1;
+        at + 1
+    } else {
+        at
     }
-    at
 }
 
 // A text, as far as there is room for it.
@@ -21,28 +22,22 @@ pub fn put_text(out: &mut [u8], at: usize, text: &[u8]) -> usize
     ensures { PiecePut out.old at text.now result out.new }
 {
     let mut next = at;
-    let mut i = 0;
-    while i < text.len() {
-        next = put_byte(out, next, text[i]);
-        i += 1;
+    for b in text {
+        next = put_byte(out, next, *b);
     }
     next
 }
 
-// A number in decimal, with no zero in front: its digits from the last to the first, then as a text.
+// A number in decimal, with no zero in front: the digits before the last, where there are some, and the last.
 pub fn put_decimal(out: &mut [u8], at: usize, n: u64) -> usize
     ensures { PiecePut out.old at (decimal n) result out.new }
 {
-    let mut digits = [48u8; 20];
-    let mut i = 19;
-    let mut x = n;
-    while 10 <= x {
-        digits[i] = 48 + (x % 10) as u8;
-        i -= 1;
-        x = x / 10;
-    }
-    digits[i] = 48 + x as u8;
-    put_text(out, at, &digits[i..])
+    let next = if 10 <= n {
+        put_decimal(out, at, n / 10)
+    } else {
+        at
+    };
+    put_byte(out, next, b'0' + (n % 10) as u8)
 }
 
 // A space and a number.

@@ -1,14 +1,14 @@
 -- What the pieces of a quoted line put into a buffer, one after the other, in the forms that `search` finds. Assumes nothing.
-use Prim.Native.Nat.{ℕ, ◌+◌, ◌-◌, ◌≤◌, ◌<◌}
+use Prim.Native.Nat.{ℕ, ◌+◌, ◌-◌, ◌≤◌, ◌<◌, min}
 use mathlib.Core.Bool.{Bool, true, false, cond}
 use mathlib.Core.List.{List, [], ◌∷◌, ◌++◌, map}
 use mathlib.Core.Path.{◌≡◌, refl, sym, ap}
 use native.Mathlib.Numerals.{add-one}
 use native.Mathlib.Omega.{arith}
-use borrow.Author.Tests.{eq-eqb, ne_eqb}
+use borrow.Author.Tests.{leb-true, leb-false, eq-eqb, ne_eqb}
 use lib.Dec.{leb}
-use lib.ListN.{length, get_or, take, drop, replicate, drop_of_length-le, length-drop, replicate-append-replicate}
-use lib.Seq.{take-suc, take_all, take-nil}
+use lib.ListN.{length, get_or, take, drop, replicate, replicate-append-replicate}
+use lib.Seq.{take-suc, take_all}
 use Rattle.text_pieces.specs.Buffer.{PiecePut}
 use Rattle.text_pieces.proofs.Laws.{then, nothing}
 use Rattle.text_quote.specs.Quote.{visible, before, window, window_line, caret_line, quote}
@@ -25,22 +25,16 @@ visible_more l i h = rw (add-one, take-suc l i 0 h) (map_snoc visible (take i l)
 pub space_more : (i : ℕ) → replicate {A = ℕ} (i + 1) 32 ≡ replicate i 32 ++ (32 ∷ [])
 space_more i = sym (replicate-append-replicate {A = ℕ} i 1 32)
 
-module _ (l : List ℕ) (b from : ℕ) (e : from ≡ before b) where
-  pub window_none : length l ≤ from → [] ≡ window b l
-  unfolding window
-  window_none h = rw (← e, drop_of_length-le l h) (sym (take-nil 80))
-
-  pub window_rest : length l - from < 80 → take (length l - from) (drop from l) ≡ window b l
-  unfolding window
-  window_rest h = rw (
-    ← e,
-    take_all (length l - from) (drop from l) (simp length-drop (omega arith)),
-    take_all 80 (drop from l) (simp length-drop (omega arith)),
-  )
-
-  pub window_full : take (from + 80 - from) (drop from l) ≡ window b l
-  unfolding window
-  window_full = let n : from + 80 - from ≡ 80 = omega arith in rw (← e, n)
+-- at most 80 of the bytes from a place on
+pub window_shown : (l rest : List ℕ) (b from n : ℕ) → from ≡ before b → rest ≡ drop from l → n ≡ min (length rest) 80 → take n rest ≡ window b l
+unfolding window
+window_shown l rest b from n e f g = rw (← e, ← f) (by (leb (length rest) 80) refl)
+  where
+    by : (t : Bool) → leb (length rest) 80 ≡ t → take n rest ≡ take 80 rest
+    by true h =
+        let few : length rest ≤ 80 = leb-true (length rest) 80 h in
+        rw (take_all n rest (omega (arith, g)), take_all 80 rest few)
+    by false h = let same : n ≡ 80 = omega (arith, g, leb-false (length rest) 80 h) in rw same
 
 pub before_least : (b : ℕ) → before b ≤ b - 1
 unfolding before

@@ -8,16 +8,14 @@ ghost use Rattle.text_quote.specs.Quote.{visible, window, window_line, caret_lin
 use text_pieces::put_byte;
 
 // A byte as it is shown.
+#[tactic(auto, using(std::proofs::lemmas::Bool::Decides::nat_tests), unfolding(crate::specs::Quote::visible))]
 fn visible(b: u8) -> u8
     ensures { result ≡ visible b }
 {
-    if b < 32 {
-        return b'?';
+    match b {
+        b' '..=b'~' => b,
+        _ => b'?',
     }
-    if 126 < b {
-        return b'?';
-    }
-    b
 }
 
 // The bytes of a text, each as it is shown.
@@ -25,10 +23,8 @@ fn put_visible(out: &mut [u8], at: usize, text: &[u8]) -> usize
     ensures { PiecePut out.old at (map visible text.now) result out.new }
 {
     let mut next = at;
-    let mut i = 0;
-    while i < text.len() {
-        next = put_byte(out, next, visible(text[i]));
-        i += 1;
+    for b in text {
+        next = put_byte(out, next, visible(*b));
     }
     next
 }
@@ -37,10 +33,8 @@ fn put_spaces(out: &mut [u8], at: usize, n: usize) -> usize
     ensures { PiecePut out.old at (replicate n 32) result out.new }
 {
     let mut next = at;
-    let mut left = n;
-    while 0 < left {
+    for _ in 0..n {
         next = put_byte(out, next, b' ');
-        left -= 1;
     }
     next
 }
@@ -59,15 +53,8 @@ pub fn bytes_before(byte: usize) -> usize
 fn window(text: &[u8], byte: usize) -> &[u8]
     ensures { result.now ≡ window byte text.now }
 {
-    let from = bytes_before(byte);
-    if text.len() <= from {
-        return &text[0..0];
-    }
-    if text.len() - from < 80 {
-        return &text[from..];
-    }
-    let to = from + 80;
-    &text[from..to]
+    let rest = text.get(bytes_before(byte)..).unwrap_or_default();
+    &rest[..rest.len().min(80)]
 }
 
 fn put_window(out: &mut [u8], at: usize, text: &[u8], byte: usize) -> usize

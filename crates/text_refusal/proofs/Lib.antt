@@ -1,3 +1,3 @@
--- What the proofs share, and that each promise has one answer.
+-- How long the names and meanings are at most, and that each promise has one answer.
 pub mod Words
 pub mod Only

@@ -1,8 +1,8 @@
 -- Document 01, 'Refusal numbers', with the numbers of document 02: the name of each number and when it is given, in the documents' own words; and the promises of this crate.
-use Rattle.std.specs.Prelude.{ℕ, ◌-◌, ◌≤◌, ◌<◌, List, [], ◌∷◌, map, ◌≡◌, length, get_or}
+use Rattle.std.specs.Prelude.{ℕ, ◌-◌, List, [], ◌∷◌, map, ◌≡◌, get_or}
 use Prim.Native.String.{String}
 use Rattle.text_pieces.specs.Buffer.{PiecePut}
-use Rattle.rules.specs.Choice.{bytes, part}
+use Rattle.rules.specs.Choice.{bytes}
 use Rattle.rules.specs.Refusals.{number}
 use Rattle.rules.specs.declared.Reason.{Reason}
 
@@ -76,15 +76,3 @@ NamePut reason out at r after = PiecePut out at (name reason) r after
 
 abbrev pub MeaningPut : Reason → List ℕ → ℕ → ℕ → List ℕ → Type 0
 MeaningPut reason out at r after = PiecePut out at (meaning reason) r after
-
--- ---- words that stand one after the other
-
--- the word of number n, counted from 1, where `ends` tells where the first begins and where each ends
-abbrev pub word_at : List ℕ → List ℕ → ℕ → List ℕ
-word_at words ends n = part (get_or ends (n - 1) 0) (get_or ends n 0) words
-
-pub record WordIn (words ends : List ℕ) (n : ℕ) : Type 0 where
-  pub low : 1 ≤ n
-  pub high : n < length ends
-  pub ordered : get_or ends (n - 1) 0 ≤ get_or ends n 0
-  pub inside : get_or ends n 0 ≤ length words

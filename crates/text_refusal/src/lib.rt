@@ -1,93 +1,14 @@
 // The table of refusals, document 01's with the numbers of document 02: the number, the name and the meaning of each.
 #![tactic(auto)]
 
-ghost use Rattle.text_pieces.specs.Buffer.{PiecePut};
-ghost use Rattle.text_refusal.specs.Table.{NumberOf, NamePut, MeaningPut, WordIn, word_at};
+ghost use Rattle.std.specs.Prelude.{◌≡◌};
+ghost use Rattle.text_refusal.specs.Table.{NumberOf, NamePut, MeaningPut, name, meaning};
 
 use rules::Reason;
 use text_pieces::put_text;
 
-// The names, that of number 1 first; where the first begins, and where each ends.
-const NAMES: [u8; 206] = *b"\
-    EMPTY\
-    TOO_LONG\
-    LINE_END\
-    EMPTY_LINE\
-    KIND\
-    ORDER\
-    LENGTH\
-    CHARACTER\
-    FORM\
-    TILE\
-    TWICE\
-    WIDTH\
-    COLUMN\
-    BACK\
-    TABLE_FULL\
-    ENDS_EARLY\
-    BAD_VALUE\
-    NO_ROOM\
-    ABSENT\
-    NOT_NUMBER\
-    INPUT_OVER\
-    TIME\
-    POSITION\
-    ALTITUDE\
-    DATE\
-    NOT_SAME\
-    SHELF\
-    ID\
-    ENTRIES\
-    NO_RUN\
-    NOT_FOUND\
-";
-
-const NAME_ENDS: [usize; 32] = [
-    0, 5, 13, 21, 31, 35, 40, 46, 55, 59, 63, 68, 73, 79, 83, 93, 103, 112, 119, 125, 135, 145,
-    149, 157, 165, 169, 177, 182, 184, 191, 197, 206,
-];
-
-// When each number is given, in the same way.
-const MEANINGS: [u8; 840] = *b"\
-    no bytes\
-    over the limit\
-    first CR or LF is not CR LF, or none comes\
-    length 0\
-    first byte not A to Z\
-    kind not allowed here\
-    outside its limits\
-    first invalid one\
-    first field against its rule\
-    SS or FF wrong\
-    code again\
-    listed code, wrong width\
-    listed column against its rule\
-    time falls\
-    good line, no entry left\
-    end inside a declaration, before line 2, or in the strict check without G\
-    value, layout, line number or place given is not allowed\
-    output shorter than place + length + 2\
-    code (any 3 bytes) not in the layout\
-    column is no such number\
-    program's input over 65,536 bytes\
-    time field against its rule\
-    latitude or longitude against its rule\
-    altitude against its rule\
-    date against its rule\
-    files differ before the end of the last G line\
-    buffer breaks the rules of a shelf\
-    flight number is 0 or in use\
-    no entry is free\
-    no free run is long enough\
-    flight number is 0 or not held\
-";
-
-const MEANING_ENDS: [usize; 32] = [
-    0, 8, 22, 64, 72, 93, 114, 132, 149, 177, 191, 201, 225, 255, 265, 289, 362, 418, 456, 492,
-    516, 549, 576, 614, 639, 660, 706, 740, 768, 784, 810, 840,
-];
-
 // The number of a refusal, by the table.
+#[tactic(auto, unfolding(rules::specs::Refusals::number))]
 pub fn number(reason: Reason) -> u8
     ensures { NumberOf reason result }
 {
@@ -126,32 +47,97 @@ pub fn number(reason: Reason) -> u8
     }
 }
 
-// The word of number n, of words that stand one after the other.
-fn put_word(out: &mut [u8], at: usize, words: &[u8], ends: &[usize], n: usize) -> usize
-    requires { WordIn words.now ends.now n }
-    ensures { PiecePut out.old at (word_at words.now ends.now n) result out.new }
+// Its name.
+#[tactic(auto, unfolding(crate::specs::Table::name, crate::specs::Table::names, crate::specs::Table::rows, rules::specs::Refusals::number, rules::specs::Choice::bytes))]
+fn name(reason: Reason) -> &'static [u8]
+    ensures { result.now ≡ name reason }
 {
-    let from = ends[n - 1];
-    let to = ends[n];
-    put_text(out, at, &words[from..to])
+    match reason {
+        Reason::Empty => b"EMPTY",
+        Reason::TooLong => b"TOO_LONG",
+        Reason::LineEnd => b"LINE_END",
+        Reason::EmptyLine => b"EMPTY_LINE",
+        Reason::Kind => b"KIND",
+        Reason::Order => b"ORDER",
+        Reason::Length => b"LENGTH",
+        Reason::Character => b"CHARACTER",
+        Reason::Form => b"FORM",
+        Reason::Tile => b"TILE",
+        Reason::Twice => b"TWICE",
+        Reason::Width => b"WIDTH",
+        Reason::Column => b"COLUMN",
+        Reason::Back => b"BACK",
+        Reason::TableFull => b"TABLE_FULL",
+        Reason::EndsEarly => b"ENDS_EARLY",
+        Reason::BadValue => b"BAD_VALUE",
+        Reason::NoRoom => b"NO_ROOM",
+        Reason::Absent => b"ABSENT",
+        Reason::NotNumber => b"NOT_NUMBER",
+        Reason::InputOver => b"INPUT_OVER",
+        Reason::Time => b"TIME",
+        Reason::Position => b"POSITION",
+        Reason::Altitude => b"ALTITUDE",
+        Reason::Date => b"DATE",
+        Reason::NotSame => b"NOT_SAME",
+        Reason::Shelf => b"SHELF",
+        Reason::Id => b"ID",
+        Reason::Entries => b"ENTRIES",
+        Reason::NoRun => b"NO_RUN",
+        Reason::NotFound => b"NOT_FOUND",
+    }
+}
+
+// When it is given.
+#[tactic(auto, unfolding(crate::specs::Table::meaning, crate::specs::Table::meanings, crate::specs::Table::rows, rules::specs::Refusals::number, rules::specs::Choice::bytes))]
+fn meaning(reason: Reason) -> &'static [u8]
+    ensures { result.now ≡ meaning reason }
+{
+    match reason {
+        Reason::Empty => b"no bytes",
+        Reason::TooLong => b"over the limit",
+        Reason::LineEnd => b"first CR or LF is not CR LF, or none comes",
+        Reason::EmptyLine => b"length 0",
+        Reason::Kind => b"first byte not A to Z",
+        Reason::Order => b"kind not allowed here",
+        Reason::Length => b"outside its limits",
+        Reason::Character => b"first invalid one",
+        Reason::Form => b"first field against its rule",
+        Reason::Tile => b"SS or FF wrong",
+        Reason::Twice => b"code again",
+        Reason::Width => b"listed code, wrong width",
+        Reason::Column => b"listed column against its rule",
+        Reason::Back => b"time falls",
+        Reason::TableFull => b"good line, no entry left",
+        Reason::EndsEarly =>
+            b"end inside a declaration, before line 2, or in the strict check without G",
+        Reason::BadValue => b"value, layout, line number or place given is not allowed",
+        Reason::NoRoom => b"output shorter than place + length + 2",
+        Reason::Absent => b"code (any 3 bytes) not in the layout",
+        Reason::NotNumber => b"column is no such number",
+        Reason::InputOver => b"program's input over 65,536 bytes",
+        Reason::Time => b"time field against its rule",
+        Reason::Position => b"latitude or longitude against its rule",
+        Reason::Altitude => b"altitude against its rule",
+        Reason::Date => b"date against its rule",
+        Reason::NotSame => b"files differ before the end of the last G line",
+        Reason::Shelf => b"buffer breaks the rules of a shelf",
+        Reason::Id => b"flight number is 0 or in use",
+        Reason::Entries => b"no entry is free",
+        Reason::NoRun => b"no free run is long enough",
+        Reason::NotFound => b"flight number is 0 or not held",
+    }
 }
 
 // The name of a refusal, put into a buffer at a place of it: the place behind it.
 pub fn put_name(out: &mut [u8], at: usize, reason: Reason) -> usize
     ensures { NamePut reason out.old at result out.new }
 {
-    let n = number(reason) as usize;
-    let words = NAMES;
-    let ends = NAME_ENDS;
-    put_word(out, at, &words, &ends, n)
+    put_text(out, at, name(reason))
 }
 
 // When a refusal is given, put into a buffer at a place of it: the place behind it.
 pub fn put_meaning(out: &mut [u8], at: usize, reason: Reason) -> usize
     ensures { MeaningPut reason out.old at result out.new }
 {
-    let n = number(reason) as usize;
-    let words = MEANINGS;
-    let ends = MEANING_ENDS;
-    put_word(out, at, &words, &ends, n)
+    put_text(out, at, meaning(reason))
 }

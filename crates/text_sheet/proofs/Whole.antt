@@ -1,8 +1,8 @@
 -- A sheet's lines have room in a block of 64,000 bytes, so none is cut; and sheets one after the other are the lines of the whole track. Assumes nothing.
+use Rattle.std.specs.Prelude.{None}
 use Prim.Native.Nat.{ℕ, zero, suc, ◌+◌, ◌*◌, ◌≤◌}
 use mathlib.Core.Bool.{Bool, true, false, cond}
 use mathlib.Core.List.{List, [], ◌++◌, append_assoc}
-use mathlib.Core.Option.{none}
 use mathlib.Core.Path.{◌≡◌, refl, sym, ap, ◌∙◌}
 use native.Mathlib.Nat.{zero-add, suc-add}
 use native.Mathlib.Omega.{arith}
@@ -65,5 +65,5 @@ unfolding lines_from records_shown fixes_from
 lines_shown file from zero = refl
 lines_shown file from (suc n) = ap (λ (l : List ℕ). line_of (step_of file from).found ++ l) (lines_shown file (step_of file from).next n)
 
-pub track_whole : (file : List ℕ) (f : Flight) → verdict track_seal file none ≡ says f → lines_from file (start_by (fix_size f) f.layouts.b) (count_of family.B f.counts) ≡ records_shown (track_of file f.layouts.b)
+pub track_whole : (file : List ℕ) (f : Flight) → verdict track_seal file None ≡ says f → lines_from file (start_by (fix_size f) f.layouts.b) (count_of family.B f.counts) ≡ records_shown (track_of file f.layouts.b)
 track_whole file f e = lines_shown file (start_by (fix_size f) f.layouts.b) (count_of family.B f.counts) ∙ ap records_shown (found_all file f e)

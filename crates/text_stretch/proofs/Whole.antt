@@ -1,8 +1,8 @@
 -- A sheet's lines have room in a block of 64,800 bytes, so none is cut; and sheets one after the other are the lines of the whole track. Assumes nothing.
+use Rattle.std.specs.Prelude.{None}
 use Prim.Native.Nat.{ℕ, zero, suc, ◌+◌, ◌*◌, ◌≤◌}
 use mathlib.Core.Bool.{Bool, true, false, cond}
 use mathlib.Core.List.{List, [], ◌++◌, append_assoc}
-use mathlib.Core.Option.{none}
 use mathlib.Core.Path.{◌≡◌, refl, sym, ap, ◌∙◌}
 use native.Mathlib.Nat.{zero-add, suc-add}
 use native.Mathlib.Omega.{arith}
@@ -67,5 +67,5 @@ unfolding lines_from records_shown fixes_from
 lines_shown form file from zero = refl
 lines_shown form file from (suc n) = ap (λ (l : List ℕ). line_as form (step_of file from).found ++ l) (lines_shown form file (step_of file from).next n)
 
-pub track_whole : (form : Form) (file : List ℕ) (f : Flight) → verdict track_seal file none ≡ says f → lines_from form file (start_by (fix_size f) f.layouts.b) (count_of family.B f.counts) ≡ records_shown form (track_of file f.layouts.b)
+pub track_whole : (form : Form) (file : List ℕ) (f : Flight) → verdict track_seal file None ≡ says f → lines_from form file (start_by (fix_size f) f.layouts.b) (count_of family.B f.counts) ≡ records_shown form (track_of file f.layouts.b)
 track_whole form file f e = lines_shown form file (start_by (fix_size f) f.layouts.b) (count_of family.B f.counts) ∙ ap (records_shown form) (found_all file f e)

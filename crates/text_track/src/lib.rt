@@ -2,12 +2,12 @@
 #![tactic(auto)]
 
 ghost use Rattle.text_pieces.specs.Buffer.{PiecePut};
-ghost use Rattle.text_track.specs.Trail.{moment_shown, heights_shown, record_shown};
+ghost use Rattle.text_track.specs.Trail.{moment_shown, record_shown};
 
 use rules::{FineTime, Fix};
 use text_decimals::{put_clock, put_degrees};
-use text_listing::{put_letter, put_metres};
-use text_pieces::{put_byte, put_decimal, put_shown};
+use text_listing::put_heights;
+use text_pieces::{put_decimal, put_shown};
 
 // The beginning of a record's line: its line number, its day and its time.
 fn put_moment(out: &mut [u8], at: usize, line: u32, day: u32, t: FineTime) -> usize
@@ -18,16 +18,6 @@ fn put_moment(out: &mut [u8], at: usize, line: u32, day: u32, t: FineTime) -> us
     put_clock(out, b, t)
 }
 
-// The end of a record's line: its validity and both altitudes.
-fn put_heights(out: &mut [u8], at: usize, f: Fix) -> usize
-    ensures { PiecePut out.old at (heights_shown f) result out.new }
-{
-    let a = put_letter(out, at, f.validity);
-    let b = put_metres(out, a, f.pressure);
-    let c = put_metres(out, b, f.gnss);
-    put_byte(out, c, b'\n')
-}
-
 // A record's line, from a place of the buffer on: its line number, its day and what its fix says. The answer is the place behind it; a full buffer takes no more.
 pub fn put_record(out: &mut [u8], at: usize, line: u32, day: u32, f: Fix) -> usize
     ensures { PiecePut out.old at (record_shown line day f) result out.new }
@@ -35,5 +25,5 @@ pub fn put_record(out: &mut [u8], at: usize, line: u32, day: u32, f: Fix) -> usi
     let a = put_moment(out, at, line, day, f.time);
     let b = put_degrees(out, a, f.lat);
     let c = put_degrees(out, b, f.lon);
-    put_heights(out, c, f)
+    put_heights(out, c, f.validity, f.pressure, f.gnss)
 }

@@ -39,8 +39,5 @@ pub fn lasted(list: &[i32]) -> u64
 {
     let begin = natural_at(list, 1) as u64 * 86400 + natural_at(list, 2) as u64;
     let end = natural_at(list, 3) as u64 * 86400 + natural_at(list, 4) as u64;
-    if end < begin {
-        return 0;
-    }
-    end - begin
+    end.saturating_sub(begin)
 }

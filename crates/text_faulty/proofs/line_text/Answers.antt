@@ -1,5 +1,4 @@
 -- `text_faulty::line_text` meets its contract: the part from where the line starts to where its text ends. Assumes nothing.
-use borrow.Author.Rules.{rules}
 use Rattle.text_faulty.proofs.Places.{text_zero, text_found}
 use Rattle.text_faulty.proofs.line_text.Goals as goal
 

@@ -6,5 +6,5 @@ use Rattle.text_faulty.proofs.text_end.Goals as goal
 pub returns-in-At : goal.returns-in-At
 returns-in-At c = search (whole_text, rules)
 
-pub returns-in-Broken : goal.returns-in-Broken
-returns-in-Broken c = search (broken_text, rules)
+pub returns-in-At-2 : goal.returns-in-At-2
+returns-in-At-2 c = search (broken_text, rules)

@@ -1,5 +1,4 @@
 -- `text_instant::put_civil` meets its contract. Assumes nothing.
-use borrow.Author.Rules.{rules}
 use Rattle.text_pieces.proofs.Laws.{pieces}
 use Rattle.text_dates.specs.Dates.{date_shown}
 use Rattle.text_instant.proofs.put_civil.Goals as goal

@@ -5,4 +5,4 @@ use Rattle.text_listing.proofs.Laws.{fix_room}
 use Rattle.text_listing.proofs.fix.Goals as goal
 
 pub returns : goal.returns
-returns c = whole c.put_fix-arg-1.given.0.1 (fix_room _ _) c.put_fix.ensures
+returns c = whole (search rules) (fix_room _ _) c.put_fix.ensures

@@ -7,4 +7,4 @@ use Rattle.text_listing.proofs.ok.Goals as goal
 pub returns : goal.returns
 returns c =
     let lengths = rw (c.line_length-n.ensures, c.line_length-k.ensures, c.line_length-b.ensures) at c.put_flight.ensures in
-    whole c.put_flight-arg-1.given.0.1 (ok_room _) (rw ok_parts lengths)
+    whole (search rules) (ok_room _) (rw ok_parts lengths)

@@ -5,4 +5,4 @@ use Rattle.text_listing.proofs.Laws.{refused_room}
 use Rattle.text_listing.proofs.refused.Goals as goal
 
 pub returns : goal.returns
-returns c = whole c.put_refusal-arg-1.given.0.1 (refused_room _ _ _) (rw (← c.number-number.ensures) c.put_refusal.ensures)
+returns c = whole (search rules) (refused_room _ _ _) (rw (← c.number-number.ensures) c.put_refusal.ensures)

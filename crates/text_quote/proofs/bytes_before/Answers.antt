@@ -1,6 +1,5 @@
 -- `text_quote::bytes_before` meets its contract. Assumes nothing.
 use borrow.Author.Tests.{le-leb, lt-leb}
-use borrow.Author.Rules.{rules}
 use Rattle.text_quote.specs.Quote.{before}
 use Rattle.text_quote.proofs.bytes_before.Goals as goal
 

@@ -1,6 +1,5 @@
 -- `text_quote::put_caret` meets its contract. Assumes nothing.
 use native.Mathlib.Omega.{arith}
-use borrow.Author.Rules.{rules}
 use Rattle.text_pieces.proofs.Laws.{byte_then}
 use Rattle.text_quote.proofs.Pieces.{caret_fills, before_least}
 use Rattle.text_quote.proofs.put_caret.Goals as goal

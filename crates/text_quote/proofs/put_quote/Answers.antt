@@ -1,5 +1,4 @@
 -- `text_quote::put_quote` meets its contract. Assumes nothing.
-use borrow.Author.Rules.{rules}
 use Rattle.text_quote.proofs.Pieces.{quote_none, quote_text, quote_fills}
 use Rattle.text_quote.proofs.put_quote.Goals as goal
 

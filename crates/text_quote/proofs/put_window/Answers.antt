@@ -1,5 +1,4 @@
 -- `text_quote::put_window` meets its contract. Assumes nothing.
-use borrow.Author.Rules.{rules}
 use Rattle.text_quote.proofs.Pieces.{window_fills}
 use Rattle.text_quote.proofs.put_window.Goals as goal
 

@@ -1,13 +1,9 @@
 -- `text_quote::window` meets its contract. Assumes nothing.
-use borrow.Author.Rules.{rules}
-use Rattle.text_quote.proofs.Pieces.{window_none, window_rest, window_full}
+use Rattle.text_pieces.proofs.Parts.{rest_got}
+use Rattle.text_quote.proofs.Pieces.{window_shown}
 use Rattle.text_quote.proofs.window.Goals as goal
 
-pub returns-then-text-from : goal.returns-then-text-from
-returns-then-text-from c = search window_none
-
-pub returns-then-text-from-lt80 : goal.returns-then-text-from-lt80
-returns-then-text-from-lt80 c = search window_rest
-
 pub returns : goal.returns
-returns c = search window_full
+returns c =
+    let rest = rest_got _ _ _ _ c.get.ensures.lookup c.unwrap_or_default-rest.ensures in
+    window_shown _ _ _ _ _ c.bytes_before.ensures rest c.min.ensures

@@ -1,5 +1,4 @@
 -- `text_track::put_moment` meets its contract. Assumes nothing.
-use borrow.Author.Rules.{rules}
 use Rattle.text_pieces.proofs.Laws.{pieces}
 use Rattle.text_track.specs.Trail.{moment_shown}
 use Rattle.text_track.proofs.put_moment.Goals as goal

@@ -1,5 +1,4 @@
 -- `text_listing::lines::put_column` meets its contract. Assumes nothing.
-use borrow.Author.Rules.{rules}
 use borrow.Author.Tests.{le-leb, lt-leb}
 use Rattle.text_listing.specs.Lines.{column_line}
 use Rattle.text_pieces.proofs.Laws.{nothing}

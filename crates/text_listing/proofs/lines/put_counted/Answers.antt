@@ -1,5 +1,4 @@
 -- `text_listing::lines::put_counted` meets its contract. Assumes nothing.
-use borrow.Author.Rules.{rules}
 use Rattle.text_listing.specs.Lines.{counted}
 use Rattle.text_pieces.proofs.Laws.{then}
 use Rattle.text_listing.proofs.lines.put_counted.Goals as goal

@@ -1,5 +1,4 @@
 -- `text_listing::lines::put_flight` meets its contract. Assumes nothing.
-use borrow.Author.Rules.{rules}
 use Rattle.rules.specs.Choice.{bytes}
 use Rattle.text_listing.specs.Lines.{ok_numbers}
 use Rattle.text_pieces.proofs.Laws.{then}

@@ -1,5 +1,4 @@
 -- `text_listing::lines::put_places` meets its contract. Assumes nothing.
-use borrow.Author.Rules.{rules}
 use Rattle.rules.specs.Choice.{bytes}
 use Rattle.text_pieces.proofs.Laws.{then}
 use Rattle.text_listing.proofs.Laws.{places_parts}

@@ -1,5 +1,4 @@
 -- `text_listing::lines::put_spelt` meets its contract. Assumes nothing.
-use borrow.Author.Rules.{rules}
 use Rattle.rules.specs.Choice.{bytes}
 use Rattle.rules.specs.Listing.{column_shown}
 use Rattle.text_pieces.proofs.Laws.{then}

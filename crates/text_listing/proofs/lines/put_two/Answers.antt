@@ -1,5 +1,4 @@
 -- `text_listing::lines::put_two` meets its contract. Assumes nothing.
-use borrow.Author.Rules.{rules}
 use Rattle.text_listing.specs.Lines.{two_shown}
 use Rattle.text_pieces.proofs.Laws.{pieces}
 use Rattle.text_listing.proofs.lines.put_two.Goals as goal

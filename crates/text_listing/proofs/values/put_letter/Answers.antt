@@ -1,5 +1,4 @@
 -- `text_listing::values::put_letter` meets its contract. Assumes nothing.
-use borrow.Author.Rules.{rules}
 use Rattle.text_pieces.proofs.Laws.{pieces}
 use Rattle.text_listing.proofs.values.put_letter.Goals as goal
 

@@ -1,11 +1,6 @@
 -- `text_listing::values::put_metres` meets its contract. Assumes nothing.
-use borrow.Author.Rules.{rules}
-use Rattle.text_pieces.proofs.Laws.{pieces}
-use Rattle.text_listing.proofs.Laws.{plain_fills, minus_fills}
+use Rattle.text_listing.proofs.Laws.{behind_space}
 use Rattle.text_listing.proofs.values.put_metres.Goals as goal
 
-pub returns-then-has_no_minus : goal.returns-then-has_no_minus
-returns-then-has_no_minus c = search (pieces, plain_fills, minus_fills) depth 8
-
 pub returns : goal.returns
-returns c = search (pieces, plain_fills, minus_fills) depth 8
+returns c = rw behind_space at c.put_height.ensures
