@@ -1,8 +1,9 @@
 -- What is answered on the columns of a file, and the list afterwards, from the promise of the call. Assumes nothing.
+use Rattle.rules.specs.declared.Refusal.{Refusal}
+use Rattle.std.specs.Prelude.{None, Option, Result, Some}
 use Prim.Native.Nat.{ℕ, ◌+◌, ◌*◌, ◌/◌, ◌≤◌, ◌<◌}
 use mathlib.Core.Bool.{true}
 use mathlib.Core.List.{List, []}
-use mathlib.Core.Option.{Option, none, some}
 use mathlib.Core.Path.{◌≡◌, refl, sym, ap, subst, ◌∙◌}
 use native.Mathlib.Omega.{arith}
 use borrow.Author.Tests.{leb-true}
@@ -13,7 +14,7 @@ use lib.Seq.{drop_at}
 use Rattle.rules.specs.Choice.{given}
 use Rattle.rules.specs.Families.{line_letter, layout_of, count_of, family_of}
 use Rattle.rules.specs.Files.{verdict}
-use Rattle.rules.specs.Refusals.{Said, says, refuses, value_or}
+use Rattle.rules.specs.Refusals.{Said, says, refuses, value_or, result_told}
 use Rattle.rules.specs.Split.{lines_of}
 use Rattle.rules.specs.declared.Extra.TheVariants as extra
 use Rattle.rules.specs.declared.Family.{Family}
@@ -28,16 +29,15 @@ use Rattle.grammar.proofs.Reading.{lines_are}
 use Rattle.track.proofs.Accepted.{texts_read, letters_counted}
 use Rattle.columns_asked.specs.Asks.{names_of, are_codes, are_carried, places_of, places_said, asked_said, spotted}
 use Rattle.columns_asked.proofs.Asking.{names_long, codes_few}
-use Rattle.columns.specs.Columns.{columns_seal, Grid, rows_in, grid_room, grid_in, grid_of, grid_said, lines_said, numbers_in, over, columned_told, FileColumned}
+use Rattle.columns.specs.Columns.{columns_seal, Grid, rows_in, grid_room, grid_in, grid_of, grid_said, lines_said, numbers_in, over, FileColumned}
 use Rattle.columns.specs.Lines.{Found}
-use Rattle.columns.specs.declared.Columned.{Columned}
 use Rattle.columns.proofs.Columning.{found_long}
 use Rattle.claims_columns.specs.Barogram.{of_family, IsCell}
 use Rattle.claims_columns.proofs.Cells.{rows_cells}
 
 -- an accepted file has met the grammar
-pub met : (file : List ℕ) (f : Flight) → verdict columns_seal file none ≡ says f → (m : Meets columns_seal file) × (flight_of m ≡ f)
-met file f e = let a = (accepted_as columns_seal file none f).0 e in (a.0, a.2)
+pub met : (file : List ℕ) (f : Flight) → verdict columns_seal file None ≡ says f → (m : Meets columns_seal file) × (flight_of m ≡ f)
+met file f e = let a = (accepted_as columns_seal file None f).0 e in (a.0, a.2)
 
 -- its counts are those of the lines that the grammar finds
 pub counts_are : (file : List ℕ) (m : Meets columns_seal file) (g : Family) → count_of g (flight_of m).counts ≡ beginning (line_letter g) (lines_in m.parts)
@@ -47,23 +47,23 @@ counts_are file m (family.Extra extra.N) = refl
 
 -- ---- an answer that is no refusal
 
-module _ (file : List ℕ) (letter : ℕ) (codes : List ℕ) (list : List ℤ) (r : Columned) (after : List ℤ) (w : FileColumned file letter codes list r after) where
+module _ (file : List ℕ) (letter : ℕ) (codes : List ℕ) (list : List ℤ) (r : Result ℕ Refusal) (after : List ℤ) (w : FileColumned file letter codes list r after) where
   pub record Stands (n : ℕ) : Type 0 where
     pub flight : Flight
-    pub accepted : verdict columns_seal file none ≡ says flight
+    pub accepted : verdict columns_seal file None ≡ says flight
     pub family : Family
-    pub of : family_of letter ≡ some family
+    pub of : family_of letter ≡ Some family
     pub are : are_codes codes ≡ true
     pub carried : are_carried (layout_of family flight.layouts) (names_of codes) ≡ true
     pub count : n ≡ count_of family flight.counts
     pub room : n * (length codes / 3) ≤ length list
     pub is : after ≡ over (rows_in family (layout_of family flight.layouts) (names_of codes) (lines_of file)) list
 
-  pub stands : (n : ℕ) → columned_told r ≡ says n → Stands n
+  pub stands : (n : ℕ) → result_told r ≡ says n → Stands n
   unfolding grid_said grid_of grid_in grid_room asked_said places_said
   stands n e =
       let a = then_inv (grid_said file letter codes (length list)) n _ (sym w.told ∙ e) in
-      let b = then_inv (verdict columns_seal file none) a.0 _ a.1 in
+      let b = then_inv (verdict columns_seal file None) a.0 _ a.1 in
       let f = b.0 in
       let c = given_inv (family_of letter) _ (says a.0) _ refuses_says b.2 in
       let g = c.0 in
@@ -103,14 +103,14 @@ module _ (file : List ℕ) (letter : ℕ) (codes : List ℕ) (list : List ℤ) (
         )
 
     -- of the grammar's reading of the file, and the family of the letter
-    module _ (m : Meets columns_seal file) (g : Family) (o : family_of letter ≡ some g) where
+    module _ (m : Meets columns_seal file) (g : Family) (o : family_of letter ≡ Some g) where
       flight_same : s.flight ≡ flight_of m
       flight_same =
-          let v : says s.flight ≡ says (flight_of m) = sym s.accepted ∙ (accepted_as columns_seal file none (flight_of m)).1 (m, tt, refl) in
+          let v : says s.flight ≡ says (flight_of m) = sym s.accepted ∙ (accepted_as columns_seal file None (flight_of m)).1 (m, tt, refl) in
           ap (value_or (flight_of m)) v
 
       family_same : s.family ≡ g
-      family_same = let v : some s.family ≡ some g = sym s.of ∙ o in ap (λ (x : Option Family). given x g λ y. y) v
+      family_same = let v : Some s.family ≡ Some g = sym s.of ∙ o in ap (λ (x : Option Family). given x g λ y. y) v
 
       pub counts : (n ≡ beginning (line_letter g) (lines_in m.parts)) × (n * (length codes / 3) ≤ length list)
       counts =
@@ -135,7 +135,7 @@ module _ (file : List ℕ) (letter : ℕ) (codes : List ℕ) (list : List ℤ) (
   -- ---- a refusal
 
   -- nothing changes
-  pub leaves : (n l b : ℕ) → columned_told r ≡ refuses n l b → after ≡ list
+  pub leaves : (n l b : ℕ) → result_told r ≡ refuses n l b → after ≡ list
   leaves n l b e = by (grid_said file letter codes (length list)) refl (sym w.told ∙ e)
     where
       by : (s : Said Grid) → grid_said file letter codes (length list) ≡ s → lines_said s ≡ refuses n l b → after ≡ list

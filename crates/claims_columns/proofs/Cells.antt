@@ -1,8 +1,8 @@
 -- The number at a row and a column is what the look gives in the reading of that row's line. Assumes nothing.
+use Rattle.std.specs.Prelude.{None, Option, Some}
 use Prim.Native.Nat.{ℕ, zero, suc, ◌+◌, ◌*◌, ◌<◌}
 use mathlib.Core.Bool.{Bool, true, false, cond}
 use mathlib.Core.List.{List, [], ◌∷◌, ◌++◌, append_assoc}
-use mathlib.Core.Option.{Option, none, some}
 use mathlib.Core.Path.{◌≡◌, refl}
 use native.Mathlib.Nat.{suc-mul, zero-mul}
 use native.Mathlib.Omega.{arith}
@@ -13,7 +13,8 @@ use lib.ListN.{length, get_or}
 use lib.Seq.{get_or-append-add}
 use Rattle.rules.specs.Choice.{given, Each}
 use Rattle.rules.specs.Families.{line_letter, layout_of}
-use Rattle.rules.specs.Layouts.{Span, look, carries, column_text}
+use Rattle.rules.specs.declared.Span.{Span}
+use Rattle.rules.specs.Layouts.{look, carries, column_text}
 use Rattle.rules.specs.Listed.{packed_of}
 use Rattle.rules.specs.Looks.{look_number}
 use Rattle.rules.specs.Numbers.{whole_of}
@@ -36,23 +37,23 @@ use Rattle.claims_columns.specs.Barogram.{of_family, IsCell, is_number, is_marke
 
 module _ (g : Family) (layout : Layout) (t : List ℕ) (r : ReadsColumned g layout t) where
   -- what the look says of a column that the layout has
-  said : (name : List ℕ) (s : Span) → look layout (packed_of name) ≡ some s → look_number t layout name ≡ given (whole_of (column_text t s)) (no reason.NotNumber 0) λ z. says z
+  said : (name : List ℕ) (s : Span) → look layout (packed_of name) ≡ Some s → look_number t layout name ≡ given (whole_of (column_text t s)) (no reason.NotNumber 0) λ z. says z
   unfolding look_number
   said name s e = rw (look_there t layout name (fits_by layout t (packed_of name) s e (entries_so g layout t r)), e)
 
   by_whole : (name : List ℕ) (o : Option Signed) → look_number t layout name ≡ given o (no reason.NotNumber 0) (λ z. says z) → IsCell g layout t name (number_in (look_number t layout name))
   unfolding number
-  by_whole name (some z) p = rw p (is_number (reads_so g layout t r).0 z (reads_so g layout t r).1 p)
-  by_whole name none p = rw p (is_marked (reads_so g layout t r).0 (reads_so g layout t r).1 p)
+  by_whole name (Some z) p = rw p (is_number (reads_so g layout t r).0 z (reads_so g layout t r).1 p)
+  by_whole name None p = rw p (is_marked (reads_so g layout t r).0 (reads_so g layout t r).1 p)
 
   -- one cell
-  cell_so : (name : List ℕ) (s : Span) → look layout (packed_of name) ≡ some s → IsCell g layout t name (number_in (cell_said g layout t name))
+  cell_so : (name : List ℕ) (s : Span) → look layout (packed_of name) ≡ Some s → IsCell g layout t name (number_in (cell_said g layout t name))
   cell_so name s e = rw (reads_so g layout t r).1 (by_whole name (whole_of (column_text t s)) (said name s e))
 
   carried_so : (name : List ℕ) (o : Option Span) → look layout (packed_of name) ≡ o → carries layout (packed_of name) ≡ true → IsCell g layout t name (number_in (cell_said g layout t name))
   unfolding carries
-  carried_so name (some s) q c = cell_so name s q
-  carried_so name none q c = absurd (false_true (rw q at c))
+  carried_so name (Some s) q c = cell_so name s q
+  carried_so name None q c = absurd (false_true (rw q at c))
 
   -- the numbers of a row, whatever stands behind them
   row_cells : (names : List (List ℕ)) (tail : List ℤ) (c : ℕ) → are_carried layout names ≡ true → c < length names → IsCell g layout t (get_or names c []) (get_or (row_in g layout names t ++ tail) c (pos 0))

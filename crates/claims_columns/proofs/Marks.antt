@@ -1,7 +1,7 @@
 -- The mark is no number of a column: a column's number has 18 digits at most. Assumes nothing.
+use Rattle.std.specs.Prelude.{Some}
 use Prim.Native.Nat.{ℕ, zero, suc, ◌^◌, ◌≤◌, ◌<◌}
 use mathlib.Core.List.{List}
-use mathlib.Core.Option.{some}
 use mathlib.Core.Path.{◌≡◌, ap, ◌∙◌}
 use native.Mathlib.Nat.{pow-le-pow_right}
 use native.Mathlib.Omega.{arith}
@@ -41,4 +41,4 @@ look_unmarked l es name z e =
     let s = then_inv (look_said l es name) z _ e in
     let v = given_inv (whole_of (column_text l s.0)) _ (says z) _ refuses_says s.2 in
     let i : v.0 ≡ z = cc in
-    spelt (column_text l s.0) z (whole_there (column_text l s.0) z (v.1 ∙ ap some i))
+    spelt (column_text l s.0) z (whole_there (column_text l s.0) z (v.1 ∙ ap Some i))

@@ -1,8 +1,8 @@
 -- Which refusal there is, exactly: the file's own, then 17 for the letter, 17 for the codes, 19, 18. Assumes nothing.
+use Rattle.std.specs.Prelude.{None, Option, Some}
 use Prim.Native.Nat.{ℕ, zero, suc, ◌*◌, ◌/◌, ◌%◌, ◌≤◌, ◌<◌}
 use mathlib.Core.Bool.{Bool, true, false, ◌&&◌}
 use mathlib.Core.List.{List}
-use mathlib.Core.Option.{Option, none, some}
 use mathlib.Core.Path.{◌≡◌, refl, sym, ap, subst, ◌∙◌}
 use native.Mathlib.Omega.{arith}
 use borrow.Author.Tests.{lt-leb, leb-true, leb-false, eqb-true}
@@ -29,8 +29,8 @@ use Rattle.columns.specs.Columns.{columns_seal, grid_room, grid_in, grid_of, gri
 use Rattle.claims_columns.specs.Barogram.{ColumnsRefused, own, no_family, no_codes, absent, short}
 use Rattle.claims_columns.proofs.Answers.{met, counts_are}
 
-meets_so : (file : List ℕ) (m : Meets columns_seal file) → verdict columns_seal file none ≡ says (flight_of m)
-meets_so file m = (accepted_as columns_seal file none (flight_of m)).1 (m, tt, refl)
+meets_so : (file : List ℕ) (m : Meets columns_seal file) → verdict columns_seal file None ≡ says (flight_of m)
+meets_so file m = (accepted_as columns_seal file None (flight_of m)).1 (m, tt, refl)
 
 module _ (file : List ℕ) (letter : ℕ) (codes : List ℕ) (room : ℕ) where
   abbrev Why : ℕ → ℕ → ℕ → Type 0
@@ -45,8 +45,8 @@ module _ (file : List ℕ) (letter : ℕ) (codes : List ℕ) (room : ℕ) where
 
   -- ---- a refusal is one of these
 
-  module _ (f : Flight) (v : verdict columns_seal file none ≡ says f) (n l b : ℕ) where
-    room_by : (g : Family) → family_of letter ≡ some g → are_codes codes ≡ true → are_carried (layout_of g f.layouts) (names_of codes) ≡ true → (t : Bool)
+  module _ (f : Flight) (v : verdict columns_seal file None ≡ says f) (n l b : ℕ) where
+    room_by : (g : Family) → family_of letter ≡ Some g → are_codes codes ≡ true → are_carried (layout_of g f.layouts) (names_of codes) ≡ true → (t : Bool)
         → leb (count_of g f.counts * (length codes / 3)) room ≡ t
         → lines_said (need t (no reason.NoRoom 0) λ _. says (record { family = g; layout = layout_of g f.layouts; lines = count_of g f.counts })) ≡ refuses n l b → Why n l b
     unfolding number
@@ -58,7 +58,7 @@ module _ (file : List ℕ) (letter : ℕ) (codes : List ℕ) (room : ℕ) where
         let d : are_carried (layout_of g m.0.layouts) (names_of codes) ≡ true = ap (λ (z : Flight). are_carried (layout_of g z.layouts) (names_of codes)) m.1 ∙ y in
         refused_as _ _ _ _ _ _ q (short m.0 g o x d (subst (λ (z : ℕ). room < z * (length codes / 3)) c h))
 
-    asked_by : (g : Family) → family_of letter ≡ some g → (x y : Bool) → are_codes codes ≡ x → are_carried (layout_of g f.layouts) (names_of codes) ≡ y
+    asked_by : (g : Family) → family_of letter ≡ Some g → (x y : Bool) → are_codes codes ≡ x → are_carried (layout_of g f.layouts) (names_of codes) ≡ y
         → lines_said (and_then (need x (no reason.BadValue 0) λ _. need y (no reason.Absent 0) λ _. says (places_of (layout_of g f.layouts) (names_of codes))) λ _. grid_room f g codes room) ≡ refuses n l b
         → Why n l b
     unfolding number grid_room
@@ -70,26 +70,26 @@ module _ (file : List ℕ) (letter : ℕ) (codes : List ℕ) (room : ℕ) where
 
     family_by : (o : Option Family) → family_of letter ≡ o → lines_said (given o (no reason.BadValue 0) λ g. grid_in f g codes room) ≡ refuses n l b → Why n l b
     unfolding number grid_in asked_said places_said
-    family_by none e q = refused_as _ _ _ _ _ _ q (no_family (met file f v).0 e)
-    family_by (some g) e q = asked_by g e (are_codes codes) (are_carried (layout_of g f.layouts) (names_of codes)) refl refl q
+    family_by None e q = refused_as _ _ _ _ _ _ q (no_family (met file f v).0 e)
+    family_by (Some g) e q = asked_by g e (are_codes codes) (are_carried (layout_of g f.layouts) (names_of codes)) refl refl q
 
   own_as : (n l b n' l' b' : ℕ) → ◌≡◌ {A = Said ℕ} (refuses n l b) (refuses n' l' b') → ◌≡◌ {A = Said Flight} (refuses n l b) (refuses n' l' b')
   own_as n l b n' l' b' e = let p : n ≡ n' = cc in let q : l ≡ l' = cc in let k : b ≡ b' = cc in cc
 
-  verdict_by : (s : Said Flight) → verdict columns_seal file none ≡ s → (n l b : ℕ) → lines_said (and_then s λ f. grid_of f letter codes room) ≡ refuses n l b → Why n l b
+  verdict_by : (s : Said Flight) → verdict columns_seal file None ≡ s → (n l b : ℕ) → lines_said (and_then s λ f. grid_of f letter codes room) ≡ refuses n l b → Why n l b
   unfolding grid_of
   verdict_by (says f) v n l b q = family_by f v n l b (family_of letter) refl q
-  verdict_by (refuses i j k) v n l b q = own ((refused_first columns_seal file none n l b).0 (v ∙ own_as i j k n l b q))
+  verdict_by (refuses i j k) v n l b q = own ((refused_first columns_seal file None n l b).0 (v ∙ own_as i j k n l b q))
 
   pub refused_there : (n l b : ℕ) → lines_said (grid_said file letter codes room) ≡ refuses n l b → Why n l b
   unfolding grid_said
-  refused_there n l b e = verdict_by (verdict columns_seal file none) refl n l b e
+  refused_there n l b e = verdict_by (verdict columns_seal file None) refl n l b e
 
   -- ---- and each of these is refused
 
   pub refused_here : (n l b : ℕ) → Why n l b → lines_said (grid_said file letter codes room) ≡ refuses n l b
   unfolding grid_said grid_of grid_in grid_room asked_said places_said number
-  refused_here n l b (own x) = rw ((refused_first columns_seal file none n l b).1 x)
+  refused_here n l b (own x) = rw ((refused_first columns_seal file None n l b).1 x)
   refused_here n l b (no_family m e) = rw (meets_so file m, e)
   refused_here n l b (no_codes m g o e) = rw (meets_so file m, o, e)
   refused_here n l b (absent m g o x y) = rw (meets_so file m, o, x, y)
@@ -98,7 +98,7 @@ module _ (file : List ℕ) (letter : ℕ) (codes : List ℕ) (room : ℕ) where
       rw (meets_so file m, o, x, y, lt-leb (count_of g (flight_of m).counts * (length codes / 3)) room k)
 
   pub never_full : (n l b : ℕ) → Why n l b → n ≡ 15 → ⊥
-  never_full n l b (own x) z = false_true (sym (check_never_full columns_seal file n l b ((refused_first columns_seal file none n l b).1 x)) ∙ ap (λ (k : ℕ). eqb k 15) z)
+  never_full n l b (own x) z = false_true (sym (check_never_full columns_seal file n l b ((refused_first columns_seal file None n l b).1 x)) ∙ ap (λ (k : ℕ). eqb k 15) z)
   never_full n l b (no_family m e) z = omega arith
   never_full n l b (no_codes m g o e) z = omega arith
   never_full n l b (absent m g o x y) z = omega arith

@@ -1,9 +1,10 @@
 -- What is answered on the declaration of a file, and the list afterwards, from the promise of the call. Assumes nothing.
+use Rattle.rules.specs.declared.Refusal.{Refusal}
+use Rattle.std.specs.Prelude.{None, Option, Result, Some}
 use Prim.Native.Nat.{ℕ, ◌+◌, ◌-◌, ◌*◌, ◌≤◌, ◌<◌}
 use Prim.Native.Char.{code}
 use mathlib.Core.Bool.{Bool, true, false}
 use mathlib.Core.List.{List, [], ◌∷◌, ◌++◌}
-use mathlib.Core.Option.{Option, none, some}
 use mathlib.Core.Logic.{◌↔◌}
 use mathlib.Core.Path.{◌≡◌, refl, sym, ap, subst, ◌∙◌}
 use native.Mathlib.Omega.{arith}
@@ -14,7 +15,7 @@ use lib.Seq.{drop_at}
 use Rattle.rules.specs.Choice.{Each, need}
 use Rattle.rules.specs.Files.{verdict, over}
 use Rattle.rules.specs.Reads.{head_said}
-use Rattle.rules.specs.Refusals.{number, Said, says, refuses, no, and_then}
+use Rattle.rules.specs.Refusals.{number, Said, says, refuses, no, and_then, result_told}
 use Rattle.rules.specs.Split.{Lines, line, lines_of}
 use Rattle.rules.specs.declared.Flight.{Flight}
 use Rattle.rules.specs.declared.Head.{Head}
@@ -28,22 +29,21 @@ use Rattle.grammar.proofs.Reading.{lines_are}
 use Rattle.track.proofs.Accepted.{reads}
 use Rattle.track.proofs.Accepted.{lines_are as lines_read}
 use Rattle.grammar_untabled.proofs.NeverFull.{check_never_full}
-use Rattle.declaration.specs.Declaration.{declaration_seal, no_head, Placed, first_c, undeclared, declared_at, declared_in, points_from, points_in, room_said, placed_said, declared_said, declaration_said, numbers_in, declaration_told, FileDeclared}
+use Rattle.declaration.specs.Declaration.{declaration_seal, no_head, Placed, first_c, undeclared, declared_at, declared_in, points_from, points_in, room_said, placed_said, declared_said, declaration_said, numbers_in, FileDeclared}
 use Rattle.declaration.specs.declared.Declared.{Declared}
-use Rattle.declaration.specs.declared.DeclarationRead.{DeclarationRead}
 use Rattle.declaration.proofs.Pointing.{points_few}
 use Rattle.claims_declaration.specs.Demanded.{point_lines, DeclarationRefused, own, short, TellsHead, TellsPointAt, Tells, tells_none, tells_all}
 use Rattle.claims_declaration.proofs.Finding.{head_letter, points_begin, beginning_none, beginning_points, beginning_join, none_found, points_long, text_behind_lem, Headed, head_found, point_found}
 
 -- an accepted file has met the grammar, and one that meets it is accepted
-pub met : (file : List ℕ) (f : Flight) → verdict declaration_seal file none ≡ says f → Meets declaration_seal file
-met file f e = ((accepted_as declaration_seal file none f).0 e).0
+pub met : (file : List ℕ) (f : Flight) → verdict declaration_seal file None ≡ says f → Meets declaration_seal file
+met file f e = ((accepted_as declaration_seal file None f).0 e).0
 
-meets_so : (file : List ℕ) (m : Meets declaration_seal file) → verdict declaration_seal file none ≡ says (flight_of m)
-meets_so file m = (accepted_as declaration_seal file none (flight_of m)).1 (m, tt, refl)
+meets_so : (file : List ℕ) (m : Meets declaration_seal file) → verdict declaration_seal file None ≡ says (flight_of m)
+meets_so file m = (accepted_as declaration_seal file None (flight_of m)).1 (m, tt, refl)
 
 -- its declaration, as the grammar reads it
-pub declares : (file : List ℕ) (f : Flight) → verdict declaration_seal file none ≡ says f → ReadsDeclaration (texts_of (lines_of file))
+pub declares : (file : List ℕ) (f : Flight) → verdict declaration_seal file None ≡ says f → ReadsDeclaration (texts_of (lines_of file))
 declares file f e = subst ReadsDeclaration (lines_read declaration_seal file f e) (reads declaration_seal file f e).declaration
 
 -- ---- what is found of it
@@ -139,7 +139,7 @@ module _ (file : List ℕ) where
     many_of : (m : Meets declaration_seal file) → (declared_in first).points ≡ point_lines (lines_in m.parts)
     many_of m = many_by (declares file (flight_of m) (meets_so file m)) ∙ ap point_lines (lines_are file m)
 
-    room_by : (f : Flight) → verdict declaration_seal file none ≡ says f → (t : Bool) → leb ((declared_in first).points * 6) room ≡ t → (n l b : ℕ) → declared_said (need t (no reason.NoRoom 0) λ _. says first) ≡ refuses n l b → Why n l b
+    room_by : (f : Flight) → verdict declaration_seal file None ≡ says f → (t : Bool) → leb ((declared_in first).points * 6) room ≡ t → (n l b : ℕ) → declared_said (need t (no reason.NoRoom 0) λ _. says first) ≡ refuses n l b → Why n l b
     unfolding number
     room_by f v true t n l b q = absurd (refuses_says (sym q))
     room_by f v false t n l b q =
@@ -147,41 +147,41 @@ module _ (file : List ℕ) where
         let h : room < (declared_in first).points * 6 = leb-false _ _ t in
         refused_as _ _ _ _ _ _ q (short m (subst (λ (x : ℕ). room < x * 6) (many_of m) h))
 
-    verdict_by : (s : Said Flight) → verdict declaration_seal file none ≡ s → (n l b : ℕ) → declared_said (and_then s λ _. room_said first room) ≡ refuses n l b → Why n l b
+    verdict_by : (s : Said Flight) → verdict declaration_seal file None ≡ s → (n l b : ℕ) → declared_said (and_then s λ _. room_said first room) ≡ refuses n l b → Why n l b
     unfolding room_said
     verdict_by (says f) v n l b q = room_by f v (leb ((declared_in first).points * 6) room) refl n l b q
-    verdict_by (refuses i j k) v n l b q = own ((refused_first declaration_seal file none n l b).0 (v ∙ own_as i j k n l b q))
+    verdict_by (refuses i j k) v n l b q = own ((refused_first declaration_seal file None n l b).0 (v ∙ own_as i j k n l b q))
 
     pub refused_there : (n l b : ℕ) → declaration_said file room ≡ refuses n l b → Why n l b
     unfolding placed_said
-    refused_there n l b e = verdict_by (verdict declaration_seal file none) refl n l b e
+    refused_there n l b e = verdict_by (verdict declaration_seal file None) refl n l b e
 
     pub refused_here : (n l b : ℕ) → Why n l b → declaration_said file room ≡ refuses n l b
     unfolding placed_said room_said number
-    refused_here n l b (own x) = rw ((refused_first declaration_seal file none n l b).1 x)
+    refused_here n l b (own x) = rw ((refused_first declaration_seal file None n l b).1 x)
     refused_here n l b (short m h) =
         let k : room < (declared_in first).points * 6 = subst (λ (x : ℕ). room < x * 6) (sym (many_of m)) h in
         rw (meets_so file m, lt-leb ((declared_in first).points * 6) room k)
 
     pub never_full : (n l b : ℕ) → Why n l b → n ≡ 15 → ⊥
-    never_full n l b (own x) z = false_true (sym (check_never_full declaration_seal file n l b ((refused_first declaration_seal file none n l b).1 x)) ∙ ap (λ (k : ℕ). eqb k 15) z)
+    never_full n l b (own x) z = false_true (sym (check_never_full declaration_seal file n l b ((refused_first declaration_seal file None n l b).1 x)) ∙ ap (λ (k : ℕ). eqb k 15) z)
     never_full n l b (short m h) z = omega arith
 
 -- ---- an answer that is no refusal
 
-module _ (file list : List ℕ) (r : DeclarationRead) (after : List ℕ) (w : FileDeclared file list r after) where
+module _ (file list : List ℕ) (r : Result Declared Refusal) (after : List ℕ) (w : FileDeclared file list r after) where
   pub record Stands (d : Declared) : Type 0 where
     pub flight : Flight
-    pub accepted : verdict declaration_seal file none ≡ says flight
+    pub accepted : verdict declaration_seal file None ≡ says flight
     pub tells : d ≡ declared_in (first file)
     pub room : (declared_in (first file)).points * 6 ≤ length list
     pub is : after ≡ over (points_in (first file)) list
 
-  pub stands : (d : Declared) → declaration_told r ≡ says d → Stands d
+  pub stands : (d : Declared) → result_told r ≡ says d → Stands d
   unfolding placed_said room_said
   stands d e =
       let a = then_inv (placed_said file (length list)) d _ (sym w.told ∙ e) in
-      let b = then_inv (verdict declaration_seal file none) a.0 _ a.1 in
+      let b = then_inv (verdict declaration_seal file None) a.0 _ a.1 in
       let z = need_inv (leb ((declared_in (first file)).points * 6) (length list)) _ (says a.0) _ refuses_says b.2 in
       let same : first file ≡ a.0 = cc in
       let told : declared_in a.0 ≡ d = cc in
@@ -231,7 +231,7 @@ module _ (file list : List ℕ) (r : DeclarationRead) (after : List ℕ) (w : Fi
 
   -- ---- a refusal: nothing changes
 
-  pub leaves : (n l b : ℕ) → declaration_told r ≡ refuses n l b → after ≡ list
+  pub leaves : (n l b : ℕ) → result_told r ≡ refuses n l b → after ≡ list
   leaves n l b e = by (placed_said file (length list)) refl (sym w.told ∙ e)
     where
       by : (s : Said (Option Placed)) → placed_said file (length list) ≡ s → declared_said s ≡ refuses n l b → after ≡ list

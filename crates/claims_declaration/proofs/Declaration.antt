@@ -2,6 +2,8 @@
 --
 -- Of every answer r and every list afterwards that the promise of `declaration::declaration` allows: what is refused first, that nothing changes then, how many points there are, that the head's
 -- values are those of the single reader of its line, that the values of point i are those of the single reader of the line i behind the head, and where their texts stand; and that notes and added columns change nothing but places.
+use Rattle.rules.specs.declared.Refusal.{Refusal}
+use Rattle.std.specs.Prelude.{Result}
 use Prim.Native.Nat.{ℕ, ◌*◌, ◌≤◌}
 use Prim.Native.Char.{code}
 use mathlib.Core.List.{List}
@@ -10,7 +12,7 @@ use mathlib.Core.Path.{◌≡◌, sym, ap, ◌∙◌}
 use native.Mathlib.Omega.{arith}
 use lib.ListN.{length, drop}
 use Rattle.rules.specs.Choice.{Each}
-use Rattle.rules.specs.Refusals.{says, refuses}
+use Rattle.rules.specs.Refusals.{says, refuses, result_told}
 use Rattle.rules.specs.Split.{lines_of}
 use Rattle.rules_laws.proofs.Splitting.{texts_of}
 use Rattle.grammar.specs.Coming.{those}
@@ -20,31 +22,30 @@ use Rattle.grammar.proofs.Reading.{lines_are}
 use Rattle.grammar_wider.specs.Wider.{WiderFile}
 use Rattle.grammar_alike.specs.Alike.{without_l}
 use Rattle.grammar_alike.proofs.Letters.{kinds_alike}
-use Rattle.declaration.specs.Declaration.{declaration_seal, declaration_told, FileDeclared}
+use Rattle.declaration.specs.Declaration.{declaration_seal, FileDeclared}
 use Rattle.declaration.specs.declared.Declared.{Declared}
-use Rattle.declaration.specs.declared.DeclarationRead.{DeclarationRead}
 use Rattle.claims_declaration.specs.Demanded.{point_lines, DeclarationRefused, Tells, SameButPlaces}
 use Rattle.claims_declaration.proofs.Answers as answers
 use Rattle.claims_declaration.proofs.Alike.{tells_alike, wider_same}
 use Rattle.claims_declaration.proofs.Answers.{met, refused_there, refused_here, never_full, Stands, stands}
 
-module _ (file list : List ℕ) (r : DeclarationRead) (after : List ℕ) (w : FileDeclared file list r after) where
+module _ (file list : List ℕ) (r : Result Declared Refusal) (after : List ℕ) (w : FileDeclared file list r after) where
   -- refused exactly in this order: the file's own, then 18
-  pub declaration_refused_first : (n l b : ℕ) → (declaration_told r ≡ refuses n l b) ↔ DeclarationRefused file (length list) n l b
+  pub declaration_refused_first : (n l b : ℕ) → (result_told r ≡ refuses n l b) ↔ DeclarationRefused file (length list) n l b
   declaration_refused_first n l b = (
     (λ e. refused_there file (length list) n l b (sym w.told ∙ e)),
     (λ x. w.told ∙ refused_here file (length list) n l b x),
   )
 
   -- nothing of the list changes then
-  pub declaration_leaves : (n l b : ℕ) → declaration_told r ≡ refuses n l b → after ≡ list
+  pub declaration_leaves : (n l b : ℕ) → result_told r ≡ refuses n l b → after ≡ list
   declaration_leaves = answers.leaves file list r after w
 
   -- no table is lent, so 15 is not met
-  pub declaration_never_full : (n l b : ℕ) → declaration_told r ≡ refuses n l b → n ≡ 15 → ⊥
+  pub declaration_never_full : (n l b : ℕ) → result_told r ≡ refuses n l b → n ≡ 15 → ⊥
   declaration_never_full n l b e = never_full file (length list) n l b ((declaration_refused_first n l b).0 e)
 
-  module _ (d : Declared) (e : declaration_told r ≡ says d) where
+  module _ (d : Declared) (e : result_told r ≡ says d) where
     s : Stands file list r after w d
     s = stands file list r after w d e
 
@@ -71,8 +72,8 @@ module _ (file list : List ℕ) (r : DeclarationRead) (after : List ℕ) (w : Fi
 
 -- ---- two files
 
-module _ (file list : List ℕ) (r : DeclarationRead) (after : List ℕ) (w : FileDeclared file list r after) (d : Declared) (e : declaration_told r ≡ says d)
-    (other list' : List ℕ) (r' : DeclarationRead) (after' : List ℕ) (w' : FileDeclared other list' r' after') (d' : Declared) (e' : declaration_told r' ≡ says d') where
+module _ (file list : List ℕ) (r : Result Declared Refusal) (after : List ℕ) (w : FileDeclared file list r after) (d : Declared) (e : result_told r ≡ says d)
+    (other list' : List ℕ) (r' : Result Declared Refusal) (after' : List ℕ) (w' : FileDeclared other list' r' after') (d' : Declared) (e' : result_told r' ≡ says d') where
   -- where their C lines are the same in the same order, all that is told is, but for places
   pub declaration_alike : those (code "C") (texts_of (lines_of other)) ≡ those (code "C") (texts_of (lines_of file)) → SameButPlaces d d' after after'
   declaration_alike c =

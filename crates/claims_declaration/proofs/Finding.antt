@@ -1,9 +1,9 @@
 -- Where the head and the points of a declaration are found, of lines that the grammar has read. Assumes nothing.
+use Rattle.std.specs.Prelude.{None, Some}
 use Prim.Native.Nat.{ℕ, zero, suc, ◌+◌, ◌-◌, ◌*◌, ◌≤◌, ◌<◌}
 use Prim.Native.Char.{code}
 use mathlib.Core.Bool.{cond}
 use mathlib.Core.List.{List, [], ◌∷◌, ◌++◌}
-use mathlib.Core.Option.{none, some}
 use mathlib.Core.Path.{◌≡◌, refl, sym, ap, ap₂, ◌∙◌}
 use native.Mathlib.Omega.{arith}
 use borrow.Author.Tests.{eq-eqb, ne_eqb, eqb-true}
@@ -52,7 +52,7 @@ unfolding beginning
 beginning_join x [] ks = omega arith
 beginning_join x (l ∷ ls) ks = omega (arith, beginning_join x ls ks)
 
-pub none_found : (k : Lines) (n at : ℕ) → Each NoC (texts_of k) → first_c n at k ≡ none
+pub none_found : (k : Lines) (n at : ℕ) → Each NoC (texts_of k) → first_c n at k ≡ None
 unfolding first_c
 none_found end n at h = refl
 none_found (broken j) n at h = refl
@@ -76,7 +76,7 @@ text_behind_lem file at n t ls q h =
 -- the first C line, behind these lines, and the lines behind it
 pub record Headed (file : List ℕ) (k : Lines) (n at : ℕ) (before : List (List ℕ)) (head : List ℕ) (rest : List (List ℕ)) : Type 0 where
   pub later : Lines
-  pub found : first_c n at k ≡ some (record { lines = n + length before; at = at + total before; text = head; later = later })
+  pub found : first_c n at k ≡ Some (record { lines = n + length before; at = at + total before; text = head; later = later })
   pub rests : texts_of later ≡ rest
   pub here : lines_of (drop (at + total before) file) ≡ line head later
 

@@ -1,7 +1,6 @@
 -- What is demanded of the declaration of a whole file, said over the lines of the file and over the single readers of a head's and a point's line.
-use Rattle.std.specs.Prelude.{ℕ, ◌+◌, ◌-◌, ◌*◌, ◌<◌, List, [], ◌∷◌, ◌++◌, ◌≡◌, length, get_or, take, drop}
+use Rattle.std.specs.Prelude.{ℕ, ◌+◌, ◌-◌, ◌*◌, ◌<◌, List, [], ◌∷◌, ◌++◌, ◌≡◌, length, get_or, take, drop, None}
 use Prim.Native.Char.{code}
-use Rattle.std.proofs.Math.Option.{none}
 use Rattle.rules.specs.Choice.{part, Each}
 use Rattle.rules.specs.Reads.{head_said, point_said}
 use Rattle.rules.specs.Refusals.{says}
@@ -18,7 +17,7 @@ point_lines lines = beginning (code "C") lines - 1
 
 -- what is refused, in this order: the file's own; then 18, with no line and no byte
 pub data DeclarationRefused (file : List ℕ) (room : ℕ) : ℕ → ℕ → ℕ → Type 0 where
-  own : {n l b : ℕ} → Refused declaration_seal file none n l b → DeclarationRefused file room n l b
+  own : {n l b : ℕ} → Refused declaration_seal file None n l b → DeclarationRefused file room n l b
   short : (m : Meets declaration_seal file) → room < point_lines (lines_in m.parts) * 6 → DeclarationRefused file room 18 0 0
 
 -- what is told of a head's line that stands behind these lines: what its single reader says, its number, and the bytes behind its first 25

@@ -1,9 +1,9 @@
 -- The byte of each line: its letter, or the mark exactly where the line is a note. Assumes nothing.
+use Rattle.std.specs.Prelude.{None}
 use Prim.Native.Nat.{ℕ, zero, suc, ◌+◌, ◌-◌, ◌≤◌, ◌<◌}
 use Prim.Native.Char.{code}
 use mathlib.Core.Bool.{Bool, true, false, not, ◌&&◌, ◌||◌, cond}
 use mathlib.Core.List.{List, [], ◌∷◌}
-use mathlib.Core.Option.{none}
 use mathlib.Core.Path.{◌≡◌, refl, sym, ap, ◌∙◌}
 use native.Mathlib.Omega.{arith}
 use borrow.Author.Tests.{eq-eqb, ne_eqb, eqb-true}
@@ -118,14 +118,14 @@ unknown : (t : List ℕ) → letter_of t ≡ note_mark → is_role (role_in t) �
 unfolding kind_of
 unknown t e k = false_true (rw e at k)
 
-run_unmarked : (seal : Seal) (k : Lines) (st : State) (f : Flight) → run seal none st k ≡ says f → Each NoMark (texts_of k)
+run_unmarked : (seal : Seal) (k : Lines) (st : State) (f : Flight) → run seal None st k ≡ says f → Each NoMark (texts_of k)
 run_unmarked seal end st f e = tt
 run_unmarked seal (broken n) st f e = tt
 run_unmarked seal (line t ls) st f e =
-    let g = ran seal none st t ls f e in
+    let g = ran seal None st t ls f e in
     ((λ m. unknown t m (judged t st g.after g.judges).known), run_unmarked seal ls g.after f g.runs)
 
-pub unmarked : (seal : Seal) (file : List ℕ) (f : Flight) → verdict seal file none ≡ says f → Each NoMark (texts_of (lines_of file))
+pub unmarked : (seal : Seal) (file : List ℕ) (f : Flight) → verdict seal file None ≡ says f → Each NoMark (texts_of (lines_of file))
 unfolding verdict
 unmarked seal file f e =
     let a = need_inv (leb 1 (length file)) _ (says f) _ refuses_says e in

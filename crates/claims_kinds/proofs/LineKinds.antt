@@ -2,6 +2,8 @@
 --
 -- The claims are about every answer that the contract of `kinds::kinds` allows (promise FileKinded), and by `only_file_kinded` that is one. It is told by `kinds_said`: the file's own refusal, then 18,
 -- or how many lines there are; the list afterwards is `kinds_after`. The file's refusals are the grammar's (demands: `refused_first`).
+use Rattle.rules.specs.declared.Refusal.{Refusal}
+use Rattle.std.specs.Prelude.{Result}
 use Prim.Native.Nat.{ℕ, ◌≤◌, ◌<◌}
 use mathlib.Core.Bool.{false}
 use mathlib.Core.List.{List, [], map}
@@ -9,7 +11,7 @@ use mathlib.Core.Logic.{◌↔◌}
 use mathlib.Core.Path.{◌≡◌, refl, sym, ap, subst, ◌∙◌}
 use lib.ListN.{length, get_or, take, drop}
 use Rattle.rules.specs.Choice.{Each}
-use Rattle.rules.specs.Refusals.{says, refuses}
+use Rattle.rules.specs.Refusals.{says, refuses, result_told}
 use Rattle.rules.specs.Split.{lines_of}
 use Rattle.rules_laws.proofs.Splitting.{texts_of}
 use Rattle.grammar.specs.Grammar.{Meets, lines_in}
@@ -17,31 +19,30 @@ use Rattle.grammar.proofs.Demands.{accepted_as}
 use Rattle.grammar.proofs.Reading.{lines_are}
 use Rattle.grammar_alike.specs.Alike.{without_l}
 use Rattle.grammar_wider.specs.Wider.{WiderFile}
-use Rattle.kinds.specs.Kinds.{kinds_seal, letter_of, note_mark, kinds_of, kinded_told, FileKinded}
-use Rattle.kinds.specs.declared.Kinded.{Kinded}
+use Rattle.kinds.specs.Kinds.{kinds_seal, letter_of, note_mark, kinds_of, FileKinded}
 use Rattle.claims_kinds.specs.Noted.{IsNote, IsKind, note, letter, KindsRefused, besides_l, besides_layouts}
 use Rattle.claims_kinds.proofs.Each.{NoMark, unmarked, unmarked_at}
 use Rattle.claims_kinds.proofs.Answers as answers
 use Rattle.claims_kinds.proofs.Answers.{Stands, stands}
 use Rattle.claims_kinds.proofs.Kept.{others_are, wider_bytes}
 
-module _ (file list : List ℕ) (r : Kinded) (after : List ℕ) (w : FileKinded file list r after) where
+module _ (file list : List ℕ) (r : Result ℕ Refusal) (after : List ℕ) (w : FileKinded file list r after) where
   -- refused exactly in this order: the file's own, then 18
-  pub kinds_refused_first : (n l b : ℕ) → (kinded_told r ≡ refuses n l b) ↔ KindsRefused file (length list) n l b
+  pub kinds_refused_first : (n l b : ℕ) → (result_told r ≡ refuses n l b) ↔ KindsRefused file (length list) n l b
   kinds_refused_first n l b = (
     (λ e. answers.refused_there file (length list) n l b (sym w.told ∙ e)),
     (λ x. w.told ∙ answers.refused_here file (length list) n l b x),
   )
 
   -- nothing of the list changes then
-  pub kinds_leave : (n l b : ℕ) → kinded_told r ≡ refuses n l b → after ≡ list
+  pub kinds_leave : (n l b : ℕ) → result_told r ≡ refuses n l b → after ≡ list
   kinds_leave = answers.leaves file list r after w
 
   -- no table is lent, so 15 is not met
-  pub kinds_never_full : (n l b : ℕ) → kinded_told r ≡ refuses n l b → n ≡ 15 → ⊥
+  pub kinds_never_full : (n l b : ℕ) → result_told r ≡ refuses n l b → n ≡ 15 → ⊥
   kinds_never_full n l b e = answers.never_full file (length list) n l b ((kinds_refused_first n l b).0 e)
 
-  module _ (n : ℕ) (e : kinded_told r ≡ says n) where
+  module _ (n : ℕ) (e : result_told r ≡ says n) where
     s : Stands file list r after w n
     s = stands file list r after w n e
 
@@ -79,8 +80,8 @@ module _ (file list : List ℕ) (r : Kinded) (after : List ℕ) (w : FileKinded 
 
 -- ---- two files
 
-module _ (file list : List ℕ) (r : Kinded) (after : List ℕ) (w : FileKinded file list r after) (n : ℕ) (e : kinded_told r ≡ says n)
-    (other list' : List ℕ) (r' : Kinded) (after' : List ℕ) (w' : FileKinded other list' r' after') (n' : ℕ) (e' : kinded_told r' ≡ says n') where
+module _ (file list : List ℕ) (r : Result ℕ Refusal) (after : List ℕ) (w : FileKinded file list r after) (n : ℕ) (e : result_told r ≡ says n)
+    (other list' : List ℕ) (r' : Result ℕ Refusal) (after' : List ℕ) (w' : FileKinded other list' r' after') (n' : ℕ) (e' : result_told r' ≡ says n') where
   -- notes change nothing but their own bytes: two files that differ in L lines alone have the same bytes for all other lines
   pub notes_change_no_kind : without_l (texts_of (lines_of other)) ≡ without_l (texts_of (lines_of file)) → besides_l (take n' after') ≡ besides_l (take n after)
   notes_change_no_kind q = kinds_besides other list' r' after' w' n' e' ∙ ap (map letter_of) q ∙ sym (kinds_besides file list r after w n e)

@@ -1,7 +1,6 @@
 -- What is demanded of the kinds of a file's lines, said over the lines of the file, in the grammar's words.
-use Rattle.std.specs.Prelude.{ℕ, ◌<◌, ◌||◌, cond, List, [], ◌∷◌, ◌≡◌, eqb, length, get_or}
+use Rattle.std.specs.Prelude.{ℕ, ◌<◌, ◌||◌, cond, List, [], ◌∷◌, ◌≡◌, eqb, length, get_or, None}
 use Prim.Native.Char.{code}
-use Rattle.std.proofs.Math.Option.{none}
 use Rattle.grammar.specs.Faults.{Refused}
 use Rattle.grammar.specs.Grammar.{Meets, lines_in}
 use Rattle.kinds.specs.Kinds.{kinds_seal, note_mark}
@@ -25,7 +24,7 @@ pub data IsKind (ls : List (List ℕ)) (n : ℕ) : ℕ → Type 0 where
 
 -- what is refused, in this order: the file's own; then 18 where there are fewer bytes than lines, with no line and no byte
 pub data KindsRefused (file : List ℕ) (room : ℕ) : ℕ → ℕ → ℕ → Type 0 where
-  own : {n l b : ℕ} → Refused kinds_seal file none n l b → KindsRefused file room n l b
+  own : {n l b : ℕ} → Refused kinds_seal file None n l b → KindsRefused file room n l b
   short : (m : Meets kinds_seal file) → room < length (lines_in m.parts) → KindsRefused file room 18 0 0
 
 -- the bytes of lines other than L lines, in their order

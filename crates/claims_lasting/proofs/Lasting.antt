@@ -3,11 +3,13 @@
 --
 -- The claims on answers are about every answer that the contract of `columns::columns` allows (promise FileColumned), and by `only_file_columned` that is one. What columns are is on
 -- the page of barogram (proofs/Columns).
+use Rattle.rules_only.proofs.Told.{result_one}
+use Rattle.rules.specs.declared.Refusal.{Refusal}
+use Rattle.std.specs.Prelude.{None, Option, Result, Some}
 use Prim.Native.Nat.{ℕ, ◌≤◌}
 use Prim.Native.Char.{code}
 use mathlib.Core.Bool.{true}
 use mathlib.Core.List.{List, [], ◌∷◌}
-use mathlib.Core.Option.{Option, none, some}
 use mathlib.Core.Path.{◌≡◌, refl, sym, ◌∙◌}
 use lib.Dec.{lit≤}
 use lib.IntN.{ℤ, pos}
@@ -15,7 +17,7 @@ use lib.ListN.{length}
 use Rattle.rules.specs.Choice.{bytes}
 use Rattle.rules.specs.Families.{layout_of}
 use Rattle.rules.specs.Files.{verdict}
-use Rattle.rules.specs.Refusals.{says, refuses}
+use Rattle.rules.specs.Refusals.{says, refuses, result_told}
 use Rattle.rules.specs.Split.{lines_of}
 use Rattle.rules.specs.declared.Family.{Family}
 use Rattle.rules.specs.declared.Flight.{Flight}
@@ -33,9 +35,7 @@ use Rattle.claims_notes.proofs.Notes.{five_and_noted}
 use Rattle.claims_notes.proofs.Tracks.{usually_accepted}
 use Rattle.claims_notes.proofs.Worked.{noted_five, saying}
 use Rattle.columns_asked.specs.Asks.{are_carried}
-use Rattle.columns.specs.Columns.{columns_seal, rows_in, columns_said, columned_told, FileColumned}
-use Rattle.columns.specs.declared.Columned.{Columned}
-use Rattle.columns.proofs.Only.{columned_one}
+use Rattle.columns.specs.Columns.{columns_seal, rows_in, columns_said, FileColumned}
 use Rattle.claims_columns.proofs.Answers.{stands}
 use Rattle.claims_lasting.specs.Lasting.{SameColumns, OldCodes}
 use Rattle.claims_lasting.proofs.Noted.{noted}
@@ -45,10 +45,10 @@ use Rattle.claims_lasting.proofs.Worked as worked
 use Rattle.claims_lasting.proofs.Worked.{list_of}
 
 -- what the library answers on both
-answered : (file other : List ℕ) (letter : ℕ) (codes : List ℕ) (list : List ℤ) → SameColumns file other letter codes list → (r r' : Columned) (after after' : List ℤ)
+answered : (file other : List ℕ) (letter : ℕ) (codes : List ℕ) (list : List ℤ) → SameColumns file other letter codes list → (r r' : Result ℕ Refusal) (after after' : List ℤ)
     → FileColumned file letter codes list r after → FileColumned other letter codes list r' after' → (r' ≡ r) × (after' ≡ after)
 answered file other letter codes list s r r' after after' a b = (
-  columned_one r' r (b.told ∙ s.said ∙ sym a.told),
+  result_one r' r (b.told ∙ s.said ∙ sym a.told),
   b.numbers ∙ s.after ∙ sym a.numbers,
 )
 
@@ -61,21 +61,21 @@ module _ (seal : Seal) (file : List ℕ) (f : Flight) (other : List ℕ) (g : Fl
   notes_leave_columns = noted seal file f other g w letter codes list
 
   -- by every answer that the contract of `columns::columns` allows
-  pub noted_answers : (r r' : Columned) (after after' : List ℤ) → FileColumned file letter codes list r after → FileColumned other letter codes list r' after' → (r' ≡ r) × (after' ≡ after)
+  pub noted_answers : (r r' : Result ℕ Refusal) (after after' : List ℤ) → FileColumned file letter codes list r after → FileColumned other letter codes list r' after' → (r' ≡ r) × (after' ≡ after)
   noted_answers = answered file other letter codes list notes_leave_columns
 
 -- ---- added columns
 
 module _ (needs : Seal) (file file' : List ℕ) (room : Option ℕ) (f : Flight) (accepted : verdict needs file room ≡ says f) (wider : WiderFile file file') (limit : length file' ≤ 16777216) where
-  usual : verdict columns_seal file none ≡ says f
+  usual : verdict columns_seal file None ≡ says f
   usual = usually_accepted needs file room f accepted
 
   -- no table is lent, so the old file and the limit are all that is asked for
-  wide : (f' : Flight) × (verdict columns_seal file' none ≡ says f') × LayoutsAsBefore file file' f f' (put_in wider)
-  wide = widened_layouts columns_seal file file' none none f usual wider limit refl
+  wide : (f' : Flight) × (verdict columns_seal file' None ≡ says f') × LayoutsAsBefore file file' f f' (put_in wider)
+  wide = widened_layouts columns_seal file file' None None f usual wider limit refl
 
   -- the new file is accepted, and each row of old codes, of B, K and N lines, is as it was: as many rows, number for number and mark for mark
-  pub widened_rows : (f' : Flight) × (verdict columns_seal file' none ≡ says f')
+  pub widened_rows : (f' : Flight) × (verdict columns_seal file' None ≡ says f')
       × ((g : Family) (names : List (List ℕ)) → are_carried (layout_of g f.layouts) names ≡ true
       → rows_in g (layout_of g f'.layouts) names (lines_of file') ≡ rows_in g (layout_of g f.layouts) names (lines_of file))
   widened_rows = (wide.0, wide.1, rows_before file file' f wide.0 usual wide.1 (put_in wider) wide.2)
@@ -85,17 +85,17 @@ module _ (needs : Seal) (file file' : List ℕ) (room : Option ℕ) (f : Flight)
     pub widened_columns : OldCodes f letter codes → SameColumns file file' letter codes list
     widened_columns old = columns_by file file' f wide.0 usual wide.1 letter codes list (widely_alike file file' f wide.0 usual wide.1 (put_in wider) wide.2 letter codes (length list) old)
 
-    module _ (r r' : Columned) (after after' : List ℤ) (a : FileColumned file letter codes list r after) (b : FileColumned file' letter codes list r' after') where
+    module _ (r r' : Result ℕ Refusal) (after after' : List ℤ) (a : FileColumned file letter codes list r after) (b : FileColumned file' letter codes list r' after') where
       -- by every answer that the contract of `columns::columns` allows
       pub widened_answers : OldCodes f letter codes → (r' ≡ r) × (after' ≡ after)
       widened_answers old = answered file file' letter codes list (widened_columns old) r r' after after' a b
 
       -- what was given of the old file is given of the new one
-      pub given_stays : (n : ℕ) → columned_told r ≡ says n → (r' ≡ r) × (after' ≡ after)
+      pub given_stays : (n : ℕ) → result_told r ≡ says n → (r' ≡ r) × (after' ≡ after)
       given_stays n e =
           let s = stands file letter codes list r after a n e in
           widened_answers λ g o.
-          let x : s.family ≡ g = let v : some s.family ≡ some g = sym s.of ∙ o in cc in
+          let x : s.family ≡ g = let v : Some s.family ≡ Some g = sym s.of ∙ o in cc in
           let y : s.flight ≡ f = let v : says s.flight ≡ says f = sym s.accepted ∙ usual in cc in
           rw (← x, ← y) s.carried
 
@@ -108,7 +108,7 @@ five_and_notes = notes_leave_columns seal.Strict five_lines (saying 5 true) note
 -- and of the same with ENL put between its columns
 pub five_and_enl : (letter : ℕ) (codes : List ℕ) (list : List ℤ) → OldCodes (five five_layout) letter codes → SameColumns five_lines enl_between letter codes list
 unfolding everything file_of
-five_and_enl = widened_columns seal.Strict five_lines enl_between (some 16) (five five_layout) verdict_of_five between (lit≤ tt)
+five_and_enl = widened_columns seal.Strict five_lines enl_between (Some 16) (five five_layout) verdict_of_five between (lit≤ tt)
 
 -- computed, SIU and FXA of these three; TDS of a K line and HRT of an N line before and after a column was put before each
 pub same_columns : (list_of five_lines (code "B") "SIUFXA" ≡ pos 8 ∷ pos 12 ∷ pos 9 ∷ []) × (list_of noted_five (code "B") "SIUFXA" ≡ pos 8 ∷ pos 12 ∷ pos 9 ∷ [])

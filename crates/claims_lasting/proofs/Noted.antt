@@ -1,8 +1,8 @@
 -- The columns of two files that are the same but for their notes. Assumes nothing.
+use Rattle.std.specs.Prelude.{None, Option, Some}
 use Prim.Native.Nat.{ℕ}
 use Prim.Native.Char.{code}
 use mathlib.Core.List.{List}
-use mathlib.Core.Option.{Option, none, some}
 use mathlib.Core.Path.{◌≡◌, refl, sym, ◌∙◌, ap}
 use native.Mathlib.Omega.{arith}
 use lib.IntN.{ℤ}
@@ -31,8 +31,8 @@ unfolding grid_of grid_in grid_room
 grid_same f g e h letter codes room = by (family_of letter)
   where
     by : (o : Option Family) → (given o (no BadValue 0) λ x. grid_in g x codes room) ≡ given o (no BadValue 0) λ x. grid_in f x codes room
-    by none = refl
-    by (some x) = rw (e, h x)
+    by None = refl
+    by (Some x) = rw (e, h x)
 
 module _ (file : List ℕ) (f : Flight) (other : List ℕ) (g : Flight) (w : NothingChanged file f other g) where
   -- no line with columns is an L line, so they are the same in both

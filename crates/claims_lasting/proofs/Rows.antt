@@ -1,8 +1,8 @@
 -- The rows of a file are those of its lines of a family, one behind the other; and what is answered on the columns of an accepted file, by those rows. Assumes nothing.
+use Rattle.std.specs.Prelude.{None}
 use Prim.Native.Nat.{ℕ, suc, ◌<◌}
 use mathlib.Core.Bool.{Bool, true, false, cond}
 use mathlib.Core.List.{List, [], ◌∷◌, ◌++◌}
-use mathlib.Core.Option.{none}
 use mathlib.Core.Path.{◌≡◌, refl, sym, ◌∙◌, ap, ap₂}
 use native.Mathlib.Omega.{arith}
 use lib.Dec.{eqb}
@@ -63,11 +63,11 @@ abbrev pub Alike : List ℕ → List ℕ → List ℕ → Said Grid → Said Gri
 Alike file other codes s s' = (lines_said s' ≡ lines_said s) × (numbers_in other codes s' ≡ numbers_in file codes s)
 
 -- an accepted file, by what is said of it
-said_by : (file : List ℕ) (f : Flight) → verdict columns_seal file none ≡ says f → (letter : ℕ) (codes : List ℕ) (room : ℕ) → grid_said file letter codes room ≡ grid_of f letter codes room
+said_by : (file : List ℕ) (f : Flight) → verdict columns_seal file None ≡ says f → (letter : ℕ) (codes : List ℕ) (room : ℕ) → grid_said file letter codes room ≡ grid_of f letter codes room
 unfolding grid_said
 said_by file f e letter codes room = rw e
 
-pub columns_by : (file other : List ℕ) (f g : Flight) → verdict columns_seal file none ≡ says f → verdict columns_seal other none ≡ says g → (letter : ℕ) (codes : List ℕ) (list : List ℤ)
+pub columns_by : (file other : List ℕ) (f g : Flight) → verdict columns_seal file None ≡ says f → verdict columns_seal other None ≡ says g → (letter : ℕ) (codes : List ℕ) (list : List ℤ)
     → Alike file other codes (grid_of f letter codes (length list)) (grid_of g letter codes (length list)) → SameColumns file other letter codes list
 columns_by file other f g p q letter codes list x =
     let a = said_by file f p letter codes (length list) in

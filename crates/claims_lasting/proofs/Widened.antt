@@ -1,8 +1,8 @@
 -- The columns of a file and of one with added columns: where the codes are old ones, each row is the old one. Assumes nothing.
+use Rattle.std.specs.Prelude.{None, Option, Some}
 use Prim.Native.Nat.{ℕ, ◌*◌, ◌/◌}
 use mathlib.Core.Bool.{Bool, true, false}
 use mathlib.Core.List.{List, [], ◌∷◌}
-use mathlib.Core.Option.{Option, none, some}
 use mathlib.Core.Path.{◌≡◌, refl, sym, ◌∙◌, ap}
 use native.Mathlib.Omega.{arith}
 use lib.Dec.{leb}
@@ -72,12 +72,12 @@ by_alike file other codes false room a b e r = (refl, refl)
 
 -- ---- two files
 
-module _ (file file' : List ℕ) (f f' : Flight) (p : verdict columns_seal file none ≡ says f) (q : verdict columns_seal file' none ≡ says f') (more : ℕ) (w : LayoutsAsBefore file file' f f' more) where
+module _ (file file' : List ℕ) (f f' : Flight) (p : verdict columns_seal file None ≡ says f) (q : verdict columns_seal file' None ≡ says f') (more : ℕ) (w : LayoutsAsBefore file file' f f' more) where
   many : (g : Family) → length (lines_of_family g (lines_of file)) ≡ count_of g f.counts
-  many g = family_tallied g (lines_of file) ∙ sym (family_counted columns_seal file none f p g)
+  many g = family_tallied g (lines_of file) ∙ sym (family_counted columns_seal file None f p g)
 
   many' : (g : Family) → length (lines_of_family g (lines_of file')) ≡ count_of g f'.counts
-  many' g = family_tallied g (lines_of file') ∙ sym (family_counted columns_seal file' none f' q g)
+  many' g = family_tallied g (lines_of file') ∙ sym (family_counted columns_seal file' None f' q g)
 
   pub rows_before : (g : Family) (names : List (List ℕ)) → are_carried (layout_of g f.layouts) names ≡ true
       → rows_in g (layout_of g f'.layouts) names (lines_of file') ≡ rows_in g (layout_of g f.layouts) names (lines_of file)
@@ -103,5 +103,5 @@ module _ (file file' : List ℕ) (f f' : Flight) (p : verdict columns_seal file 
     where
       by : (o : Option Family) → family_of letter ≡ o
           → Alike file file' codes (given o (no BadValue 0) λ g. grid_in f g codes room) (given o (no BadValue 0) λ g. grid_in f' g codes room)
-      by none e = (refl, refl)
-      by (some g) e = family_alike g codes room (old g e)
+      by None e = (refl, refl)
+      by (Some g) e = family_alike g codes room (old g e)

@@ -1,6 +1,5 @@
 -- The columns of two files, asked for by the same letter and the same codes into the same list: that they are the same, and that the codes are those of columns that the first file has.
-use Rattle.std.specs.Prelude.{ℕ, true, List, ◌≡◌, ℤ, length}
-use Rattle.std.proofs.Math.Option.{some}
+use Rattle.std.specs.Prelude.{ℕ, true, List, ◌≡◌, ℤ, length, Some}
 use Rattle.rules.specs.Families.{layout_of, family_of}
 use Rattle.rules.specs.declared.Family.{Family}
 use Rattle.rules.specs.declared.Flight.{Flight}
@@ -14,4 +13,4 @@ pub record SameColumns (file other : List ℕ) (letter : ℕ) (codes : List ℕ)
 
 -- a file of which f is said has a column for each of the codes in the layout of the letter's family; a letter of no family asks for none
 abbrev pub OldCodes : Flight → ℕ → List ℕ → Type 0
-OldCodes f letter codes = (g : Family) → family_of letter ≡ some g → are_carried (layout_of g f.layouts) (names_of codes) ≡ true
+OldCodes f letter codes = (g : Family) → family_of letter ≡ Some g → are_carried (layout_of g f.layouts) (names_of codes) ≡ true

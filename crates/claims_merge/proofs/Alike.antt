@@ -1,7 +1,7 @@
 -- A file that a merge made reads as the first copy does, but for the notes: the lines up to the last G line are the same, and behind them are L lines. Assumes nothing.
+use Rattle.std.specs.Prelude.{None}
 use Prim.Native.Nat.{ℕ, zero, suc, ◌<◌}
 use mathlib.Core.List.{List, [], ◌∷◌, ◌++◌}
-use mathlib.Core.Option.{none}
 use mathlib.Core.Path.{◌≡◌, refl, sym, ◌∙◌, ap, ap₂}
 use native.Mathlib.Omega.{arith}
 use lib.ListN.{length, get_or}
@@ -42,9 +42,9 @@ module _ (first second file : List ℕ) (w : Made first second file) where
       ap without_l texts_file ∙ notes_left_out common w.notes new_notes
       ∙ sym (notes_left_out common (remarks_of first m) m.keeps.remarks) ∙ sym (ap without_l (texts_is first m))
 
-  pub alike : (f g : Flight) → verdict seal.Strict first none ≡ says f → verdict seal.Strict file none ≡ says g → ReadAlike f (texts_of (lines_of first)) g (texts_of (lines_of file))
+  pub alike : (f g : Flight) → verdict seal.Strict first None ≡ says f → verdict seal.Strict file None ≡ says g → ReadAlike f (texts_of (lines_of first)) g (texts_of (lines_of file))
   alike f g p q = record {
-    same = says_alike seal.Strict first file none none f g p q unnoted;
+    same = says_alike seal.Strict first file None None f g p q unnoted;
     common = common;
     notes = remarks_of first m;
     others = w.notes;

@@ -1,9 +1,9 @@
 -- What a merge answers, in the grammar's words: the two copies and the file that they make, or the first refusal and whose it is. Assumes nothing.
+use Rattle.std.specs.Prelude.{None}
 use Prim.Native.Nat.{ℕ, ◌≤◌, ◌<◌}
 use mathlib.Core.Bool.{Bool, true, false}
 use mathlib.Core.List.{List, ◌++◌}
 use mathlib.Core.Logic.{◌↔◌}
-use mathlib.Core.Option.{none}
 use mathlib.Core.Path.{◌≡◌, refl, sym, ◌∙◌, ap, ap₂, subst}
 use native.Mathlib.Omega.{arith}
 use borrow.Author.Tests.{le-leb, lt-leb, leb-true, leb-false}
@@ -38,7 +38,7 @@ use Rattle.claims_merge.proofs.NotSame.{neither_accepted}
 use Rattle.claims_merge.proofs.Turned.{Rest, said_rest}
 
 meets_accepted : (file : List ℕ) → Meets seal.Strict file → StrictlyAccepted file
-meets_accepted file m = (flight_of m, (accepted_as seal.Strict file none (flight_of m)).1 (m, refl, refl))
+meets_accepted file m = (flight_of m, (accepted_as seal.Strict file None (flight_of m)).1 (m, refl, refl))
 
 -- what is said where both are accepted is said of neither
 abbrev OfNone : Merged → Type 0
@@ -108,8 +108,8 @@ module _ (first second : List ℕ) (notes : List (List ℕ)) (together : Togethe
   said_refused : (room : ℕ) (m : Merged) → MergeRefused first second room m → merge_said first second result room ≡ m
   unfolding merge_said number
   said_refused room (merged _) x'' = elim x'' [ ]
-  said_refused room (of_first n l b) (first_file x) = rw ((refused_first seal.Strict first none n l b).1 x)
-  said_refused room (of_second n l b) (second_file k x) = rw ((meets_accepted first k).1, (refused_first seal.Strict second none n l b).1 x)
+  said_refused room (of_first n l b) (first_file x) = rw ((refused_first seal.Strict first None n l b).1 x)
+  said_refused room (of_second n l b) (second_file k x) = rw ((meets_accepted first k).1, (refused_first seal.Strict second None n l b).1 x)
   said_refused room (of_neither _ _ _) (not_same m k d) = said_rest first second (meets_accepted first m) (meets_accepted second k) notes room ∙ go (is_same one two) refl
     where
       go : (t : Bool) → is_same one two ≡ t → Rest one two result room ≡ of_neither 26 0 0
@@ -141,21 +141,21 @@ module _ (first second : List ℕ) (notes : List (List ℕ)) (together : Togethe
 
   said_first : (room n l b : ℕ) → merge_said first second result room ≡ of_first n l b → MergeRefused first second room (of_first n l b)
   unfolding merge_said
-  said_first room n l b = by (verdict seal.Strict first none) (verdict seal.Strict second none) refl
+  said_first room n l b = by (verdict seal.Strict first None) (verdict seal.Strict second None) refl
     where
-      by : (s t : Said Flight) → verdict seal.Strict first none ≡ s → (accept_first s λ _. accept_second t λ _. Rest one two result room) ≡ of_first n l b → MergeRefused first second room (of_first n l b)
-      by (refuses k i j) t p e = subst (MergeRefused first second room) e (first_file ((refused_first seal.Strict first none k i j).0 p))
+      by : (s t : Said Flight) → verdict seal.Strict first None ≡ s → (accept_first s λ _. accept_second t λ _. Rest one two result room) ≡ of_first n l b → MergeRefused first second room (of_first n l b)
+      by (refuses k i j) t p e = subst (MergeRefused first second room) e (first_file ((refused_first seal.Strict first None k i j).0 p))
       by (says f) (refuses k i j) p e = let z : ◌≡◌ {A = ℕ} 0 1 = cc in absurd (omega arith)
       by (says f) (says g) p e = absurd (subst OfNone e (rest_none (is_same one two) (leb (length result) 16777216) (leb (length result) room) (length result)))
 
   said_second : (room n l b : ℕ) → merge_said first second result room ≡ of_second n l b → MergeRefused first second room (of_second n l b)
   unfolding merge_said
-  said_second room n l b = by (verdict seal.Strict first none) (verdict seal.Strict second none) refl refl
+  said_second room n l b = by (verdict seal.Strict first None) (verdict seal.Strict second None) refl refl
     where
-      by : (s t : Said Flight) → verdict seal.Strict first none ≡ s → verdict seal.Strict second none ≡ t → (accept_first s λ _. accept_second t λ _. Rest one two result room) ≡ of_second n l b
+      by : (s t : Said Flight) → verdict seal.Strict first None ≡ s → verdict seal.Strict second None ≡ t → (accept_first s λ _. accept_second t λ _. Rest one two result room) ≡ of_second n l b
           → MergeRefused first second room (of_second n l b)
       by (refuses k i j) t p q e = let z : ◌≡◌ {A = ℕ} 0 1 = cc in absurd (omega arith)
-      by (says f) (refuses k i j) p q e = subst (MergeRefused first second room) e (second_file (accepted_meets first (f, p)).0 ((refused_first seal.Strict second none k i j).0 q))
+      by (says f) (refuses k i j) p q e = subst (MergeRefused first second room) e (second_file (accepted_meets first (f, p)).0 ((refused_first seal.Strict second None k i j).0 q))
       by (says f) (says g) p q e = absurd (subst OfNone e (rest_none (is_same one two) (leb (length result) 16777216) (leb (length result) room) (length result)))
 
   said_neither : (room n l b : ℕ) → merge_said first second result room ≡ of_neither n l b → MergeRefused first second room (of_neither n l b)

@@ -3,11 +3,11 @@
 --
 -- The claims are about every answer that the contract of `notes_merge::merge` allows (promise FilesMerged), and by `only_files_merged` that is one. It is told by `merge_said`: the first file's
 -- refusal, the second's, 26, 2, 18, in this order, or how many bytes the merged file has.
+use Rattle.std.specs.Prelude.{None}
 use Prim.Native.Nat.{ℕ, ◌≤◌, ◌<◌, max}
 use mathlib.Core.Bool.{true, false}
 use mathlib.Core.List.{List, [], ◌∷◌, ◌++◌}
 use mathlib.Core.Logic.{◌↔◌}
-use mathlib.Core.Option.{none}
 use mathlib.Core.Path.{◌≡◌, sym, ◌∙◌, ap, subst}
 use native.Mathlib.Omega.{arith}
 use lib.ListN.{length, get_or, take, drop}
@@ -123,10 +123,10 @@ module _ (first second file : List ℕ) (w : Makes first second file) where
   merged_accepted = making.accepted_again first second file made
 
   -- and reads as each copy does, but for the notes; every reading by its name, the track and the summary too: `merged_changes_nothing` (claims_notes)
-  pub merged_reads : (f g : Flight) → verdict seal.Strict first none ≡ says f → verdict seal.Strict file none ≡ says g → ReadAlike f (texts_of (lines_of first)) g (texts_of (lines_of file))
+  pub merged_reads : (f g : Flight) → verdict seal.Strict first None ≡ says f → verdict seal.Strict file None ≡ says g → ReadAlike f (texts_of (lines_of first)) g (texts_of (lines_of file))
   merged_reads = alike.alike first second file made
 
-  pub merged_reads_second : (f g : Flight) → verdict seal.Strict second none ≡ says f → verdict seal.Strict file none ≡ says g → ReadAlike f (texts_of (lines_of second)) g (texts_of (lines_of file))
+  pub merged_reads_second : (f g : Flight) → verdict seal.Strict second None ≡ says f → verdict seal.Strict file None ≡ says g → ReadAlike f (texts_of (lines_of second)) g (texts_of (lines_of file))
   merged_reads_second = alike.alike second first file (making.made_turned first second file made)
 
 -- whatever is read, with the layouts, of a line that is no note at the end is the same: a fix and its columns, a K line, an event, a line of the declaration

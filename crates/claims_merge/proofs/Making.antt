@@ -1,7 +1,7 @@
 -- What a merge that was not refused makes of two copies; and that a file so made is a copy again, with the same common part and the notes of both. Assumes nothing.
+use Rattle.std.specs.Prelude.{None}
 use Prim.Native.Nat.{ℕ, ◌≤◌}
 use mathlib.Core.List.{List, ◌++◌}
-use mathlib.Core.Option.{none}
 use mathlib.Core.Path.{◌≡◌, refl, sym, ◌∙◌, ap, ap₂, subst}
 use lib.ListN.{length, take, drop}
 use lib.Seq.{take-append_seam}
@@ -89,7 +89,7 @@ made_turned first second file w = record {
 -- ---- the file made is a copy again
 
 pub accepted_meets : (file : List ℕ) → (a : StrictlyAccepted file) → (m : Meets seal.Strict file) × (flight_of m ≡ a.0)
-accepted_meets file a = let r = (accepted_as seal.Strict file none a.0).0 a.1 in (r.0, r.2)
+accepted_meets file a = let r = (accepted_as seal.Strict file None a.0).0 a.1 in (r.0, r.2)
 
 module _ (first second file : List ℕ) (w : Made first second file) where
   pub meets_first : Meets seal.Strict first
@@ -123,4 +123,4 @@ module _ (first second file : List ℕ) (w : Made first second file) where
   notes_again = ap (λ (l : List ℕ). notes_in (lines_of l)) file_is ∙ noted_notes first meets_first w.notes notes_keep built_short
 
   pub accepted_again : StrictlyAccepted file
-  accepted_again = subst StrictlyAccepted (sym file_is) (flight_of built_meets, (accepted_as seal.Strict built none (flight_of built_meets)).1 (built_meets, refl, refl))
+  accepted_again = subst StrictlyAccepted (sym file_is) (flight_of built_meets, (accepted_as seal.Strict built None (flight_of built_meets)).1 (built_meets, refl, refl))

@@ -1,8 +1,8 @@
 -- No table is lent to a merge, so that 15 isn't met: no answer of the merge has it. Assumes nothing.
+use Rattle.std.specs.Prelude.{None}
 use Prim.Native.Nat.{ℕ}
 use mathlib.Core.Bool.{Bool, true, false}
 use mathlib.Core.List.{List}
-use mathlib.Core.Option.{none}
 use mathlib.Core.Path.{◌≡◌, refl, sym, ◌∙◌, ap}
 use native.Mathlib.Omega.{arith}
 use lib.Dec.{eqb, leb}
@@ -34,7 +34,7 @@ never_need false m more h k = h
 
 said_never_full : (first second file : List ℕ) (room : ℕ) → Never (merge_said first second file room)
 unfolding merge_said number number_in
-said_never_full first second file room = one (verdict seal.Strict first none) refl
+said_never_full first second file room = one (verdict seal.Strict first None) refl
   where
     rest : Never (need (is_same (common_part (lines_of first)) (common_part (lines_of second))) (of_neither (number NotSame) 0 0) λ _.
         need (leb (length file) 16777216) (of_neither (number TooLong) 0 0) λ _. need (leb (length file) room) (of_neither (number NoRoom) 0 0) λ _. merged (length file))
@@ -42,16 +42,16 @@ said_never_full first second file room = one (verdict seal.Strict first none) re
         never_need (is_same (common_part (lines_of first)) (common_part (lines_of second))) _ _ (λ e. omega (arith, e))
         (never_need (leb (length file) 16777216) _ _ (λ e. omega (arith, e)) (never_need (leb (length file) room) _ _ (λ e. omega (arith, e)) (λ e. omega (arith, e))))
 
-    two : (s : Said Flight) → verdict seal.Strict second none ≡ s → Never (accept_second s λ _.
+    two : (s : Said Flight) → verdict seal.Strict second None ≡ s → Never (accept_second s λ _.
         need (is_same (common_part (lines_of first)) (common_part (lines_of second))) (of_neither (number NotSame) 0 0) λ _.
         need (leb (length file) 16777216) (of_neither (number TooLong) 0 0) λ _. need (leb (length file) room) (of_neither (number NoRoom) 0 0) λ _. merged (length file))
     two (says f) e = rest
     two (refuses n l b) e = unlike n (check_never_full seal.Strict second n l b e)
 
-    one : (s : Said Flight) → verdict seal.Strict first none ≡ s → Never (accept_first s λ _. accept_second (verdict seal.Strict second none) λ _.
+    one : (s : Said Flight) → verdict seal.Strict first None ≡ s → Never (accept_first s λ _. accept_second (verdict seal.Strict second None) λ _.
         need (is_same (common_part (lines_of first)) (common_part (lines_of second))) (of_neither (number NotSame) 0 0) λ _.
         need (leb (length file) 16777216) (of_neither (number TooLong) 0 0) λ _. need (leb (length file) room) (of_neither (number NoRoom) 0 0) λ _. merged (length file))
-    one (says f) e = two (verdict seal.Strict second none) refl
+    one (says f) e = two (verdict seal.Strict second None) refl
     one (refuses n l b) e = unlike n (check_never_full seal.Strict first n l b e)
 
 pub never_full : (first second out : List ℕ) (r : Brought) (after : List ℕ) → FilesMerged first second out r after → number_in (merge_told r) ≡ 15 → ⊥

@@ -1,8 +1,8 @@
 -- 26 exactly: the merge answers it where both files are accepted and their common parts differ, and nowhere else. Assumes nothing.
+use Rattle.std.specs.Prelude.{None}
 use Prim.Native.Nat.{ℕ}
 use mathlib.Core.List.{List}
 use mathlib.Core.Logic.{◌↔◌}
-use mathlib.Core.Option.{none}
 use mathlib.Core.Path.{◌≡◌, refl, sym, ◌∙◌}
 use native.Mathlib.Omega.{arith}
 use lib.ListN.{length}
@@ -30,8 +30,8 @@ second_passed (refuses n m c) more k l b e = let z : ◌≡◌ {A = ℕ} 0 1 = c
 pub neither_accepted : (first second file : List ℕ) (room k l b : ℕ) → merge_said first second file room ≡ of_neither k l b → StrictlyAccepted first × StrictlyAccepted second
 unfolding merge_said
 neither_accepted first second file room k l b e =
-    let p = first_passed (verdict seal.Strict first none) _ k l b e in
-    let q = second_passed (verdict seal.Strict second none) _ k l b p.2 in
+    let p = first_passed (verdict seal.Strict first None) _ k l b e in
+    let q = second_passed (verdict seal.Strict second None) _ k l b p.2 in
     ((p.0, p.1), (q.0, q.1))
 
 pub not_same_exactly : (first second out : List ℕ) (r : Brought) (after : List ℕ) → FilesMerged first second out r after

@@ -1,9 +1,9 @@
 -- The two copies in the other order, three copies in another pairing, a copy with itself, and copies that are not of one file. Assumes nothing.
+use Rattle.std.specs.Prelude.{None}
 use Prim.Native.Nat.{ℕ, ◌+◌, ◌≤◌, ◌<◌}
 use mathlib.Core.Bool.{Bool, true, false}
 use mathlib.Core.List.{List, [], ◌∷◌, ◌++◌}
 use mathlib.Core.Logic.{◌↔◌}
-use mathlib.Core.Option.{none}
 use mathlib.Core.Path.{◌≡◌, refl, sym, ◌∙◌, ap, ap₂, subst}
 use native.Mathlib.Omega.{arith}
 use borrow.Author.Tests.{le-leb, lt-leb}
@@ -93,16 +93,16 @@ turned first second out r after a b w =
 
 -- a file that is refused leaves the output as it was, whichever it is
 module _ (first second out : List ℕ) (r : Brought) (after : List ℕ) (w : FilesMerged first second out r after) where
-  pub first_out : (k l b : ℕ) → verdict seal.Strict first none ≡ refuses k l b → after ≡ out
+  pub first_out : (k l b : ℕ) → verdict seal.Strict first None ≡ refuses k l b → after ≡ out
   unfolding merge_said
   first_out k l b e = w.bytes ∙ rw e
 
-  pub second_out : (k l b : ℕ) → verdict seal.Strict second none ≡ refuses k l b → after ≡ out
+  pub second_out : (k l b : ℕ) → verdict seal.Strict second None ≡ refuses k l b → after ≡ out
   unfolding merge_said
-  second_out k l b e = w.bytes ∙ go (verdict seal.Strict first none)
+  second_out k l b e = w.bytes ∙ go (verdict seal.Strict first None)
     where
       go : (s : Said Flight)
-          → out_merged (accept_first s λ _. accept_second (verdict seal.Strict second none) λ _. Rest (common_part (lines_of first)) (common_part (lines_of second)) (merged_file first w.notes) (length out)) (merged_file first w.notes) out ≡ out
+          → out_merged (accept_first s λ _. accept_second (verdict seal.Strict second None) λ _. Rest (common_part (lines_of first)) (common_part (lines_of second)) (merged_file first w.notes) (length out)) (merged_file first w.notes) out ≡ out
       go (says f) = rw e
       go (refuses n m c) = refl
 
@@ -119,12 +119,12 @@ refused_leaves first second out r after w h = w.bytes ∙ go (merge_said first s
 
 pub either_way : (first second out : List ℕ) (r r' : Brought) (after after' : List ℕ) → FilesMerged first second out r after → FilesMerged second first out r' after'
     → (after ≡ after') × (StrictlyAccepted first → StrictlyAccepted second → r ≡ r')
-either_way first second out r r' after after' w v = (go (verdict seal.Strict first none) (verdict seal.Strict second none) refl refl, λ a b. (both a b).0)
+either_way first second out r r' after after' w v = (go (verdict seal.Strict first None) (verdict seal.Strict second None) refl refl, λ a b. (both a b).0)
   where
     both : StrictlyAccepted first → StrictlyAccepted second → (r ≡ r') × (after ≡ after')
     both a b = only_files_merged first second out r r' after after' w (turned first second out r' after' a b v)
 
-    go : (s t : Said Flight) → verdict seal.Strict first none ≡ s → verdict seal.Strict second none ≡ t → after ≡ after'
+    go : (s t : Said Flight) → verdict seal.Strict first None ≡ s → verdict seal.Strict second None ≡ t → after ≡ after'
     go (says f) (says g) p q = (only_files_merged first second out r r' after after' w (turned first second out r' after' (f, p) (g, q) v)).1
     go (refuses k l b) t p q = first_out first second out r after w k l b p ∙ sym (second_out second first out r' after' v k l b p)
     go (says f) (refuses k l b) p q = second_out first second out r after w k l b q ∙ sym (first_out second first out r' after' v k l b q)

@@ -1,6 +1,5 @@
 -- Document 02, 'Bring evening notes together': the words of what is demanded of the merge of two files.
-use Rattle.std.specs.Prelude.{ℕ, ◌≤◌, ◌<◌, List, ◌∷◌, ◌++◌, ◌≡◌, length, drop}
-use Rattle.std.proofs.Math.Option.{none}
+use Rattle.std.specs.Prelude.{ℕ, ◌≤◌, ◌<◌, List, ◌∷◌, ◌++◌, ◌≡◌, length, drop, None}
 use Rattle.rules.specs.Choice.{Each}
 use Rattle.rules.specs.declared.Flight.{Flight}
 use Rattle.rules.specs.declared.Seal.TheVariants as seal
@@ -56,8 +55,8 @@ pub record Merges (first second : List ℕ) (room : ℕ) (file : List ℕ) : Typ
 -- a refusal, with whose it is, number, line and byte: the first file's, the second's, "26 NOT_SAME", "2 for the result", "18 if the output is shorter", each where none before it applies. A
 -- file's own are those of the strict check, with no table
 pub data MergeRefused (first second : List ℕ) (room : ℕ) : Merged → Type 0 where
-  first_file : {n l b : ℕ} → Refused seal.Strict first none n l b → MergeRefused first second room (of_first n l b)
-  second_file : {n l b : ℕ} → Meets seal.Strict first → Refused seal.Strict second none n l b → MergeRefused first second room (of_second n l b)
+  first_file : {n l b : ℕ} → Refused seal.Strict first None n l b → MergeRefused first second room (of_first n l b)
+  second_file : {n l b : ℕ} → Meets seal.Strict first → Refused seal.Strict second None n l b → MergeRefused first second room (of_second n l b)
   not_same : (one : Meets seal.Strict first) (two : Meets seal.Strict second) → (sealed_bytes one ≡ sealed_bytes two → ⊥) → MergeRefused first second room (of_neither 26 0 0)
   too_long : (file : List ℕ) → IsMerge first second file → 16777216 < length file → MergeRefused first second room (of_neither 2 0 0)
   no_room : (file : List ℕ) → IsMerge first second file → length file ≤ 16777216 → room < length file → MergeRefused first second room (of_neither 18 0 0)

@@ -5,12 +5,14 @@
 -- What may differ: "Line numbers" (of a track's record, in a listing), "offsets" (a line's bounds, a reading place), "the line count" (`lines` of what the check says), "the table", "lines got by
 -- number or by stepping and the text of the L lines". In a worked pair the table, a line by its number, the line count and the line numbers do (proofs/Worked: `table_differs`, `line_differs`,
 -- `listing_differs`, `numbers_differ`). docs/CONTRACTS.md has every public reading of an accepted file in one of the two lists.
+use Rattle.rules_only.proofs.Told.{result_one}
+use Rattle.rules.specs.declared.Refusal.{Refusal}
+use Rattle.std.specs.Prelude.{None, Result}
 use Prim.Native.Nat.{ℕ}
 use Prim.Native.Char.{code}
 use mathlib.Core.Bool.{true, false}
 use mathlib.Core.List.{List, [], ◌∷◌, ◌++◌, map}
 use mathlib.Core.Logic.{◌⊎◌, inl, inr}
-use mathlib.Core.Option.{none}
 use mathlib.Core.Path.{◌≡◌, sym, ◌∙◌, ap}
 use native.Mathlib.Omega.{arith}
 use lib.IntN.{ℤ}
@@ -20,7 +22,7 @@ use Rattle.rules.specs.Families.{layout_of}
 use Rattle.rules.specs.Files.{verdict}
 use Rattle.rules.specs.Layouts.{length_said, presence_said}
 use Rattle.rules.specs.Reads.{date_said, event_said, satellites_said, head_said, head_rest, point_said, point_rest}
-use Rattle.rules.specs.Refusals.{says}
+use Rattle.rules.specs.Refusals.{says, result_told}
 use Rattle.rules.specs.Split.{lines_of}
 use Rattle.rules.specs.declared.Family.TheVariants as family
 use Rattle.rules.specs.declared.Flight.{Flight}
@@ -38,13 +40,9 @@ use Rattle.claims_merge.specs.Evening.{Makes}
 use Rattle.claims_merge.proofs.Evening.{merged_reads, merged_reads_second}
 use Rattle.track_rules.specs.Track.{track_of}
 use Rattle.track_rules.specs.declared.Record.{Record}
-use Rattle.track_course.specs.Courses.{tracked_told}
 use Rattle.track.specs.Tracks.{FileTracked}
-use Rattle.track_course.specs.declared.Tracked.{Tracked}
 use Rattle.summary_reckon.specs.Summary.{updated}
 use Rattle.summary.specs.Summaries.{FileSummed}
-use Rattle.summary_reckon.specs.declared.Summed.{Summed}
-use Rattle.summary_reckon.proofs.Only.{summed_one}
 use Rattle.claims_notes.specs.Notes.{its_lines, ButForNotes, nth, unnumbered, days_and_fixes, NothingChanged}
 use Rattle.claims_notes.proofs.Walks.{walks_alike}
 use Rattle.claims_notes.proofs.Tracks as tracks
@@ -102,17 +100,17 @@ module _ (seal : Seal) (file : List ℕ) (f : Flight) (other : List ℕ) (g : Fl
   -- ---- the same of what the library answers
 
   -- a track of each into the same list, by every answer that the contract of `track::track` allows
-  pub tracks_alike : (list : List Record) (r r' : Tracked) (after after' : List Record) → FileTracked file list r after → FileTracked other list r' after'
-      → (tracked_told r' ≡ tracked_told r) × (map unnumbered after' ≡ map unnumbered after)
+  pub tracks_alike : (list : List Record) (r r' : Result ℕ Refusal) (after after' : List Record) → FileTracked file list r after → FileTracked other list r' after'
+      → (result_told r' ≡ result_told r) × (map unnumbered after' ≡ map unnumbered after)
   tracks_alike list r r' after after' a b = (
     b.told ∙ notes_change_nothing.tracked (length list) ∙ sym a.told,
     ap (map unnumbered) b.records ∙ notes_change_nothing.track list ∙ sym (ap (map unnumbered) a.records),
   )
 
   -- a summary of each with the same old number and the same list, by every answer that the contract of `summary::summary` allows
-  pub summaries_alike : (old : ℕ) (list : List ℤ) (r r' : Summed) (after after' : List ℤ) → FileSummed file old list r after → FileSummed other old list r' after' → (r' ≡ r) × (after' ≡ after)
+  pub summaries_alike : (old : ℕ) (list : List ℤ) (r r' : Result ℕ Refusal) (after after' : List ℤ) → FileSummed file old list r after → FileSummed other old list r' after' → (r' ≡ r) × (after' ≡ after)
   summaries_alike old list r r' after after' a b = (
-    summed_one r' r (b.told ∙ notes_change_nothing.summed old (length list) ∙ sym a.told),
+    result_one r' r (b.told ∙ notes_change_nothing.summed old (length list) ∙ sym a.told),
     b.numbers ∙ notes_change_nothing.summary old list ∙ sym a.numbers,
   )
 
@@ -140,9 +138,9 @@ four_and_noted = worked.four_pair
 
 -- a merged file and each of its copies
 module _ (first second file : List ℕ) (w : Makes first second file) (copy : List ℕ) (is : (copy ≡ first) ⊎ (copy ≡ second)) (f g : Flight)
-    (says_copy : verdict seal.Strict copy none ≡ says f) (says_file : verdict seal.Strict file none ≡ says g) where
+    (says_copy : verdict seal.Strict copy None ≡ says f) (says_file : verdict seal.Strict file None ≡ says g) where
   pub merged_but_for_notes : ButForNotes seal.Strict copy f file g
-  merged_but_for_notes = record { room = none; room' = none; accepted = says_copy; accepted_too = says_file; same = by is }
+  merged_but_for_notes = record { room = None; room' = None; accepted = says_copy; accepted_too = says_file; same = by is }
     where
       by : (copy ≡ first) ⊎ (copy ≡ second) → without_l (its_lines file) ≡ without_l (its_lines copy)
       by (inl e) = rw e (merged_reads first second file w f g (rw e at says_copy) says_file).unnoted

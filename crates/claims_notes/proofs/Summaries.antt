@@ -1,8 +1,8 @@
 -- The summary of two files that are the same but for their notes: the answer is the same, and so is every number of the list afterwards, since a summary looks at no line number. Assumes nothing.
+use Rattle.std.specs.Prelude.{None}
 use Prim.Native.Nat.{ℕ, zero, suc, ◌-◌, ◌/◌, ◌*◌}
 use mathlib.Core.Bool.{Bool, true, false, cond}
 use mathlib.Core.List.{List, [], ◌∷◌, ◌++◌, map}
-use mathlib.Core.Option.{none}
 use mathlib.Core.Path.{◌≡◌, refl, sym, ◌∙◌, ap, ap₂}
 use lib.Dec.{leb}
 use lib.IntN.{ℤ}
@@ -108,7 +108,7 @@ unnumbered_summed = others_summed unnumbered (λ r. record { day = refl; time = 
 
 -- ---- two files
 
-module _ (file : List ℕ) (f : Flight) (other : List ℕ) (g : Flight) (p : verdict track_seal file none ≡ says f) (q : verdict track_seal other none ≡ says g) (counts : fixes_in g ≡ fixes_in f) (old : ℕ) where
+module _ (file : List ℕ) (f : Flight) (other : List ℕ) (g : Flight) (p : verdict track_seal file None ≡ says f) (q : verdict track_seal other None ≡ says g) (counts : fixes_in g ≡ fixes_in f) (old : ℕ) where
   pub answers_alike : (room : ℕ) → summary_said other old room ≡ summary_said file old room
   answers_alike room = said_accepted other old room g q ∙ ap (λ (n : ℕ). count_said n old room) counts ∙ sym (said_accepted file old room f p)
 

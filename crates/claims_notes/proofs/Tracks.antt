@@ -1,8 +1,8 @@
 -- The track of two files that are the same but for their notes: the answer is the same, and so is each record of the list afterwards, but for its line number. Assumes nothing.
+use Rattle.std.specs.Prelude.{None, Option}
 use Prim.Native.Nat.{ℕ}
 use mathlib.Core.Bool.{Bool, true, false, cond}
 use mathlib.Core.List.{List, ◌++◌, map, map-append}
-use mathlib.Core.Option.{Option, none}
 use mathlib.Core.Path.{◌≡◌, refl, sym, ◌∙◌, ap, ap₂}
 use lib.Dec.{leb}
 use lib.ListN.{length, drop, length-map}
@@ -21,16 +21,16 @@ use Rattle.track_rules.specs.declared.Record.{Record}
 use Rattle.claims_notes.specs.Notes.{unnumbered, days_and_fixes}
 
 -- what is accepted with a table is accepted with none, and what passes the strict check passes the usual one, and they say the same
-pub usually_accepted : (needs : Seal) (file : List ℕ) (room : Option ℕ) (f : Flight) → verdict needs file room ≡ says f → verdict track_seal file none ≡ says f
-usually_accepted needs file room f e = by needs (let a = (accepted_as needs file room f).0 e in (accepted_as needs file none f).1 (a.0, tt, a.2))
+pub usually_accepted : (needs : Seal) (file : List ℕ) (room : Option ℕ) (f : Flight) → verdict needs file room ≡ says f → verdict track_seal file None ≡ says f
+usually_accepted needs file room f e = by needs (let a = (accepted_as needs file room f).0 e in (accepted_as needs file None f).1 (a.0, tt, a.2))
   where
-    by : (s : Seal) → verdict s file none ≡ says f → verdict track_seal file none ≡ says f
+    by : (s : Seal) → verdict s file None ≡ says f → verdict track_seal file None ≡ says f
     by seal.Usual e = e
-    by seal.Strict e = ((strict_is_usual_and_signed file none f).0 e).0
+    by seal.Strict e = ((strict_is_usual_and_signed file None f).0 e).0
 
 -- ---- one file
 
-module _ (file : List ℕ) (f : Flight) (accepted : verdict track_seal file none ≡ says f) where
+module _ (file : List ℕ) (f : Flight) (accepted : verdict track_seal file None ≡ says f) where
   abbrev count : ℕ
   count = count_of family.B f.counts
 
@@ -64,7 +64,7 @@ module _ (file : List ℕ) (f : Flight) (accepted : verdict track_seal file none
 
 -- ---- two files
 
-module _ (file : List ℕ) (f : Flight) (other : List ℕ) (g : Flight) (p : verdict track_seal file none ≡ says f) (q : verdict track_seal other none ≡ says g)
+module _ (file : List ℕ) (f : Flight) (other : List ℕ) (g : Flight) (p : verdict track_seal file None ≡ says f) (q : verdict track_seal other None ≡ says g)
     (counts : count_of family.B g.counts ≡ count_of family.B f.counts) where
   pub answers_alike : (room : ℕ) → track_said other room ≡ track_said file room
   answers_alike room = answer_by other g q room ∙ ap (λ (n : ℕ). need (leb n room) (no NoRoom 0) λ _. says n) counts ∙ sym (answer_by file f p room)

@@ -1,9 +1,9 @@
 -- A walk over the lines of a file, with an L line or without it, comes to the same fixes on the same days. Assumes nothing.
+use Rattle.std.specs.Prelude.{None, Option, Some}
 use Prim.Native.Nat.{ℕ}
 use Prim.Native.Char.{code}
 use mathlib.Core.Bool.{Bool, true, false, cond}
 use mathlib.Core.List.{List, [], ◌∷◌, ◌++◌, map, map-append}
-use mathlib.Core.Option.{Option, none, some}
 use mathlib.Core.Path.{◌≡◌, refl, sym, ◌∙◌, ap, ap₂}
 use native.Mathlib.Omega.{arith}
 use borrow.Author.Tests.{eqb-true}
@@ -31,11 +31,11 @@ record Abreast (v w : Walk) : Type 0 where
   day : v.day ≡ w.day
 
 both_walk : (o : Option ℕ) (v w : Walk) → Abreast v w → Abreast (walked_by o v) (walked_by o w)
-both_walk none v w h = record { clock = h.clock; day = h.day }
-both_walk (some t) v w h = record { clock = refl; day = ap₂ (λ (c d : ℕ). day_after (passing c t) d) h.clock h.day }
+both_walk None v w h = record { clock = h.clock; day = h.day }
+both_walk (Some t) v w h = record { clock = refl; day = ap₂ (λ (c d : ℕ). day_after (passing c t) d) h.clock h.day }
 
 -- an L line has no time
-untimed : (t : List ℕ) → get_or t 0 0 ≡ code "L" → time_on t ≡ none
+untimed : (t : List ℕ) → get_or t 0 0 ≡ code "L" → time_on t ≡ None
 unfolding kind_of
 untimed t e = rw e
 

@@ -1,9 +1,9 @@
 -- Document 01's file of five lines with notes before and after its G line, the four lines before its G line with notes, and a flight over three midnights with and without them, worked
 -- out by hand: what they say, which is the same; and what differs. Notes that begin as a timed line does move no clock. Computed. Assumes nothing.
+use Rattle.std.specs.Prelude.{None}
 use Prim.Native.Nat.{ℕ}
 use mathlib.Core.Bool.{Bool, true, false}
 use mathlib.Core.List.{List, [], ◌∷◌, ◌++◌, map}
-use mathlib.Core.Option.{none}
 use Prim.Native.String.{String}
 use mathlib.Core.Path.{◌≡◌, refl}
 use lib.IntN.{ℤ, pos, neg_ℤ}
@@ -47,8 +47,8 @@ saying lines signed = record {
 
 pub five_pair : (needs : Seal) → ButForNotes needs five_lines (saying 5 true) noted_five (saying 9 true)
 unfolding everything file_of without_l
-five_pair seal.Usual = record { room = none; room' = none; accepted = refl; accepted_too = refl; same = refl }
-five_pair seal.Strict = record { room = none; room' = none; accepted = refl; accepted_too = refl; same = refl }
+five_pair seal.Usual = record { room = None; room' = None; accepted = refl; accepted_too = refl; same = refl }
+five_pair seal.Strict = record { room = None; room' = None; accepted = refl; accepted_too = refl; same = refl }
 
 -- ---- without a G line
 
@@ -58,7 +58,7 @@ noted_four = file_of ("AXYZ001" ∷ "HFDTE150724" ∷ "I023638FXA3940SIU" ∷ "L
 
 pub four_pair : ButForNotes seal.Usual four_lines (saying 4 false) noted_four (saying 6 false)
 unfolding everything file_of without_l
-four_pair = record { room = none; room' = none; accepted = refl; accepted_too = refl; same = refl }
+four_pair = record { room = None; room' = None; accepted = refl; accepted_too = refl; same = refl }
 
 -- ---- what may differ, and does
 
@@ -106,7 +106,7 @@ nights_saying lines = record {
 
 pub nights_pair : ButForNotes seal.Strict nights (nights_saying 15) noisy_nights (nights_saying 19)
 unfolding everything file_of without_l
-nights_pair = record { room = none; room' = none; accepted = refl; accepted_too = refl; same = refl }
+nights_pair = record { room = None; room' = None; accepted = refl; accepted_too = refl; same = refl }
 
 pub nights_unchanged : map unnumbered (track_of noisy_nights empty_layout) ≡ map unnumbered tracked
 unfolding everything file_of track_from
@@ -131,6 +131,6 @@ numbers_differ = (refl, refl)
 -- ---- a note where no L line may come
 
 -- "line 2 is H": the file is refused, so it is in no such pair
-pub note_too_early : verdict seal.Usual (file_of ("AXYZ001" ∷ "LXYZ" ∷ "HFDTE150724" ∷ [])) none ≡ refuses 6 2 1
+pub note_too_early : verdict seal.Usual (file_of ("AXYZ001" ∷ "LXYZ" ∷ "HFDTE150724" ∷ [])) None ≡ refuses 6 2 1
 unfolding everything file_of
 note_too_early = refl

@@ -1,7 +1,6 @@
 -- Document 02, 'Notes tell nothing and change nothing': the two files, and all that is read alike of them, reading by reading.
-use Rattle.std.specs.Prelude.{ℕ, List, [], map, ◌≡◌, ℤ, length, get_or}
+use Rattle.std.specs.Prelude.{ℕ, List, [], map, ◌≡◌, ℤ, length, get_or, Option}
 use Prim.Native.Char.{code}
-use Rattle.std.proofs.Math.Option.{Option}
 use Rattle.rules.specs.Families.{line_letter, layout_of, count_of}
 use Rattle.rules.specs.Files.{verdict}
 use Rattle.rules.specs.Layouts.{length_said, presence_said}

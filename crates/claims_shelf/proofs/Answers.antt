@@ -1,9 +1,9 @@
 -- What each call answers, exactly: which refusal comes first, and what is found where none comes. Assumes nothing.
+use Rattle.std.specs.Prelude.{None, Option, Some}
 use Prim.Native.Nat.{ℕ}
 use mathlib.Core.Bool.{Bool, true, false, not}
 use mathlib.Core.List.{List}
 use mathlib.Core.Logic.{◌⊎◌, inl, inr, ◌↔◌}
-use mathlib.Core.Option.{Option, none, some}
 use mathlib.Core.Path.{◌≡◌, refl, sym, ap, ◌∙◌}
 use native.Mathlib.Omega.{arith}
 use borrow.Author.Tests.{eq-eqb, ne_eqb, eqb-true, eqb-false, not-false, not-true}
@@ -19,7 +19,8 @@ use Rattle.rules.proofs.Inverse.{refuses_says, false_true, then_inv}
 use Rattle.grammar.specs.Grammar.{Meets, flight_of}
 use Rattle.grammar.proofs.Demands.{accepted_as, refused_first}
 use Rattle.shelf_rules.specs.Contents.{number_of, sound}
-use Rattle.shelf_rules.specs.Shelf.{entry_of, place_for, usable, Spot, spot_for, add_said, held_at}
+use Rattle.shelf_rules.specs.declared.Spot.{Spot}
+use Rattle.shelf_rules.specs.Shelf.{entry_of, place_for, usable, spot_for, add_said, held_at}
 use Rattle.shelf_rules.specs.Packing.{pack_said}
 use Rattle.shelf_rules.proofs.Tests.{by_eq}
 use Rattle.claims_shelf.specs.Weekend.{IsShelf, InUse, Unplaced, Broken, Both, New, AddRefused, NotFound, AddsAt, HeldIn}
@@ -37,9 +38,9 @@ need_ways : {A : Type 0} (t : Bool) (a x : A) (f : Unit {0} → A) → need t a 
 need_ways true a x f e = inr (refl, e)
 need_ways false a x f e = inl (refl, e)
 
-given_ways : {A B : Type 0} (o : Option A) (a x : B) (f : A → B) → given o a f ≡ x → ((o ≡ none) × (a ≡ x)) ⊎ ((v : A) × (o ≡ some v) × (f v ≡ x))
-given_ways (some v) a x f e = inr (v, refl, e)
-given_ways none a x f e = inl (refl, e)
+given_ways : {A B : Type 0} (o : Option A) (a x : B) (f : A → B) → given o a f ≡ x → ((o ≡ None) × (a ≡ x)) ⊎ ((v : A) × (o ≡ Some v) × (f v ≡ x))
+given_ways (Some v) a x f e = inr (v, refl, e)
+given_ways None a x f e = inl (refl, e)
 
 pub then_ways : {A B : Type 0} (s : Said A) (f : A → Said B) (n l x : ℕ) → and_then s f ≡ refuses n l x → (s ≡ refuses n l x) ⊎ ((v : A) × (s ≡ says v) × (f v ≡ refuses n l x))
 then_ways (says v) f n l x e = inr (v, refl, e)
@@ -54,11 +55,11 @@ whole k n l x u = rw (u.0, u.1, u.2)
 
 -- ---- the file
 
-pub met : (file : List ℕ) (f : Flight) → verdict seal.Usual file none ≡ says f → Meets seal.Usual file
-met file f e = ((accepted_as seal.Usual file none f).0 e).0
+pub met : (file : List ℕ) (f : Flight) → verdict seal.Usual file None ≡ says f → Meets seal.Usual file
+met file f e = ((accepted_as seal.Usual file None f).0 e).0
 
-pub meets_so : (file : List ℕ) (m : Meets seal.Usual file) → verdict seal.Usual file none ≡ says (flight_of m)
-meets_so file m = (accepted_as seal.Usual file none (flight_of m)).1 (m, tt, refl)
+pub meets_so : (file : List ℕ) (m : Meets seal.Usual file) → verdict seal.Usual file None ≡ says (flight_of m)
+meets_so file m = (accepted_as seal.Usual file None (flight_of m)).1 (m, tt, refl)
 
 -- ---- the number
 
@@ -67,15 +68,15 @@ module _ (b : List ℕ) (number : ℕ) where
   used_or_not = by (entry_of b number) refl
     where
       by : (o : Option ℕ) → entry_of b number ≡ o → InUse b number ⊎ (InUse b number → ⊥)
-      by (some k) e = let w = (entry_exactly b number k).0 e in inl (k, w.0, w.1)
-      by none e = inr ((no_entry_exactly b number).0 e)
+      by (Some k) e = let w = (entry_exactly b number k).0 e in inl (k, w.0, w.1)
+      by None e = inr ((no_entry_exactly b number).0 e)
 
-  used_first : InUse b number → (k : ℕ) × (entry_of b number ≡ some k)
+  used_first : InUse b number → (k : ℕ) × (entry_of b number ≡ Some k)
   used_first u = by (entry_of b number) refl
     where
-      by : (o : Option ℕ) → entry_of b number ≡ o → (k : ℕ) × (entry_of b number ≡ some k)
-      by (some k) e = (k, e)
-      by none e = absurd ((no_entry_exactly b number).0 e u)
+      by : (o : Option ℕ) → entry_of b number ≡ o → (k : ℕ) × (entry_of b number ≡ Some k)
+      by (Some k) e = (k, e)
+      by None e = absurd ((no_entry_exactly b number).0 e u)
 
   usable_new : New b number → usable b number ≡ true
   unfolding usable
@@ -117,7 +118,7 @@ module _ (b : List ℕ) (number : ℕ) (file : List ℕ) where
   named = need (usable b number) (refuses 28 0 0) λ _. entered
 
   abbrev checked : Said Spot
-  checked = and_then (verdict seal.Usual file none) λ _. named
+  checked = and_then (verdict seal.Usual file None) λ _. named
 
   abbrev asked : Said Spot
   asked = need (sound b) (refuses 27 0 0) λ _. checked
@@ -127,7 +128,7 @@ module _ (b : List ℕ) (number : ℕ) (file : List ℕ) where
   is_asked = refl
 
   -- the five refusals, one after the other
-  in_run : (n l x k : ℕ) → Both b file → New b number → entry_of b 0 ≡ some k → placed k ≡ refuses n l x → AddRefused b number file n l x
+  in_run : (n l x k : ℕ) → Both b file → New b number → entry_of b 0 ≡ Some k → placed k ≡ refuses n l x → AddRefused b number file n l x
   in_run n l x k w new e g = by_sum (given_ways (place_for b (length file)) (refuses 30 0 0) (refuses n l x) (spot k) g)
       (λ p.
       let f = (entry_exactly b 0 k).0 e in
@@ -145,8 +146,8 @@ module _ (b : List ℕ) (number : ℕ) (file : List ℕ) where
       (λ p. in_entries n l x w (usable_reads b number p.0) p.1)
 
   in_file : (n l x : ℕ) → IsShelf b → checked ≡ refuses n l x → AddRefused b number file n l x
-  in_file n l x s g = by_sum (then_ways (verdict seal.Usual file none) (λ _. named) n l x g)
-      (λ p. inr (inl (s, (refused_first seal.Usual file none n l x).0 p)))
+  in_file n l x s g = by_sum (then_ways (verdict seal.Usual file None) (λ _. named) n l x g)
+      (λ p. inr (inl (s, (refused_first seal.Usual file None n l x).0 p)))
       (λ p. in_id n l x (s, met file p.0 p.1) p.2)
 
   in_shelf : (n l x : ℕ) → asked ≡ refuses n l x → AddRefused b number file n l x
@@ -165,7 +166,7 @@ module _ (b : List ℕ) (number : ℕ) (file : List ℕ) where
 
   back : (n l x : ℕ) → AddRefused b number file n l x → asked ≡ refuses n l x
   back n l x (inl w) = rw ((breaks_exactly b).1 w.1) (whole 27 n l x w.0)
-  back n l x (inr (inl w)) = by_shelf w.0 ∙ rw ((refused_first seal.Usual file none n l x).1 w.1)
+  back n l x (inr (inl w)) = by_shelf w.0 ∙ rw ((refused_first seal.Usual file None n l x).1 w.1)
   back n l x (inr (inr (inl w))) = by_file w.1 ∙ rw (usable_not b number w.2) (whole 28 n l x w.0)
   back n l x (inr (inr (inr (inl w)))) = by_number w.1 w.2 ∙ rw ((no_entry_exactly b 0).1 w.3) (whole 29 n l x w.0)
   back n l x (inr (inr (inr (inr w)))) =
@@ -181,7 +182,7 @@ module _ (b : List ℕ) (number : ℕ) (file : List ℕ) where
       is_asked ∙ by_number w.both w.new
       ∙ rw ((entry_exactly b 0 k).1 w.entry, (place_exactly b (keeps_sound b w.both.0) (length file) w.both.1.least at).1 w.start)
 
-  to_run : (k at e : ℕ) → Both b file → New b number → entry_of b 0 ≡ some e → placed e ≡ spot k at → AddsAt b number file k at
+  to_run : (k at e : ℕ) → Both b file → New b number → entry_of b 0 ≡ Some e → placed e ≡ spot k at → AddsAt b number file k at
   to_run k at e w new f g = by_sum (given_ways (place_for b (length file)) (refuses 30 0 0) (spot k at) (spot e) g)
       (λ p. absurd (refuses_says p.1))
       (λ p.
@@ -208,7 +209,7 @@ module _ (b : List ℕ) (number : ℕ) (file : List ℕ) where
 
   to_file : (k at : ℕ) → IsShelf b → checked ≡ spot k at → AddsAt b number file k at
   to_file k at s g =
-      let p = then_inv (verdict seal.Usual file none) (record { entry = k; start = at }) (λ _. named) g in
+      let p = then_inv (verdict seal.Usual file None) (record { entry = k; start = at }) (λ _. named) g in
       to_id k at (s, met file p.0 p.1) p.2
 
   pub adds_at : (k at : ℕ) → add_said b number file ≡ says (record { entry = k; start = at }) → AddsAt b number file k at

@@ -1,17 +1,16 @@
 -- What is told from the calls since a shelf was empty: the bytes held are those added less those removed, and each body is the file last added under its number. Assumes nothing.
+use Rattle.rules.specs.declared.Refusal.{Refusal}
+use Rattle.std.specs.Prelude.{Err, None, Ok, Option, Result, Some, ⊤}
 use Prim.Native.Nat.{ℕ, ◌+◌, ◌-◌, ◌≤◌, ◌<◌}
 use mathlib.Core.Bool.{cond}
 use mathlib.Core.List.{List, ◌∷◌}
-use mathlib.Core.Option.{Option, none, some}
 use mathlib.Core.Path.{◌≡◌, refl, sym, ◌∙◌}
 use native.Mathlib.Omega.{arith}
 use borrow.Author.Tests.{eq-eqb, ne_eqb}
 use lib.Dec.{eqb}
 use lib.ListN.{length}
 use Rattle.rules.specs.Choice.{given}
-use Rattle.rules.specs.Refusals.{says, outcome_told}
-use Rattle.rules.specs.declared.Outcome.{Outcome}
-use Rattle.rules.specs.declared.Outcome.TheVariants as outcome
+use Rattle.rules.specs.Refusals.{says, result_told}
 use Rattle.rules.specs.declared.Seal.TheVariants as seal
 use Rattle.rules.proofs.Inverse.{then_inv}
 use Rattle.grammar.specs.Grammar.{Meets, lines_in, flight_of}
@@ -19,14 +18,13 @@ use Rattle.grammar.specs.Readings.{Readable}
 use Rattle.grammar.proofs.Demands.{accepted_as, readable}
 use Rattle.shelf_rules.specs.Contents.{number_of, size_of, start_of, body_of, held, Sound}
 use Rattle.shelf_rules.specs.Packing.{Packed}
-use Rattle.shelf_rules.specs.Shelf.{Spot, add_said, after_add, held_at, after_remove, ask_said}
+use Rattle.shelf_rules.specs.declared.Spot.{Spot}
+use Rattle.shelf_rules.specs.Shelf.{add_said, after_add, held_at, after_remove, ask_said}
 use Rattle.shelf_rules.proofs.Tests.{by_eq}
 use Rattle.shelf_rules.proofs.Bytes.{length_run}
 use Rattle.shelf_rules.proofs.Accepts.{adds as accepted, holds}
 use Rattle.shelf_pack.specs.Pack.{ShelfPacked}
-use Rattle.shelf_rules.specs.Calls.{added_told, FlightAdded, BodyGiven, FlightRemoved}
-use Rattle.shelf_rules.specs.declared.Added.{Added}
-use Rattle.shelf_rules.specs.declared.Added.TheVariants as added
+use Rattle.shelf_rules.specs.Calls.{FlightAdded, BodyGiven, FlightRemoved}
 use Rattle.claims_shelf.specs.Weekend.{IsShelf, HeldIn}
 use Rattle.claims_shelf.specs.Calls.{Call, adds, removes, packs, last_added, bytes_added, bytes_removed, Empty, Reached, empty, added_one, asked_one, removed_one, packed_all}
 use Rattle.claims_shelf.proofs.Answers.{met, held_says, pack_says}
@@ -41,7 +39,7 @@ use Rattle.claims_shelf.proofs.Words.{keeps_sound}
 
 pub record Books (last : ℕ → Option (List ℕ)) (more less : ℕ) (b : List ℕ) : Type 0 where
   pub shelf : IsShelf b
-  pub bodies : (n : ℕ) → n < 64 → (number_of b n ≡ 0 → ⊥) → (last (number_of b n) ≡ some (body_of b n)) × Meets seal.Usual (body_of b n)
+  pub bodies : (n : ℕ) → n < 64 → (number_of b n ≡ 0 → ⊥) → (last (number_of b n) ≡ Some (body_of b n)) × Meets seal.Usual (body_of b n)
   pub sum : held b + less ≡ more
 
 -- a body has as many bytes as its entry tells
@@ -49,7 +47,7 @@ body_long : (b : List ℕ) → Sound b → (n : ℕ) → n < 64 → (number_of b
 body_long b s n p u = length_run (start_of b n) (size_of b n) b (s.kept.inside n p u)
 
 -- where no flight is held, no byte is
-books_empty : (b : List ℕ) → Empty b → Books (λ x. none) 0 0 b
+books_empty : (b : List ℕ) → Empty b → Books (λ x. None) 0 0 b
 books_empty b w = record {
   shelf = w.0;
   bodies = λ n p u. absurd (u (w.1 n p));
@@ -60,7 +58,7 @@ books_empty b w = record {
 
 module _ (last : ℕ → Option (List ℕ)) (more less : ℕ) (b : List ℕ) (k : Books last more less b) where
   books_add : (number : ℕ) (file : List ℕ) (s : Spot) → number < 4294967296 → add_said b number file ≡ says s
-      → Books (λ x. cond (eqb number x) (some file) (last x)) (more + length file) less (after_add (says s) b number file)
+      → Books (λ x. cond (eqb number x) (Some file) (last x)) (more + length file) less (after_add (says s) b number file)
   unfolding after_add
   books_add number file s w e =
       let a = accepted b number file s e in
@@ -86,7 +84,7 @@ module _ (last : ℕ → Option (List ℕ)) (more less : ℕ) (b : List ℕ) (k 
       let h = holds b number n e in
       let ch = remove_changed b number n h in
       let u : number_of b n ≡ 0 → ⊥ = λ g. h.nonzero (sym h.is ∙ g) in
-      let y : last number ≡ some (body_of b n) = rw h.is at (k.bodies n h.entry u).0 in
+      let y : last number ≡ Some (body_of b n) = rw h.is at (k.bodies n h.entry u).0 in
       let l = body_long b h.sound_shelf n h.entry u in
       record {
         shelf = remove_keeps b number n h;
@@ -111,21 +109,21 @@ module _ (calls : List Call) (b : List ℕ) (k : Books (last_added calls) (bytes
   abbrev Kept : Call → List ℕ → Type 0
   Kept call after = Books (last_added (call ∷ calls)) (bytes_added (call ∷ calls)) (bytes_removed (call ∷ calls)) after
 
-  kept_add : (number : ℕ) (file : List ℕ) (r : Added) (after : List ℕ) → number < 4294967296 → FlightAdded b number file r after → Kept (adds number file r) after
-  unfolding added_told
-  kept_add number file (added.At at) after small w =
+  kept_add : (number : ℕ) (file : List ℕ) (r : Result ℕ Refusal) (after : List ℕ) → number < 4294967296 → FlightAdded b number file r after → Kept (adds number file r) after
+  unfolding result_told
+  kept_add number file (Ok at) after small w =
       let s = then_inv (add_said b number file) at (λ s. says s.start) (sym w.told) in
       rw (w.bytes, s.1) (books_add (last_added calls) (bytes_added calls) (bytes_removed calls) b k number file s.0 small s.1)
-  kept_add number file (added.Refused y) after small w = rw (add_refused_leaves b number file (added.Refused y) after w _ _ _ refl) k
+  kept_add number file (Err y) after small w = rw (add_refused_leaves b number file (Err y) after w _ _ _ refl) k
 
-  kept_remove : (number : ℕ) (r : Outcome) (after : List ℕ) → FlightRemoved b number r after → Kept (removes number r) after
-  unfolding outcome_told
-  kept_remove number outcome.Accepted after w =
+  kept_remove : (number : ℕ) (r : Result ⊤ Refusal) (after : List ℕ) → FlightRemoved b number r after → Kept (removes number r) after
+  unfolding result_told
+  kept_remove number (Ok tt) after w =
       let n = then_inv (held_at b number) tt (λ n. says tt) (sym w.told) in
       rw (w.bytes, n.1) (books_remove (last_added calls) (bytes_added calls) (bytes_removed calls) b k number n.0 n.1)
-  kept_remove number (outcome.Refused y) after w = rw (remove_refused_leaves b number (outcome.Refused y) after w _ _ _ refl) k
+  kept_remove number (Err y) after w = rw (remove_refused_leaves b number (Err y) after w _ _ _ refl) k
 
-  kept_pack : (r : Outcome) (after : List ℕ) → ShelfPacked b r after → Kept (packs r) after
+  kept_pack : (r : Result ⊤ Refusal) (after : List ℕ) → ShelfPacked b r after → Kept (packs r) after
   kept_pack r after w = books_pack (last_added calls) (bytes_added calls) (bytes_removed calls) b k after (w.bytes.packed ((pack_says b).1 k.shelf))
 
 pub books : {calls : List Call} {b : List ℕ} → Reached calls b → Books (last_added calls) (bytes_added calls) (bytes_removed calls) b
@@ -144,11 +142,11 @@ module _ (calls : List Call) (b : List ℕ) (k : Reached calls b) where
   pub calls_keep_rules : IsShelf b
   calls_keep_rules = (books k).shelf
 
-  pub body_is_file : (number n : ℕ) → HeldIn b number n → (p : List ℕ) → BodyGiven b number p → (last_added calls number ≡ some p) × Meets seal.Usual p
+  pub body_is_file : (number n : ℕ) → HeldIn b number n → (p : List ℕ) → BodyGiven b number p → (last_added calls number ≡ Some p) × Meets seal.Usual p
   unfolding ask_said
   body_is_file number n h p w = let y = (books k).bodies n h.2 (λ z. h.1 (sym h.3 ∙ z)) in rw (w, held_says b number n h) (rw h.3 at y)
 
 -- ---- what is read of a file that meets the grammar, with any table that has an entry for each of its lines
 
 pub readable_with : (body table : List ℕ) (m : Meets seal.Usual body) → length (lines_in m.parts) ≤ length table → Readable seal.Usual body table (flight_of m)
-readable_with body table m h = readable seal.Usual body table (flight_of m) ((accepted_as seal.Usual body (some (length table)) (flight_of m)).1 (m, h, refl))
+readable_with body table m h = readable seal.Usual body table (flight_of m) ((accepted_as seal.Usual body (Some (length table)) (flight_of m)).1 (m, h, refl))

@@ -1,9 +1,9 @@
 -- The bytes held by the bodies that start before a place: they only grow from place to place, and each of them is one of some body. Assumes nothing.
+use Rattle.std.specs.Prelude.{None, Option, Some}
 use Prim.Native.Nat.{ℕ, zero, suc, ◌+◌, ◌-◌, ◌≤◌, ◌<◌}
 use mathlib.Core.Bool.{cond}
 use mathlib.Core.List.{List}
 use mathlib.Core.Logic.{⊎_elim}
-use mathlib.Core.Option.{Option, none, some}
 use mathlib.Core.Path.{◌≡◌, refl, sym, ◌∙◌}
 use native.Mathlib.Omega.{arith}
 use borrow.Author.Tests.{lt-ltb, le-ltb, eqb-true, eqb-false}
@@ -66,10 +66,10 @@ module _ (b : List ℕ) (s : Sound b) where
   covered_next d j h again = by (least (λ m. eqb (start_of b m) (768 + d)) 0 64) refl
     where
       by : (o : Option ℕ) → least (λ m. eqb (start_of b m) (768 + d)) 0 64 ≡ o → (n : ℕ) × Covers b j n
-      by none e =
+      by None e =
           let f = before_there (768 + d) (omega arith) (λ m p. eqb-false (start_of b m) (768 + d) (least_none (λ m. eqb (start_of b m) (768 + d)) 0 64 e m (omega arith) p)) in
           again (omega arith)
-      by (some n) e =
+      by (Some n) e =
           let l = least_some (λ m. eqb (start_of b m) (768 + d)) 0 64 n e in
           let q = eqb-true (start_of b n) (768 + d) l.passes in
           let f : before b (768 + d + 1) ≡ before b (768 + d) + size_of b n = rw q at (before_here n l.high (omega arith)) in

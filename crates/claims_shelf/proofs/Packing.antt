@@ -1,4 +1,6 @@
 -- Three flights on a shelf, one of them removed, and the shelf packed: every byte worked out by hand. Computed. Assumes nothing.
+use Rattle.rules.specs.declared.Refusal.{Refusal}
+use Rattle.std.specs.Prelude.{Result, ⊤}
 use Prim.Native.Nat.{ℕ, ◌*◌, ◌<◌}
 use mathlib.Core.Bool.{Bool, true, false, ◌||◌}
 use mathlib.Core.List.{List, [], ◌∷◌, ◌++◌}
@@ -8,8 +10,7 @@ use native.Mathlib.Omega.{arith}
 use borrow.Author.Tests.{ne_eqb, eqb-true}
 use lib.Dec.{eqb, leb}
 use lib.ListN.{length, replicate}
-use Rattle.rules.specs.Refusals.{says, outcome_told}
-use Rattle.rules.specs.declared.Outcome.{Outcome}
+use Rattle.rules.specs.Refusals.{says, result_told}
 use Rattle.shelf_rules.specs.Calls.{FlightRemoved}
 use Rattle.shelf_rules.specs.Contents.{word, word_bytes, one_kept, two_kept, slot_sound, sound, number_of}
 use Rattle.shelf_rules.specs.Moves.{moved_to}
@@ -44,7 +45,7 @@ packed = told 7 0 3 ++ (zeros 12 ++ (told 9 3 2 ++ (zeros 732 ++ (71 ∷ 72 ∷ 
 
 -- ---- removed
 
-pub removed : (r : Outcome) (after : List ℕ) → FlightRemoved three 8 r after → (outcome_told r ≡ says tt) × (after ≡ without)
+pub removed : (r : Result ⊤ Refusal) (after : List ℕ) → FlightRemoved three 8 r after → (result_told r ≡ says tt) × (after ≡ without)
 unfolding word one_kept two_kept slot_sound sound every least entry_of held_at after_remove
 removed r after w = (w.told, w.bytes)
 
@@ -73,6 +74,6 @@ is_packed = record {
       moved_only (moved_to without 0 768) 2 771 i y.0 y.1 ∙ moved_only without 0 768 i x.0 x.1;
 }
 
-pub packs : (r : Outcome) (after : List ℕ) → ShelfPacked without r after → (outcome_told r ≡ says tt) × (after ≡ packed)
+pub packs : (r : Result ⊤ Refusal) (after : List ℕ) → ShelfPacked without r after → (result_told r ≡ says tt) × (after ≡ packed)
 unfolding word one_kept two_kept slot_sound sound every
 packs r after w = (w.told, only_packed without after packed (w.bytes.packed refl) is_packed)

@@ -1,15 +1,15 @@
 -- What each promise says in the words of a shelf. Assumes nothing.
+use Rattle.rules.specs.declared.Refusal.{Refusal}
+use Rattle.std.specs.Prelude.{None, Result, ⊤}
 use Prim.Native.Nat.{ℕ, ◌+◌, ◌≤◌, ◌<◌}
 use mathlib.Core.List.{List, []}
 use mathlib.Core.Logic.{◌⊎◌, inl, inr, ◌↔◌}
-use mathlib.Core.Option.{none}
 use mathlib.Core.Path.{◌≡◌, refl, sym, ap, subst, ◌∙◌}
 use native.Mathlib.Omega.{arith}
 use lib.Dec.{eqb}
 use lib.ListN.{length, get_or, drop}
 use lib.Seq.{get_or-take, get_or-drop}
-use Rattle.rules.specs.Refusals.{Said, says, refuses, and_then, outcome, outcome_told}
-use Rattle.rules.specs.declared.Outcome.{Outcome}
+use Rattle.rules.specs.Refusals.{Said, says, refuses, and_then, outcome, result_told}
 use Rattle.rules.specs.declared.Seal.TheVariants as seal
 use Rattle.rules.proofs.Inverse.{refuses_says, false_true, then_inv}
 use Rattle.grammar.proofs.Demands.{refused_first}
@@ -21,9 +21,8 @@ use Rattle.shelf_rules.specs.declared.Slot.{Slot}
 use Rattle.shelf_rules.proofs.Bytes.{length_run}
 use Rattle.shelf_rules.proofs.Accepts.{Holds, Adds, adds, holds}
 use Rattle.shelf_pack.specs.Pack.{ShelfPacked}
-use Rattle.shelf_rules.specs.Calls.{added_told, Extent, extent_of, asked_told, FlightAdded, FlightAsked, BodyGiven, FlightRemoved}
-use Rattle.shelf_rules.specs.declared.Added.{Added}
-use Rattle.shelf_rules.specs.declared.Asked.{Asked}
+use Rattle.shelf_rules.specs.declared.Extent.{Extent}
+use Rattle.shelf_rules.specs.Calls.{extent_of, FlightAdded, FlightAsked, BodyGiven, FlightRemoved}
 use Rattle.claims_shelf.specs.Weekend.{IsShelf, FreeRun, Broken, AddRefused, NotFound, AddsAt, Puts, HeldIn, Zeroes, Packs, AskedAsBefore, FoundAsBefore, AskedAs, AskedInVain}
 use Rattle.claims_shelf.proofs.Answers.{by_sum, then_ways, add_refuses, add_said_lem, adds_at, held_refuses, held_says, held_in, then_held, pack_refuses, pack_says}
 use Rattle.claims_shelf.proofs.After.{Same, add_keeps, add_puts, add_asked, add_same, remove_keeps, remove_zeroes, remove_asked, remove_same}
@@ -51,31 +50,31 @@ module _ (b c : List ℕ) (x : ℕ) where
 
 -- ---- adding
 
-module _ (b : List ℕ) (number : ℕ) (file : List ℕ) (r : Added) (after : List ℕ) (w : FlightAdded b number file r after) where
-  refused_so : (n l x : ℕ) → added_told r ≡ refuses n l x → add_said b number file ≡ refuses n l x
+module _ (b : List ℕ) (number : ℕ) (file : List ℕ) (r : Result ℕ Refusal) (after : List ℕ) (w : FlightAdded b number file r after) where
+  refused_so : (n l x : ℕ) → result_told r ≡ refuses n l x → add_said b number file ≡ refuses n l x
   refused_so n l x h = by_sum (then_ways (add_said b number file) (λ s. says s.start) n l x (sym w.told ∙ h)) (λ p. p) (λ p. absurd (refuses_says (sym p.2)))
 
-  pub add_refused_first : (n l x : ℕ) → (added_told r ≡ refuses n l x) ↔ AddRefused b number file n l x
+  pub add_refused_first : (n l x : ℕ) → (result_told r ≡ refuses n l x) ↔ AddRefused b number file n l x
   add_refused_first n l x = (
     (λ h. (add_refuses b number file n l x).0 (refused_so n l x h)),
     (λ v. w.told ∙ rw ((add_refuses b number file n l x).1 v)),
   )
 
-  pub add_refused_leaves : (n l x : ℕ) → added_told r ≡ refuses n l x → after ≡ b
+  pub add_refused_leaves : (n l x : ℕ) → result_told r ≡ refuses n l x → after ≡ b
   unfolding after_add
   add_refused_leaves n l x h = w.bytes ∙ rw (refused_so n l x h)
 
-  pub add_never_full : (n l x : ℕ) → added_told r ≡ refuses n l x → n ≡ 15 → ⊥
+  pub add_never_full : (n l x : ℕ) → result_told r ≡ refuses n l x → n ≡ 15 → ⊥
   add_never_full n l x h z = by ((add_refused_first n l x).0 h)
     where
       by : AddRefused b number file n l x → ⊥
       by (inl v) = omega (arith, v.0.0)
-      by (inr (inl v)) = false_true (sym (check_never_full seal.Usual file n l x ((refused_first seal.Usual file none n l x).1 v.1)) ∙ ap (λ (k : ℕ). eqb k 15) z)
+      by (inr (inl v)) = false_true (sym (check_never_full seal.Usual file n l x ((refused_first seal.Usual file None n l x).1 v.1)) ∙ ap (λ (k : ℕ). eqb k 15) z)
       by (inr (inr (inl v))) = omega (arith, v.0.0)
       by (inr (inr (inr (inl v)))) = omega (arith, v.0.0)
       by (inr (inr (inr (inr v)))) = omega (arith, v.0.0)
 
-  pub add_takes : (at : ℕ) → (added_told r ≡ says at) ↔ ((k : ℕ) × AddsAt b number file k at)
+  pub add_takes : (at : ℕ) → (result_told r ≡ says at) ↔ ((k : ℕ) × AddsAt b number file k at)
   add_takes at = (
     (λ h.
         let s = then_inv (add_said b number file) at (λ s. says s.start) (sym w.told ∙ h) in
@@ -113,30 +112,30 @@ module _ (b : List ℕ) (number : ℕ) (file : List ℕ) (r : Added) (after : Li
       others x d = rw (w.bytes, spot) (add_same b file number k at accepted v.both.1.least small x d)
 
     pub add_keeps_rules : IsShelf b → IsShelf after
-    add_keeps_rules s = by (added_told r) refl
+    add_keeps_rules s = by (result_told r) refl
       where
-        by : (v : Said ℕ) → added_told r ≡ v → IsShelf after
+        by : (v : Said ℕ) → result_told r ≡ v → IsShelf after
         by (says at) h = let v = (add_takes at).0 h in stays v.0 at v.1
         by (refuses n l x) h = rw (add_refused_leaves n l x h) s
 
     pub others_after_add : (x : ℕ) → (x ≡ number → ⊥) → AskedAsBefore b after x
-    others_after_add x d = by (added_told r) refl
+    others_after_add x d = by (result_told r) refl
       where
-        by : (v : Said ℕ) → added_told r ≡ v → AskedAsBefore b after x
+        by : (v : Said ℕ) → result_told r ≡ v → AskedAsBefore b after x
         by (says at) h = let v = (add_takes at).0 h in as_before b after x (others v.0 at v.1 x d)
         by (refuses n l y) h = rw (add_refused_leaves n l y h) (as_before b b x (refl, refl))
 
 -- ---- asking
 
-module _ (b : List ℕ) (number : ℕ) (r : Asked) (w : FlightAsked b number r) where
-  pub ask_refused_first : (n l x : ℕ) → (asked_told r ≡ refuses n l x) ↔ (Broken b n l x ⊎ NotFound b number n l x)
+module _ (b : List ℕ) (number : ℕ) (r : Result Extent Refusal) (w : FlightAsked b number r) where
+  pub ask_refused_first : (n l x : ℕ) → (result_told r ≡ refuses n l x) ↔ (Broken b n l x ⊎ NotFound b number n l x)
   unfolding ask_said
   ask_refused_first n l x = (
     (λ h. by_sum (then_ways (ask_said b number) (λ s. says (extent_of s)) n l x (sym w ∙ h)) (λ p. (then_held b number (slot_of b) n l x).0 p) (λ p. absurd (refuses_says (sym p.2)))),
     (λ v. w ∙ ap extent ((then_held b number (slot_of b) n l x).1 v)),
   )
 
-  pub ask_finds : (start size : ℕ) → (asked_told r ≡ says (record { start = start; size = size })) ↔ ((n : ℕ) × HeldIn b number n × (start_of b n ≡ start) × (size_of b n ≡ size))
+  pub ask_finds : (start size : ℕ) → (result_told r ≡ says (record { start = start; size = size })) ↔ ((n : ℕ) × HeldIn b number n × (start_of b n ≡ start) × (size_of b n ≡ size))
   unfolding ask_said
   ask_finds start size = (
     (λ h.
@@ -166,18 +165,18 @@ module _ (b : List ℕ) (number : ℕ) (p : List ℕ) (w : BodyGiven b number p)
 
 -- ---- removing
 
-module _ (b : List ℕ) (number : ℕ) (r : Outcome) (after : List ℕ) (w : FlightRemoved b number r after) where
-  pub remove_refused_first : (n l x : ℕ) → (outcome_told r ≡ refuses n l x) ↔ (Broken b n l x ⊎ NotFound b number n l x)
+module _ (b : List ℕ) (number : ℕ) (r : Result ⊤ Refusal) (after : List ℕ) (w : FlightRemoved b number r after) where
+  pub remove_refused_first : (n l x : ℕ) → (result_told r ≡ refuses n l x) ↔ (Broken b n l x ⊎ NotFound b number n l x)
   remove_refused_first n l x = (
     (λ h. (then_held b number (λ m. tt) n l x).0 (sym w.told ∙ h)),
     (λ v. w.told ∙ (then_held b number (λ m. tt) n l x).1 v),
   )
 
-  pub remove_refused_leaves : (n l x : ℕ) → outcome_told r ≡ refuses n l x → after ≡ b
+  pub remove_refused_leaves : (n l x : ℕ) → result_told r ≡ refuses n l x → after ≡ b
   unfolding after_remove
   remove_refused_leaves n l x h = w.bytes ∙ rw ((held_refuses b number n l x).1 ((remove_refused_first n l x).0 h))
 
-  pub remove_finds : (outcome_told r ≡ says tt) ↔ ((n : ℕ) × HeldIn b number n)
+  pub remove_finds : (result_told r ≡ says tt) ↔ ((n : ℕ) × HeldIn b number n)
   remove_finds = (
     (λ h. let v = then_inv (held_at b number) tt (λ n. says tt) (sym w.told ∙ h) in (v.0, held_in b number v.0 v.1)),
     (λ v. w.told ∙ rw (held_says b number v.0 v.1)),
@@ -204,29 +203,29 @@ module _ (b : List ℕ) (number : ℕ) (r : Outcome) (after : List ℕ) (w : Fli
     gone_others x d = rw (w.bytes, held_says b number n v) (remove_same b number n found x d)
 
   pub remove_keeps_rules : IsShelf b → IsShelf after
-  remove_keeps_rules s = by (outcome_told r) refl
+  remove_keeps_rules s = by (result_told r) refl
     where
-      by : (v : Said (Unit {0})) → outcome_told r ≡ v → IsShelf after
+      by : (v : Said (Unit {0})) → result_told r ≡ v → IsShelf after
       by (says u) h = let v = remove_finds.0 h in gone_stays v.0 v.1
       by (refuses n l x) h = rw (remove_refused_leaves n l x h) s
 
   pub others_after_remove : (x : ℕ) → (x ≡ number → ⊥) → AskedAsBefore b after x
-  others_after_remove x d = by (outcome_told r) refl
+  others_after_remove x d = by (result_told r) refl
     where
-      by : (v : Said (Unit {0})) → outcome_told r ≡ v → AskedAsBefore b after x
+      by : (v : Said (Unit {0})) → result_told r ≡ v → AskedAsBefore b after x
       by (says u) h = let v = remove_finds.0 h in as_before b after x (gone_others v.0 v.1 x d)
       by (refuses n l y) h = rw (remove_refused_leaves n l y h) (as_before b b x (refl, refl))
 
 -- ---- packing
 
-module _ (b : List ℕ) (r : Outcome) (after : List ℕ) (w : ShelfPacked b r after) where
-  pub pack_refused_first : (n l x : ℕ) → (outcome_told r ≡ refuses n l x) ↔ Broken b n l x
+module _ (b : List ℕ) (r : Result ⊤ Refusal) (after : List ℕ) (w : ShelfPacked b r after) where
+  pub pack_refused_first : (n l x : ℕ) → (result_told r ≡ refuses n l x) ↔ Broken b n l x
   pack_refused_first n l x = ((λ h. (pack_refuses b n l x).0 (sym w.told ∙ h)), (λ v. w.told ∙ (pack_refuses b n l x).1 v))
 
-  pub pack_refused_leaves : (n l x : ℕ) → outcome_told r ≡ refuses n l x → after ≡ b
+  pub pack_refused_leaves : (n l x : ℕ) → result_told r ≡ refuses n l x → after ≡ b
   pack_refused_leaves n l x h = w.bytes.refused (λ s. refuses_says (sym h ∙ w.told ∙ s))
 
-  pub pack_does : (outcome_told r ≡ says tt) ↔ IsShelf b
+  pub pack_does : (result_told r ≡ says tt) ↔ IsShelf b
   pack_does = ((λ h. (pack_says b).0 (sym w.told ∙ h)), (λ s. w.told ∙ (pack_says b).1 s))
 
   module _ (s : IsShelf b) where
@@ -243,8 +242,8 @@ module _ (b : List ℕ) (r : Outcome) (after : List ℕ) (w : ShelfPacked b r af
     packed_free_run = pack_free_run b after (keeps_sound b s) done
 
   pub all_after_pack : (x : ℕ) → FoundAsBefore b after x
-  all_after_pack x = by (outcome_told r) refl
+  all_after_pack x = by (result_told r) refl
     where
-      by : (v : Said (Unit {0})) → outcome_told r ≡ v → FoundAsBefore b after x
+      by : (v : Said (Unit {0})) → result_told r ≡ v → FoundAsBefore b after x
       by (says u) h = found_before b after x (pack_asked b after (keeps_sound b (pack_does.0 h)) (done (pack_does.0 h)) x)
       by (refuses n l y) h = rw (pack_refused_leaves n l y h) (found_before b b x (refl, refl))

@@ -3,24 +3,23 @@
 -- The claims are about every answer, and every buffer afterwards, that the contracts of the calls allow: `shelf::add` (promise FlightAdded), `shelf::ask` (FlightAsked), `shelf::body`
 -- (BodyGiven), `shelf::remove` (FlightRemoved) and `shelf_pack::pack` (ShelfPacked). By the laws `only_..` of crates shelf and shelf_pack that is one each. A refusal is told by its number, line
 -- and byte; the file's own are the grammar's (grammar: `refused_first`, `accepted_exactly`). A flight number is a u32.
+use Rattle.shelf_rules.specs.declared.Extent.{Extent}
+use Rattle.rules.specs.declared.Refusal.{Refusal}
+use Rattle.std.specs.Prelude.{Result, Some, ⊤}
 use Prim.Native.Nat.{ℕ, ◌+◌, ◌-◌, ◌≤◌, ◌<◌}
 use mathlib.Core.Bool.{true}
 use mathlib.Core.List.{List, [], ◌∷◌}
 use mathlib.Core.Logic.{◌⊎◌, ◌↔◌}
-use mathlib.Core.Option.{some}
 use mathlib.Core.Path.{◌≡◌, refl}
 use lib.ListN.{length, get_or}
-use Rattle.rules.specs.Refusals.{says, refuses, outcome_told}
-use Rattle.rules.specs.declared.Outcome.{Outcome}
+use Rattle.rules.specs.Refusals.{says, refuses, result_told}
 use Rattle.rules.specs.declared.Seal.TheVariants as seal
 use Rattle.rules.proofs.Damaged.{five_lines}
 use Rattle.grammar.specs.Grammar.{Meets, lines_in, flight_of}
 use Rattle.grammar.specs.Readings.{Readable}
 use Rattle.shelf_rules.specs.Contents.{word, word_bytes, start_of, size_of, held, sound}
 use Rattle.shelf_pack.specs.Pack.{ShelfPacked}
-use Rattle.shelf_rules.specs.Calls.{added_told, asked_told, FlightAdded, FlightAsked, BodyGiven, FlightRemoved}
-use Rattle.shelf_rules.specs.declared.Added.{Added}
-use Rattle.shelf_rules.specs.declared.Asked.{Asked}
+use Rattle.shelf_rules.specs.Calls.{FlightAdded, FlightAsked, BodyGiven, FlightRemoved}
 use Rattle.claims_shelf.specs.Weekend.{IsShelf, SameContents, FreeRun, Broken, AddRefused, NotFound, AddsAt, Puts, HeldIn, Zeroes, Packs, AskedAsBefore, FoundAsBefore, AskedAs, AskedInVain}
 use Rattle.claims_shelf.specs.Calls.{Call, last_added, bytes_added, bytes_removed, Empty, Reached}
 use Rattle.claims_shelf.proofs.Books as books
@@ -36,22 +35,22 @@ rules_exactly = words.keeps_exactly
 
 -- ---- adding
 
-module _ (b : List ℕ) (number : ℕ) (file : List ℕ) (r : Added) (after : List ℕ) (w : FlightAdded b number file r after) where
+module _ (b : List ℕ) (number : ℕ) (file : List ℕ) (r : Result ℕ Refusal) (after : List ℕ) (w : FlightAdded b number file r after) where
   -- "Refusals: 27 SHELF if the buffer breaks these rules, then the file's own, then 28 ID for number 0 or one in use, 29 ENTRIES when none is free, 30 NO_RUN exactly when no free run
   -- is long enough"
-  pub add_refused_first : (n l x : ℕ) → (added_told r ≡ refuses n l x) ↔ AddRefused b number file n l x
+  pub add_refused_first : (n l x : ℕ) → (result_told r ≡ refuses n l x) ↔ AddRefused b number file n l x
   add_refused_first = promised.add_refused_first b number file r after w
 
   -- "takes the first free entry and puts the body at the smallest start where it fits between the others": the answer is that start
-  pub add_takes : (at : ℕ) → (added_told r ≡ says at) ↔ ((k : ℕ) × AddsAt b number file k at)
+  pub add_takes : (at : ℕ) → (result_told r ≡ says at) ↔ ((k : ℕ) × AddsAt b number file k at)
   add_takes = promised.add_takes b number file r after w
 
   -- "the shelf is changed by none of them"
-  pub add_refused_leaves : (n l x : ℕ) → added_told r ≡ refuses n l x → after ≡ b
+  pub add_refused_leaves : (n l x : ℕ) → result_told r ≡ refuses n l x → after ≡ b
   add_refused_leaves = promised.add_refused_leaves b number file r after w
 
   -- "No table is lent here or in CR .. 12, so 15 isn't met there."
-  pub add_never_full : (n l x : ℕ) → added_told r ≡ refuses n l x → n ≡ 15 → ⊥
+  pub add_never_full : (n l x : ℕ) → result_told r ≡ refuses n l x → n ≡ 15 → ⊥
   add_never_full = promised.add_never_full b number file r after w
 
   module _ (small : number < 4294967296) where
@@ -73,13 +72,13 @@ module _ (b : List ℕ) (number : ℕ) (file : List ℕ) (r : Added) (after : Li
 
 -- ---- asking
 
-module _ (b : List ℕ) (number : ℕ) (r : Asked) (w : FlightAsked b number r) where
+module _ (b : List ℕ) (number : ℕ) (r : Result Extent Refusal) (w : FlightAsked b number r) where
   -- "27 SHELF if the buffer breaks these rules", "31 NOT_FOUND for asking for .. 0 or a number not held"
-  pub ask_refused_first : (n l x : ℕ) → (asked_told r ≡ refuses n l x) ↔ (Broken b n l x ⊎ NotFound b number n l x)
+  pub ask_refused_first : (n l x : ℕ) → (result_told r ≡ refuses n l x) ↔ (Broken b n l x ⊎ NotFound b number n l x)
   ask_refused_first = promised.ask_refused_first b number r w
 
   -- the answer is the start and the length that the flight's entry tells
-  pub ask_finds : (start size : ℕ) → (asked_told r ≡ says (record { start = start; size = size })) ↔ ((n : ℕ) × HeldIn b number n × (start_of b n ≡ start) × (size_of b n ≡ size))
+  pub ask_finds : (start size : ℕ) → (result_told r ≡ says (record { start = start; size = size })) ↔ ((n : ℕ) × HeldIn b number n × (start_of b n ≡ start) × (size_of b n ≡ size))
   ask_finds = promised.ask_finds b number r w
 
 -- "Asking for a number hands out its body as a part of the buffer"; where asking is refused, no byte
@@ -92,16 +91,16 @@ module _ (b : List ℕ) (number : ℕ) (body : List ℕ) (w : BodyGiven b number
 
 -- ---- removing
 
-module _ (b : List ℕ) (number : ℕ) (r : Outcome) (after : List ℕ) (w : FlightRemoved b number r after) where
+module _ (b : List ℕ) (number : ℕ) (r : Result ⊤ Refusal) (after : List ℕ) (w : FlightRemoved b number r after) where
   -- "27 SHELF if the buffer breaks these rules", "31 NOT_FOUND for .. removing 0 or a number not held"
-  pub remove_refused_first : (n l x : ℕ) → (outcome_told r ≡ refuses n l x) ↔ (Broken b n l x ⊎ NotFound b number n l x)
+  pub remove_refused_first : (n l x : ℕ) → (result_told r ≡ refuses n l x) ↔ (Broken b n l x ⊎ NotFound b number n l x)
   remove_refused_first = promised.remove_refused_first b number r after w
 
-  pub remove_finds : (outcome_told r ≡ says tt) ↔ ((n : ℕ) × HeldIn b number n)
+  pub remove_finds : (result_told r ≡ says tt) ↔ ((n : ℕ) × HeldIn b number n)
   remove_finds = promised.remove_finds b number r after w
 
   -- "the shelf is changed by none of them"
-  pub remove_refused_leaves : (n l x : ℕ) → outcome_told r ≡ refuses n l x → after ≡ b
+  pub remove_refused_leaves : (n l x : ℕ) → result_told r ≡ refuses n l x → after ≡ b
   remove_refused_leaves = promised.remove_refused_leaves b number r after w
 
   -- "removing zeroes its entry"; "removing only the entry"
@@ -122,13 +121,13 @@ module _ (b : List ℕ) (number : ℕ) (r : Outcome) (after : List ℕ) (w : Fli
 
 -- ---- packing
 
-module _ (b : List ℕ) (r : Outcome) (after : List ℕ) (w : ShelfPacked b r after) where
+module _ (b : List ℕ) (r : Result ⊤ Refusal) (after : List ℕ) (w : ShelfPacked b r after) where
   -- "27 SHELF if the buffer breaks these rules"
-  pub pack_refused_first : (n l x : ℕ) → (outcome_told r ≡ refuses n l x) ↔ Broken b n l x
+  pub pack_refused_first : (n l x : ℕ) → (result_told r ≡ refuses n l x) ↔ Broken b n l x
   pack_refused_first = promised.pack_refused_first b r after w
 
   -- "the shelf is changed by none of them"
-  pub pack_refused_leaves : (n l x : ℕ) → outcome_told r ≡ refuses n l x → after ≡ b
+  pub pack_refused_leaves : (n l x : ℕ) → result_told r ≡ refuses n l x → after ≡ b
   pack_refused_leaves = promised.pack_refused_leaves b r after w
 
   -- "each flight's bytes stay the same": every flight number is found, or refused, as before, with the same bytes
@@ -160,7 +159,7 @@ module _ (calls : List Call) (b : List ℕ) (k : Reached calls b) where
   calls_keep_rules = books.calls_keep_rules calls b k
 
   -- a body that is handed out is the very file last added under its number, and meets the grammar of the usual check
-  pub body_is_file : (number n : ℕ) → HeldIn b number n → (body : List ℕ) → BodyGiven b number body → (last_added calls number ≡ some body) × Meets seal.Usual body
+  pub body_is_file : (number n : ℕ) → HeldIn b number n → (body : List ℕ) → BodyGiven b number body → (last_added calls number ≡ Some body) × Meets seal.Usual body
   body_is_file = books.body_is_file calls b k
 
   -- "Demands 2 and 3 speak of each body alone": all that can be read of a file can be read of a body, with any table that has an entry for each of its lines (grammar: `readable`). Demand 3
@@ -172,26 +171,26 @@ module _ (calls : List Call) (b : List ℕ) (k : Reached calls b) where
 -- ---- "what a body says isn't looked at again": two buffers of one length with one table of contents get the same answers, and have one table of contents afterwards, whatever their bodies are
 
 module _ (b c : List ℕ) (s : SameContents b c) where
-  pub add_unread : (number : ℕ) (file : List ℕ) (r r' : Added) (after after' : List ℕ) → FlightAdded b number file r after → FlightAdded c number file r' after' → added_told r ≡ added_told r'
+  pub add_unread : (number : ℕ) (file : List ℕ) (r r' : Result ℕ Refusal) (after after' : List ℕ) → FlightAdded b number file r after → FlightAdded c number file r' after' → result_told r ≡ result_told r'
   add_unread = unread.add_unread b c s
 
-  pub ask_unread : (number : ℕ) (r r' : Asked) → FlightAsked b number r → FlightAsked c number r' → asked_told r ≡ asked_told r'
+  pub ask_unread : (number : ℕ) (r r' : Result Extent Refusal) → FlightAsked b number r → FlightAsked c number r' → result_told r ≡ result_told r'
   ask_unread = unread.ask_unread b c s
 
-  pub remove_unread : (number : ℕ) (r r' : Outcome) (after after' : List ℕ) → FlightRemoved b number r after → FlightRemoved c number r' after' → outcome_told r ≡ outcome_told r'
+  pub remove_unread : (number : ℕ) (r r' : Result ⊤ Refusal) (after after' : List ℕ) → FlightRemoved b number r after → FlightRemoved c number r' after' → result_told r ≡ result_told r'
   remove_unread = unread.remove_unread b c s
 
-  pub pack_unread : (r r' : Outcome) (after after' : List ℕ) → ShelfPacked b r after → ShelfPacked c r' after' → outcome_told r ≡ outcome_told r'
+  pub pack_unread : (r r' : Result ⊤ Refusal) (after after' : List ℕ) → ShelfPacked b r after → ShelfPacked c r' after' → result_told r ≡ result_told r'
   pack_unread = unread.pack_unread b c s
 
   -- and the table of contents afterwards is one again, so that the same holds of each later call
-  pub add_unread_after : (number : ℕ) (file : List ℕ) (r r' : Added) (after after' : List ℕ) → FlightAdded b number file r after → FlightAdded c number file r' after' → SameContents after after'
+  pub add_unread_after : (number : ℕ) (file : List ℕ) (r r' : Result ℕ Refusal) (after after' : List ℕ) → FlightAdded b number file r after → FlightAdded c number file r' after' → SameContents after after'
   add_unread_after = unread.add_unread_after b c s
 
-  pub remove_unread_after : (number : ℕ) (r r' : Outcome) (after after' : List ℕ) → FlightRemoved b number r after → FlightRemoved c number r' after' → SameContents after after'
+  pub remove_unread_after : (number : ℕ) (r r' : Result ⊤ Refusal) (after after' : List ℕ) → FlightRemoved b number r after → FlightRemoved c number r' after' → SameContents after after'
   remove_unread_after = unread.remove_unread_after b c s
 
-  pub pack_unread_after : (r r' : Outcome) (after after' : List ℕ) → ShelfPacked b r after → ShelfPacked c r' after' → SameContents after after'
+  pub pack_unread_after : (r r' : Result ⊤ Refusal) (after after' : List ℕ) → ShelfPacked b r after → ShelfPacked c r' after' → SameContents after after'
   pack_unread_after = unread.pack_unread_after b c s
 
   -- the body that is handed out stands at one place in both (`ask_unread`, `body_is_part`), and has as many bytes
@@ -217,10 +216,10 @@ pub five_lines_held : held (worked.three five_lines) ≡ 178
 five_lines_held = worked.five_held
 
 -- three flights of which the first body is removed: its entry alone; then packed, every byte told
-pub three_without_one : (r : Outcome) (after : List ℕ) → FlightRemoved packing.three 8 r after → (outcome_told r ≡ says tt) × (after ≡ packing.without)
+pub three_without_one : (r : Result ⊤ Refusal) (after : List ℕ) → FlightRemoved packing.three 8 r after → (result_told r ≡ says tt) × (after ≡ packing.without)
 three_without_one = packing.removed
 
-pub two_packed : (r : Outcome) (after : List ℕ) → ShelfPacked packing.without r after → (outcome_told r ≡ says tt) × (after ≡ packing.packed)
+pub two_packed : (r : Result ⊤ Refusal) (after : List ℕ) → ShelfPacked packing.without r after → (result_told r ≡ says tt) × (after ≡ packing.packed)
 two_packed = packing.packs
 
 -- no shelf: two bodies that overlap by one byte; a free entry with a byte that is not 0

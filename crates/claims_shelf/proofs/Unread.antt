@@ -1,4 +1,7 @@
 -- "what a body says isn't looked at again": what each call says, and the table of contents afterwards, follow from the buffer's length and its table of contents. Assumes nothing.
+use Rattle.shelf_rules.specs.declared.Extent.{Extent}
+use Rattle.rules.specs.declared.Refusal.{Refusal}
+use Rattle.std.specs.Prelude.{Result, ⊤}
 use Prim.Native.Nat.{ℕ, zero, suc, ◌+◌, ◌*◌, ◌-◌, ◌/◌, ◌≤◌, ◌<◌}
 use native.Mathlib.Omega.{arith}
 use mathlib.Core.Bool.{Bool, true, not, cond, ◌&&◌}
@@ -8,23 +11,21 @@ use mathlib.Core.Path.{◌≡◌, refl, sym, ◌∙◌, ap, ap₂}
 use lib.Dec.{eqb, leb, ltb}
 use lib.ListN.{length, get_or, take, drop, replicate, length-take, length-drop}
 use lib.Seq.{sets, length-sets, get_or-take, get_or-drop}
-use Rattle.rules.specs.Refusals.{Said, says, refuses, no, and_then, outcome_told}
-use Rattle.rules.specs.declared.Outcome.{Outcome}
+use Rattle.rules.specs.Refusals.{Said, says, refuses, no, and_then, result_told}
 use Rattle.rules.specs.declared.Reason.TheVariants as reason
 use Rattle.rules.proofs.Inverse.{by_bool, refuses_says}
 use Rattle.shelf_rules.specs.Ranges.{least, every}
 use Rattle.shelf_rules.specs.Contents.{word, word_bytes, slot_bytes, number_of, start_of, size_of, end_of, slot_of, one_kept, clear, two_kept, pair_kept, slot_sound, sound}
 use Rattle.shelf_rules.specs.Packing.{pack_said, before, packed_start, Outside, Packed}
-use Rattle.shelf_rules.specs.Shelf.{entry_of, clear_of, fits, place_for, usable, Spot, spot_for, add_said, after_add, held_at, ask_said, part_of, remove_said, after_remove}
+use Rattle.shelf_rules.specs.declared.Spot.{Spot}
+use Rattle.shelf_rules.specs.Shelf.{entry_of, clear_of, fits, place_for, usable, spot_for, add_said, after_add, held_at, ask_said, part_of, remove_said, after_remove}
 use Rattle.shelf_rules.specs.declared.Slot.{Slot}
 use Rattle.shelf_rules.proofs.Accepts.{holds, adds}
 use Rattle.shelf_rules.proofs.Bytes.{get_d_sets_out, get_d_sets_in, word_same, slot_length}
 use Rattle.shelf_rules.proofs.Ranges.{total_same}
 use Rattle.shelf_rules.proofs.Tests.{by_le, by_eq}
 use Rattle.shelf_pack.specs.Pack.{ShelfPacked}
-use Rattle.shelf_rules.specs.Calls.{added_told, extent_of, asked_told, FlightAdded, FlightAsked, BodyGiven, FlightRemoved}
-use Rattle.shelf_rules.specs.declared.Added.{Added}
-use Rattle.shelf_rules.specs.declared.Asked.{Asked}
+use Rattle.shelf_rules.specs.Calls.{extent_of, FlightAdded, FlightAsked, BodyGiven, FlightRemoved}
 use Rattle.claims_shelf.specs.Weekend.{SameContents}
 
 -- ---- tests that agree
@@ -210,27 +211,27 @@ module _ (b c : List ℕ) (s : SameContents b c) where
 
   -- ---- what the calls say
 
-  pub add_unread : (number : ℕ) (file : List ℕ) (r r' : Added) (after after' : List ℕ) → FlightAdded b number file r after → FlightAdded c number file r' after' → added_told r ≡ added_told r'
+  pub add_unread : (number : ℕ) (file : List ℕ) (r r' : Result ℕ Refusal) (after after' : List ℕ) → FlightAdded b number file r after → FlightAdded c number file r' after' → result_told r ≡ result_told r'
   add_unread number file r r' after after' w w' = w.told ∙ ap (λ t. and_then t (λ x. says x.start)) (add_there number file) ∙ sym w'.told
 
-  pub ask_unread : (number : ℕ) (r r' : Asked) → FlightAsked b number r → FlightAsked c number r' → asked_told r ≡ asked_told r'
+  pub ask_unread : (number : ℕ) (r r' : Result Extent Refusal) → FlightAsked b number r → FlightAsked c number r' → result_told r ≡ result_told r'
   ask_unread number r r' w w' = w ∙ ap (λ t. and_then t (λ x. says (extent_of x))) (ask_there number) ∙ sym w'
 
-  pub remove_unread : (number : ℕ) (r r' : Outcome) (after after' : List ℕ) → FlightRemoved b number r after → FlightRemoved c number r' after' → outcome_told r ≡ outcome_told r'
+  pub remove_unread : (number : ℕ) (r r' : Result ⊤ Refusal) (after after' : List ℕ) → FlightRemoved b number r after → FlightRemoved c number r' after' → result_told r ≡ result_told r'
   remove_unread number r r' after after' w w' = w.told ∙ ap (λ t. and_then t (λ _. says tt)) (held_there number) ∙ sym w'.told
 
-  pub pack_unread : (r r' : Outcome) (after after' : List ℕ) → ShelfPacked b r after → ShelfPacked c r' after' → outcome_told r ≡ outcome_told r'
+  pub pack_unread : (r r' : Result ⊤ Refusal) (after after' : List ℕ) → ShelfPacked b r after → ShelfPacked c r' after' → result_told r ≡ result_told r'
   pack_unread r r' after after' w w' = w.told ∙ pack_there ∙ sym w'.told
 
   -- ---- and what they leave: the table of contents is one again, so that the same holds of each later call
 
-  pub add_unread_after : (number : ℕ) (file : List ℕ) (r r' : Added) (after after' : List ℕ) → FlightAdded b number file r after → FlightAdded c number file r' after' → SameContents after after'
+  pub add_unread_after : (number : ℕ) (file : List ℕ) (r r' : Result ℕ Refusal) (after after' : List ℕ) → FlightAdded b number file r after → FlightAdded c number file r' after' → SameContents after after'
   add_unread_after number file r r' after after' w w' = rw (w.bytes, w'.bytes, ← add_there number file) (after_add_lem number file (add_said b number file) refl)
 
-  pub remove_unread_after : (number : ℕ) (r r' : Outcome) (after after' : List ℕ) → FlightRemoved b number r after → FlightRemoved c number r' after' → SameContents after after'
+  pub remove_unread_after : (number : ℕ) (r r' : Result ⊤ Refusal) (after after' : List ℕ) → FlightRemoved b number r after → FlightRemoved c number r' after' → SameContents after after'
   remove_unread_after number r r' after after' w w' = rw (w.bytes, w'.bytes, ← held_there number) (after_remove_lem number (held_at b number) refl)
 
-  pub pack_unread_after : (r r' : Outcome) (after after' : List ℕ) → ShelfPacked b r after → ShelfPacked c r' after' → SameContents after after'
+  pub pack_unread_after : (r r' : Result ⊤ Refusal) (after after' : List ℕ) → ShelfPacked b r after → ShelfPacked c r' after' → SameContents after after'
   pack_unread_after r r' after after' w w' =
       by_bool (sound b)
       (λ e.

@@ -1,9 +1,9 @@
 -- The words of a shelf and the tests that compute them: the rules, an entry by its number, a free run and the smallest start. Assumes nothing.
+use Rattle.std.specs.Prelude.{None, Some}
 use Prim.Native.Nat.{ℕ, ◌+◌, ◌*◌, ◌-◌, ◌≤◌, ◌<◌}
 use mathlib.Core.Bool.{Bool, true, false}
 use mathlib.Core.List.{List}
 use mathlib.Core.Logic.{◌⊎◌, inl, inr, ◌↔◌, ⊎_elim}
-use mathlib.Core.Option.{none, some}
 use mathlib.Core.Path.{◌≡◌, sym, ◌∙◌}
 use native.Mathlib.Omega.{arith}
 use borrow.Author.Tests.{eqb-true, eqb-false, eq-eqb, ne_eqb, le-leb}
@@ -123,7 +123,7 @@ breaks_exactly b = (
 
 -- ---- the least
 
-pub least_is : (test : ℕ → Bool) (at k v : ℕ) → Least test at k v → least test at k ≡ some v
+pub least_is : (test : ℕ → Bool) (at k v : ℕ) → Least test at k v → least test at k ≡ Some v
 least_is test at k v l =
     let d = v - at in
     let e : at + (v - at) ≡ v = omega (arith, l.low) in
@@ -136,7 +136,7 @@ module _ (b : List ℕ) (x : ℕ) where
   abbrev has : ℕ → Bool
   has n = eqb (number_of b n) x
 
-  pub entry_exactly : (k : ℕ) → (entry_of b x ≡ some k) ↔ ((k < 64) × (number_of b k ≡ x) × ((n : ℕ) → n < k → number_of b n ≡ x → ⊥))
+  pub entry_exactly : (k : ℕ) → (entry_of b x ≡ Some k) ↔ ((k < 64) × (number_of b k ≡ x) × ((n : ℕ) → n < k → number_of b n ≡ x → ⊥))
   unfolding entry_of
   entry_exactly k = (
     (λ e.
@@ -150,7 +150,7 @@ module _ (b : List ℕ) (x : ℕ) where
     })),
   )
 
-  pub no_entry_exactly : (entry_of b x ≡ none) ↔ (InUse b x → ⊥)
+  pub no_entry_exactly : (entry_of b x ≡ None) ↔ (InUse b x → ⊥)
   unfolding entry_of
   no_entry_exactly = (
     (λ e w. eqb-false (number_of b w.0) x (least_none has 0 64 e w.0 (omega arith) w.1) w.2),
@@ -193,7 +193,7 @@ module _ (b : List ℕ) (s : Sound b) (size : ℕ) (one : 1 ≤ size) where
   fits_not : (at : ℕ) → 768 ≤ at → (FreeRun b at size → ⊥) → fits b size at ≡ false
   fits_not at low f = by_bool (fits b size at) (λ e. absurd (f ((fits_exactly at low).0 e))) (λ e. e)
 
-  pub place_exactly : (at : ℕ) → (place_for b size ≡ some at) ↔ Smallest b size at
+  pub place_exactly : (at : ℕ) → (place_for b size ≡ Some at) ↔ Smallest b size at
   unfolding place_for
   place_exactly at = (
     (λ e.
@@ -210,7 +210,7 @@ module _ (b : List ℕ) (s : Sound b) (size : ℕ) (one : 1 ≤ size) where
     })),
   )
 
-  pub no_place_exactly : (place_for b size ≡ none) ↔ ((at : ℕ) → FreeRun b at size → ⊥)
+  pub no_place_exactly : (place_for b size ≡ None) ↔ ((at : ℕ) → FreeRun b at size → ⊥)
   unfolding place_for
   no_place_exactly = (
     (λ e at r. false_true (sym (least_none (fits b size) 768 (length b - 768) e at r.from_768 (omega (arith, r.from_768, r.inside))) ∙ (fits_exactly at r.from_768).1 r)),

@@ -1,13 +1,13 @@
 -- A shelf worked out: a buffer of zeros is an empty one; two files go one behind the other, and a third takes the place of one that was removed; with no byte to spare it is 30 before that.
 -- And buffers that are no shelf. Assumes nothing.
+use Rattle.std.specs.Prelude.{Err, Ok}
 use Prim.Native.Nat.{ℕ, zero, suc, ◌+◌, ◌*◌, ◌≤◌, ◌<◌}
 use mathlib.Core.List.{List, [], ◌∷◌, ◌++◌}
 use mathlib.Core.Logic.{◌⊎◌, inl, inr}
 use mathlib.Core.Path.{◌≡◌, refl, sym, ap, subst, ◌∙◌}
 use native.Mathlib.Omega.{arith}
 use lib.ListN.{length, get_or, replicate, length-replicate}
-use Rattle.rules.specs.Refusals.{number, says, refuses, outcome_told}
-use Rattle.rules.specs.declared.Outcome.TheVariants as outcome
+use Rattle.rules.specs.Refusals.{number, says, refuses, result_told}
 use Rattle.rules.specs.declared.Reason.TheVariants as reason
 use Rattle.rules.specs.declared.Refusal.{Refusal}
 use Rattle.rules.specs.declared.Seal.TheVariants as seal
@@ -20,8 +20,6 @@ use Rattle.shelf_rules.specs.Shelf.{add_said, after_add, held_at, after_remove}
 use Rattle.shelf_rules.specs.declared.Slot.{Slot}
 use Rattle.shelf_rules.proofs.Tests.{by_eq, by_le}
 use Rattle.shelf_rules.proofs.Accepts.{adds as accepted, holds}
-use Rattle.shelf_rules.specs.Calls.{added_told}
-use Rattle.shelf_rules.specs.declared.Added.TheVariants as added
 use Rattle.claims_shelf.specs.Calls.{Call, adds, removes, Empty, Reached, empty, added_one, removed_one}
 use Rattle.claims_shelf.specs.Weekend.{Among, InBody, IsShelf, InUse}
 use Rattle.claims_shelf.proofs.Answers.{by_sum, met, add_refuses, add_said_lem, held_says}
@@ -189,11 +187,11 @@ module _ (file : List ℕ) where
   -- flight 1, flight 2 behind it, no room for flight 3; flight 1 removed, and flight 3 in its place: the latest call comes first
   abbrev pub weekend_of : List Call
   weekend_of =
-      adds 3 file (added.At 768)
-      ∷ removes 1 outcome.Accepted
-      ∷ adds 3 file (added.Refused no_run)
-      ∷ adds 2 file (added.At (768 + length file))
-      ∷ adds 1 file (added.At 768)
+      adds 3 file (Ok 768)
+      ∷ removes 1 (Ok tt)
+      ∷ adds 3 file (Err no_run)
+      ∷ adds 2 file (Ok (768 + length file))
+      ∷ adds 1 file (Ok 768)
       ∷ []
 
 module _ (file : List ℕ) (m : Meets seal.Usual file) (fits : 768 + length file + length file ≤ 16777216) where
@@ -319,13 +317,13 @@ module _ (file : List ℕ) (m : Meets seal.Usual file) (fits : 768 + length file
 
   -- all of it as calls, the latest first
   pub reached : Reached (weekend_of file) (three file)
-  unfolding number added_told outcome_told after_add
+  unfolding number result_told after_add
   reached =
-      added_one {b = b₃} 3 file (added.At 768) (omega arith) (record { told = rw third_said; bytes = refl })
-      (removed_one {b = b₂} 1 outcome.Accepted (record { told = rw first_removed; bytes = refl })
-      (added_one {b = b₂} {after = b₂} 3 file (added.Refused no_run) (omega arith) (record { told = rw third_refused; bytes = rw third_refused })
-      (added_one {b = b₁} 2 file (added.At (768 + length file)) (omega arith) (record { told = rw second_said; bytes = refl })
-      (added_one {b = b₀} 1 file (added.At 768) (omega arith) (record { told = rw first_said; bytes = refl })
+      added_one {b = b₃} 3 file (Ok 768) (omega arith) (record { told = rw third_said; bytes = refl })
+      (removed_one {b = b₂} 1 (Ok tt) (record { told = rw first_removed; bytes = refl })
+      (added_one {b = b₂} {after = b₂} 3 file (Err no_run) (omega arith) (record { told = rw third_refused; bytes = rw third_refused })
+      (added_one {b = b₁} 2 file (Ok (768 + length file)) (omega arith) (record { told = rw second_said; bytes = refl })
+      (added_one {b = b₀} 1 file (Ok 768) (omega arith) (record { told = rw first_said; bytes = refl })
       (empty (zeros_empty room (omega arith) fits))))))
 
 -- ---- document 01's file of five lines

@@ -1,13 +1,13 @@
 -- Document 02, 'A shelf of flights on the tablet': the words of what is demanded of a shelf, said over the bytes of the buffer.
-use Rattle.std.specs.Prelude.{ℕ, ◌+◌, ◌*◌, ◌≤◌, ◌<◌, List, ◌++◌, ◌⊎◌, ◌↔◌, ◌≡◌, length, get_or, take, drop}
-use Rattle.std.proofs.Math.Option.{none}
-use Rattle.rules.specs.Refusals.{says, refuses, outcome}
+use Rattle.shelf_rules.specs.declared.Extent.{Extent}
+use Rattle.rules.specs.declared.Refusal.{Refusal}
+use Rattle.std.specs.Prelude.{ℕ, ◌+◌, ◌*◌, ◌≤◌, ◌<◌, List, ◌++◌, ◌⊎◌, ◌↔◌, ◌≡◌, length, get_or, take, drop, None, Result}
+use Rattle.rules.specs.Refusals.{says, refuses, outcome, result_told}
 use Rattle.rules.specs.declared.Seal.TheVariants as seal
 use Rattle.grammar.specs.Faults.{Refused}
 use Rattle.grammar.specs.Grammar.{Meets}
 use Rattle.shelf_rules.specs.Contents.{word_bytes, number_of, start_of, size_of, slot_of, body_of, held}
-use Rattle.shelf_rules.specs.Calls.{asked_told, FlightAsked, BodyGiven}
-use Rattle.shelf_rules.specs.declared.Asked.{Asked}
+use Rattle.shelf_rules.specs.Calls.{FlightAsked, BodyGiven}
 
 -- ---- "27 SHELF if the buffer breaks these rules"
 
@@ -74,7 +74,7 @@ Broken b n l x = Unplaced 27 n l x × (IsShelf b → ⊥)
 
 -- "then the file's own", by "the usual check"
 abbrev pub FileRefused : List ℕ → List ℕ → ℕ → ℕ → ℕ → Type 0
-FileRefused b file n l x = IsShelf b × Refused seal.Usual file none n l x
+FileRefused b file n l x = IsShelf b × Refused seal.Usual file None n l x
 
 -- neither: the buffer is a shelf, and the file meets the grammar
 abbrev pub Both : List ℕ → List ℕ → Type 0
@@ -148,20 +148,20 @@ pub record Packs (b after : List ℕ) : Type 0 where
 -- the answer is the same, start and length or the refusal, and so are the bytes handed out
 abbrev pub AskedAsBefore : List ℕ → List ℕ → ℕ → Type 0
 AskedAsBefore b after number =
-    ((r r' : Asked) → FlightAsked b number r → FlightAsked after number r' → asked_told r' ≡ asked_told r)
+    ((r r' : Result Extent Refusal) → FlightAsked b number r → FlightAsked after number r' → result_told r' ≡ result_told r)
     × ((p p' : List ℕ) → BodyGiven b number p → BodyGiven after number p' → p' ≡ p)
 
 -- it is found, or refused, as before, and the bytes handed out are the same, wherever they stand
 abbrev pub FoundAsBefore : List ℕ → List ℕ → ℕ → Type 0
 FoundAsBefore b after number =
-    ((r r' : Asked) → FlightAsked b number r → FlightAsked after number r' → outcome (asked_told r') ≡ outcome (asked_told r))
+    ((r r' : Result Extent Refusal) → FlightAsked b number r → FlightAsked after number r' → outcome (result_told r') ≡ outcome (result_told r))
     × ((p p' : List ℕ) → BodyGiven b number p → BodyGiven after number p' → p' ≡ p)
 
 -- it is found at a start, and the bytes handed out are those of a file
 abbrev pub AskedAs : List ℕ → ℕ → ℕ → List ℕ → Type 0
 AskedAs b number at file =
-    ((r : Asked) → FlightAsked b number r → asked_told r ≡ says (record { start = at; size = length file })) × ((p : List ℕ) → BodyGiven b number p → p ≡ file)
+    ((r : Result Extent Refusal) → FlightAsked b number r → result_told r ≡ says (record { start = at; size = length file })) × ((p : List ℕ) → BodyGiven b number p → p ≡ file)
 
 -- "31 NOT_FOUND for asking for .. a number not held"
 abbrev pub AskedInVain : List ℕ → ℕ → Type 0
-AskedInVain b number = (r : Asked) → FlightAsked b number r → asked_told r ≡ refuses 31 0 0
+AskedInVain b number = (r : Result Extent Refusal) → FlightAsked b number r → result_told r ≡ refuses 31 0 0

@@ -1,8 +1,9 @@
 -- What is answered on the track and on the summary of a file with added columns, and the lists afterwards, from the records in their pairs. Assumes nothing.
+use Rattle.rules.specs.declared.Refusal.{Refusal}
+use Rattle.std.specs.Prelude.{None, Result}
 use Prim.Native.Nat.{ℕ, ◌<◌}
 use mathlib.Core.Bool.{Bool, true, false}
 use mathlib.Core.List.{List, ◌++◌}
-use mathlib.Core.Option.{none}
 use mathlib.Core.Path.{◌≡◌, refl, sym, ◌∙◌, ap, ap₂}
 use native.Mathlib.Omega.{arith}
 use lib.IntN.{ℤ}
@@ -10,7 +11,7 @@ use lib.ListN.{length, get_or, drop, get_or-append}
 use Rattle.rules.specs.Files.{verdict}
 use Rattle.rules.specs.Fixes.{plain, plain_time, plain_position}
 use Rattle.rules.specs.Layouts.{carries}
-use Rattle.rules.specs.Refusals.{says, refuses}
+use Rattle.rules.specs.Refusals.{says, refuses, result_told}
 use Rattle.rules.specs.Split.{lines_of}
 use Rattle.rules.specs.declared.Family.TheVariants as family
 use Rattle.rules.specs.declared.FinePosition.{FinePosition}
@@ -19,11 +20,9 @@ use Rattle.rules.specs.declared.Layout.{Layout}
 use Rattle.grammar_wider.specs.Before.{CountAsBefore, ReadsAsBefore, put_in}
 use Rattle.grammar_wider.specs.Wider.{Wider}
 use Rattle.grammar_wider.proofs.Lists.{pair_at}
+use Rattle.rules_only.proofs.Told.{result_one}
 use Rattle.track_rules.specs.Track.{zero_record, track_seal, track_of}
 use Rattle.track_rules.specs.declared.Record.{Record}
-use Rattle.track_course.specs.Courses.{tracked_told}
-use Rattle.track_course.specs.declared.Tracked.{Tracked}
-use Rattle.track_course.proofs.Only.{tracked_one}
 use Rattle.track.specs.Tracks.{FileTracked}
 use Rattle.track.proofs.Tracking.{counted_all}
 use Rattle.summary_reckon.specs.Summary.{updated}
@@ -95,7 +94,7 @@ same_plainly old new more r r' x =
 
 -- ---- two files
 
-module _ (file file' : List ℕ) (f f' : Flight) (p : verdict track_seal file none ≡ says f) (q : verdict track_seal file' none ≡ says f') (wider : Wider (lines_of file) (lines_of file'))
+module _ (file file' : List ℕ) (f f' : Flight) (p : verdict track_seal file None ≡ says f) (q : verdict track_seal file' None ≡ says f') (wider : Wider (lines_of file) (lines_of file'))
     (w : ReadsAsBefore file file' f f' (put_in wider)) where
   abbrev old : Layout
   old = f.layouts.b
@@ -132,16 +131,16 @@ module _ (file file' : List ℕ) (f f' : Flight) (p : verdict track_seal file no
 
   -- ---- the answers on the track
 
-  module _ (list : List Record) (r r' : Tracked) (after after' : List Record) (a : FileTracked file list r after) (b : FileTracked file' list r' after') where
+  module _ (list : List Record) (r r' : Result ℕ Refusal) (after after' : List Record) (a : FileTracked file list r after) (b : FileTracked file' list r' after') where
     pub same_answer : r' ≡ r
-    same_answer = tracked_one r' r (b.told ∙ track_before.said (length list) ∙ sym a.told)
+    same_answer = result_one r' r (b.told ∙ track_before.said (length list) ∙ sym a.told)
 
-    pub refused_alike : (n l k : ℕ) → tracked_told r ≡ refuses n l k → after' ≡ after
-    refused_alike n l k e = refused_leaves file' list r' after' b n l k (ap tracked_told same_answer ∙ e) ∙ sym (refused_leaves file list r after a n l k e)
+    pub refused_alike : (n l k : ℕ) → result_told r ≡ refuses n l k → after' ≡ after
+    refused_alike n l k e = refused_leaves file' list r' after' b n l k (ap result_told same_answer ∙ e) ∙ sym (refused_leaves file list r after a n l k e)
 
-    module _ (n : ℕ) (e : tracked_told r ≡ says n) where
-      e' : tracked_told r' ≡ says n
-      e' = ap tracked_told same_answer ∙ e
+    module _ (n : ℕ) (e : result_told r ≡ says n) where
+      e' : result_told r' ≡ says n
+      e' = ap result_told same_answer ∙ e
 
       -- the record at a place of the list is the track's
       in_list : (length (track_of file old) ≡ n) × ((i : ℕ) → i < n → get_or after i zero_record ≡ get_or (track_of file old) i zero_record)

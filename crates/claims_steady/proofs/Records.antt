@@ -1,9 +1,9 @@
 -- The records of the track of a file with added columns, one after the other, beside those of the old file. Assumes nothing.
+use Rattle.std.specs.Prelude.{None}
 use Prim.Native.Nat.{ℕ, suc, ◌+◌, ◌<◌}
 use Prim.Native.Char.{code}
 use mathlib.Core.Bool.{Bool, true, false}
 use mathlib.Core.List.{List, [], ◌∷◌, map}
-use mathlib.Core.Option.{none}
 use mathlib.Core.Path.{◌≡◌, refl, sym, ◌∙◌, ap, ap₂, subst}
 use native.Mathlib.Nat.{zero-add}
 use native.Mathlib.Omega.{arith}
@@ -121,7 +121,7 @@ module _ (old new : Layout) where
   layouts (changed {f = f} {t = t} {t' = t'} {ls = ls} {ls' = ls'} e e' x r) more v v' h p =
       let k : is_of family.B (role_in t) ≡ false = ap (is_of family.B) (told_role f t _ e) in
       let k' : is_of family.B (role_in t') ≡ false = ap (is_of family.B) (told_role f t' _ e') in
-      let a : Ahead more (walked t v) (walked t' v') = rw (told_untimed f t _ e, told_untimed f t' _ e') (both_on more v v' none h) in
+      let a : Ahead more (walked t v) (walked t' v') = rw (told_untimed f t _ e, told_untimed f t' _ e') (both_on more v v' None h) in
       skip_both (more + put_into r) v v' t t' ls ls' k k' (layouts r more (walked t v) (walked t' v') a (rw (k, k') at p))
   layouts (put {f = f} {t' = t'} {ls = ls} {ls' = ls'} e' r) more v v' h p =
       let k' : is_of family.B (role_in t') ≡ false = ap (is_of family.B) (told_role f t' _ e') in
@@ -137,12 +137,12 @@ module _ (old new : Layout) where
 
 -- ---- the file
 
-module _ (file file' : List ℕ) (f f' : Flight) (p : verdict track_seal file none ≡ says f) (q : verdict track_seal file' none ≡ says f') (wider : Wider (lines_of file) (lines_of file'))
+module _ (file file' : List ℕ) (f f' : Flight) (p : verdict track_seal file None ≡ says f) (q : verdict track_seal file' None ≡ says f') (wider : Wider (lines_of file) (lines_of file'))
     (w : ReadsAsBefore file file' f f' (put_in wider)) where
   fixes_paired : Pairs (AsBefore family.B f.layouts.b f'.layouts.b) (lines_of_family family.B (lines_of file)) (lines_of_family family.B (lines_of file'))
   fixes_paired =
-      let n = family_tallied family.B (lines_of file) ∙ sym (family_counted track_seal file none f p family.B) in
-      let n' = family_tallied family.B (lines_of file') ∙ sym (family_counted track_seal file' none f' q family.B) in
+      let n = family_tallied family.B (lines_of file) ∙ sym (family_counted track_seal file None f p family.B) in
+      let n' = family_tallied family.B (lines_of file') ∙ sym (family_counted track_seal file' None f' q family.B) in
       pairs_from (AsBefore family.B f.layouts.b f'.layouts.b) [] (lines_of_family family.B (lines_of file)) (lines_of_family family.B (lines_of file')) (n' ∙ w.counts family.B ∙ sym n)
       (λ i h. w.columned family.B i (omega (arith, n, h)))
 

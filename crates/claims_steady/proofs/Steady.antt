@@ -4,16 +4,18 @@
 -- The claims on answers are about every answer that the contracts of `track::track`, `summary::summary` and `summary::with_date` allow (promises FileTracked, FileSummed and
 -- FileDated), and by `only_file_tracked`, `only_file_summed` and `only_file_dated` that is one each. What a track and a summary are is on the pages of mapped (proofs/Track) and overview
 -- (proofs/Summary).
+use Rattle.rules_only.proofs.Told.{result_one}
+use Rattle.rules.specs.declared.Refusal.{Refusal}
+use Rattle.std.specs.Prelude.{None, Option, Result, Some}
 use Prim.Native.Nat.{ℕ, ◌≤◌}
 use mathlib.Core.List.{List, [], ◌∷◌, ◌++◌}
-use mathlib.Core.Option.{Option, none, some}
 use mathlib.Core.Path.{◌≡◌, refl, sym, ◌∙◌, ap}
 use lib.Dec.{lit≤}
 use lib.IntN.{ℤ, pos}
 use lib.ListN.{length}
 use Rattle.rules.specs.Files.{verdict}
 use Rattle.rules.specs.Order.{no_flight}
-use Rattle.rules.specs.Refusals.{Said, says, refuses, value_or}
+use Rattle.rules.specs.Refusals.{Said, says, refuses, value_or, result_told}
 use Rattle.rules.specs.declared.Date.{Date}
 use Rattle.rules.specs.declared.Flight.{Flight}
 use Rattle.rules.specs.declared.Seal.{Seal}
@@ -28,11 +30,7 @@ use Rattle.grammar_wider.proofs.Instances.{no_columns, with_all, put_all}
 use Rattle.grammar_wider.proofs.NotWider.{five, value_changed, value_changed_lem}
 use Rattle.track_rules.specs.Track.{track_seal, track_said}
 use Rattle.track_rules.specs.declared.Record.{Record}
-use Rattle.track_course.specs.Courses.{tracked_told}
-use Rattle.track_course.specs.declared.Tracked.{Tracked}
 use Rattle.track.specs.Tracks.{FileTracked}
-use Rattle.summary_reckon.specs.declared.Summed.{Summed}
-use Rattle.summary_reckon.proofs.Only.{summed_one}
 use Rattle.summary.specs.Summaries.{FileSummed, FileDated}
 use Rattle.summary.specs.declared.Dated.{Dated}
 use Rattle.claims_track.proofs.Worked.{row, lent}
@@ -44,32 +42,32 @@ use Rattle.claims_steady.proofs.Worked.{list_of, summary_of, summed, over_night,
 
 -- take an accepted file, by any check, with a table or without one, and add columns to its B lines, K lines or N lines, within the limit of bytes
 module _ (needs : Seal) (file file' : List ℕ) (room : Option ℕ) (f : Flight) (accepted : verdict needs file room ≡ says f) (wider : WiderFile file file') (limit : length file' ≤ 16777216) where
-  usual : verdict track_seal file none ≡ says f
+  usual : verdict track_seal file None ≡ says f
   usual = usually_accepted needs file room f accepted
 
   -- no table is lent, so the old file and the limit are all that is asked for
-  wide : (f' : Flight) × (verdict track_seal file' none ≡ says f') × ReadsAsBefore file file' f f' (put_in wider)
-  wide = widened track_seal file file' none none f usual wider limit refl
+  wide : (f' : Flight) × (verdict track_seal file' None ≡ says f') × ReadsAsBefore file file' f f' (put_in wider)
+  wide = widened track_seal file file' None None f usual wider limit refl
 
   -- ---- the track
 
   -- the same count, or 18 for the same lists; and record by record the old day and the old fix, with finer counts where LAD, LOD or TDS was added. Its line is further on by
   -- the layout lines that were put in
-  pub widened_track : (f' : Flight) × (verdict track_seal file' none ≡ says f') × TrackAsBefore file file' f f' (put_in wider)
+  pub widened_track : (f' : Flight) × (verdict track_seal file' None ≡ says f') × TrackAsBefore file file' f f' (put_in wider)
   widened_track = (wide.0, wide.1, track_before file file' f wide.0 usual wide.1 wider wide.2)
 
-  module _ (list : List Record) (r r' : Tracked) (after after' : List Record) (a : FileTracked file list r after) (b : FileTracked file' list r' after') where
+  module _ (list : List Record) (r r' : Result ℕ Refusal) (after after' : List Record) (a : FileTracked file list r after) (b : FileTracked file' list r' after') where
     -- by every answer that the contract of `track::track` allows: the answer is the old one
     pub track_answer : r' ≡ r
     track_answer = same_answer file file' f wide.0 usual wide.1 wider wide.2 list r r' after after' a b
 
     -- where records were stored, they are as before, and those beyond are the same
-    pub track_stays : (f' : Flight) × (verdict track_seal file' none ≡ says f')
-        × ((n : ℕ) → tracked_told r ≡ says n → ListAsBefore f.layouts.b f'.layouts.b (put_in wider) n after after')
+    pub track_stays : (f' : Flight) × (verdict track_seal file' None ≡ says f')
+        × ((n : ℕ) → result_told r ≡ says n → ListAsBefore f.layouts.b f'.layouts.b (put_in wider) n after after')
     track_stays = (wide.0, wide.1, given_alike file file' f wide.0 usual wide.1 wider wide.2 list r r' after after' a b)
 
     -- where the list was short, it is left in both
-    pub track_left : (n l k : ℕ) → tracked_told r ≡ refuses n l k → after' ≡ after
+    pub track_left : (n l k : ℕ) → result_told r ≡ refuses n l k → after' ≡ after
     track_left = refused_alike file file' f wide.0 usual wide.1 wider wide.2 list r r' after after' a b
 
   -- ---- the summary
@@ -80,9 +78,9 @@ module _ (needs : Seal) (file file' : List ℕ) (room : Option ℕ) (f : Flight)
 
   module _ (old : ℕ) (list after after' : List ℤ) where
     -- by every answer that the contract of `summary::summary` allows
-    pub summary_answer : (r r' : Summed) → FileSummed file old list r after → FileSummed file' old list r' after' → (r' ≡ r) × (after' ≡ after)
+    pub summary_answer : (r r' : Result ℕ Refusal) → FileSummed file old list r after → FileSummed file' old list r' after' → (r' ≡ r) × (after' ≡ after)
     summary_answer r r' a b = (
-      summed_one r' r (b.told ∙ widened_summary.said old (length list) ∙ sym a.told),
+      result_one r' r (b.told ∙ widened_summary.said old (length list) ∙ sym a.told),
       b.numbers ∙ widened_summary.after old list ∙ sym a.numbers,
     )
 
@@ -96,13 +94,13 @@ module _ (needs : Seal) (file file' : List ℕ) (room : Option ℕ) (f : Flight)
 -- ---- worked
 
 -- so of document 01's file and of the same with LAD and TDS put in
-pub five_and_finer : (f' : Flight) × (verdict track_seal finer_added none ≡ says f') × TrackAsBefore five_lines finer_added (five five_layout) f' (put_in finer_added_lem)
+pub five_and_finer : (f' : Flight) × (verdict track_seal finer_added None ≡ says f') × TrackAsBefore five_lines finer_added (five five_layout) f' (put_in finer_added_lem)
 unfolding everything file_of
-five_and_finer = widened_track seal.Strict five_lines finer_added (some 16) (five five_layout) verdict_of_five finer_added_lem (lit≤ tt)
+five_and_finer = widened_track seal.Strict five_lines finer_added (Some 16) (five five_layout) verdict_of_five finer_added_lem (lit≤ tt)
 
 pub five_summed : SummaryAsBefore five_lines finer_added
 unfolding everything file_of
-five_summed = widened_summary seal.Strict five_lines finer_added (some 16) (five five_layout) verdict_of_five finer_added_lem (lit≤ tt)
+five_summed = widened_summary seal.Strict five_lines finer_added (Some 16) (five five_layout) verdict_of_five finer_added_lem (lit≤ tt)
 
 -- computed: time and latitude before, and finer; the B lines 4 and 8 behind an I, a J and an M line that were put in; 18 for a list of no record; the summary, whose numbers are the same
 pub same_flights : (list_of five_lines ≡ row 4 0 (fix_at 43200 0 3090000 0) ∷ lent ∷ []) × (list_of finer_added ≡ row 4 0 (fix_at 432005 1 3090000123 3) ∷ lent ∷ [])

@@ -1,9 +1,9 @@
 -- A walk over the lines of a file with added columns, beside one over the old lines: it has the same clock and the same day, and has passed as many lines more as layout lines were put
 -- in. Assumes nothing.
+use Rattle.std.specs.Prelude.{None, Option, Some}
 use Prim.Native.Nat.{ℕ, zero, suc, ◌+◌, ◌-◌, ◌*◌, ◌≤◌}
 use mathlib.Core.Bool.{cond}
 use mathlib.Core.List.{List, [], ◌∷◌}
-use mathlib.Core.Option.{Option, none, some}
 use mathlib.Core.Path.{◌≡◌, refl, sym, ◌∙◌, ap, ap₂}
 use native.Mathlib.Omega.{arith}
 use lib.Dec.{lit≤}
@@ -59,10 +59,10 @@ module _ (f : Family) (t t' : List ℕ) (fields : take (byte (first_start f)) t'
   pub same_time : time_on t' ≡ time_on t
   same_time =
       let e : take 7 t' ≡ take 7 t = sym (take-take 7 _ t' (behind_time f)) ∙ ap (take 7) fields ∙ take-take 7 _ t (behind_time f) in
-      ap₂ (λ (b : ℕ) (o : Option ℕ). cond (is_timed (role_of (kind_of b))) o none) (first_kept f t t' fields) (time_front t t' e)
+      ap₂ (λ (b : ℕ) (o : Option ℕ). cond (is_timed (role_of (kind_of b))) o None) (first_kept f t t' fields) (time_front t t' e)
 
 -- a line that tells a layout has none
-pub told_untimed : (f : Family) (t : List ℕ) (i : Layout) → layout_said f t ≡ says i → time_on t ≡ none
+pub told_untimed : (f : Family) (t : List ℕ) (i : Layout) → layout_said f t ≡ says i → time_on t ≡ None
 told_untimed f t i e = rw (told_role f t i e)
 
 -- ---- two walks
@@ -74,9 +74,9 @@ pub record Ahead (more : ℕ) (v v' : Walk) : Type 0 where
 
 -- past a line each, with the same time or with none
 pub both_on : (more : ℕ) (v v' : Walk) (o : Option ℕ) → Ahead more v v' → Ahead more (walked_by o v) (walked_by o v')
-both_on more v v' none h = record { lines = omega (arith, h.lines); clock = h.clock; day = h.day }
-both_on more v v' (some t) h = record { lines = omega (arith, h.lines); clock = refl; day = ap₂ (λ (c d : ℕ). day_after (passing c t) d) h.clock h.day }
+both_on more v v' None h = record { lines = omega (arith, h.lines); clock = h.clock; day = h.day }
+both_on more v v' (Some t) h = record { lines = omega (arith, h.lines); clock = refl; day = ap₂ (λ (c d : ℕ). day_after (passing c t) d) h.clock h.day }
 
 -- past a line without a time that the other does not come by
-pub one_on : (more : ℕ) (v v' : Walk) (t' : List ℕ) → time_on t' ≡ none → Ahead more v v' → Ahead (more + 1) v (walked t' v')
+pub one_on : (more : ℕ) (v v' : Walk) (t' : List ℕ) → time_on t' ≡ None → Ahead more v v' → Ahead (more + 1) v (walked t' v')
 one_on more v v' t' e h = rw e (record { lines = omega (arith, h.lines); clock = h.clock; day = h.day })

@@ -1,9 +1,10 @@
 -- What a summary answers, and the list afterwards, from the promise of the call. Assumes nothing.
+use Rattle.rules.specs.declared.Refusal.{Refusal}
+use Rattle.std.specs.Prelude.{None, Result}
 use Prim.Native.Nat.{ℕ, ◌+◌, ◌/◌, ◌≤◌, ◌<◌}
 use mathlib.Core.Bool.{Bool, true, false}
 use mathlib.Core.List.{List, []}
 use mathlib.Core.Logic.{◌⊎◌, inl, inr, ◌↔◌}
-use mathlib.Core.Option.{none}
 use mathlib.Core.Path.{◌≡◌, refl, sym, ap, subst, ◌∙◌}
 use native.Mathlib.Nat.{zero-add}
 use native.Mathlib.Omega.{arith}
@@ -14,7 +15,7 @@ use lib.ListN.{length, get_or, take, drop}
 use Rattle.rules.specs.Choice.{need, part}
 use Rattle.rules.specs.Files.{verdict}
 use Rattle.rules.specs.Order.{start}
-use Rattle.rules.specs.Refusals.{number, Said, says, refuses, no, and_then}
+use Rattle.rules.specs.Refusals.{number, Said, says, refuses, no, and_then, result_told}
 use Rattle.rules.specs.Split.{lines_of}
 use Rattle.rules.specs.Walk.{set_out}
 use Rattle.rules.specs.declared.Flight.{Flight}
@@ -35,10 +36,9 @@ use Rattle.claims_track.proofs.Answers.{met, meets_so}
 use Rattle.claims_track.proofs.Days.{walked_first}
 use Rattle.claims_track.proofs.Records.{record_at}
 use Rattle.claims_track.proofs.Whole.{all_good}
-use Rattle.summary_reckon.specs.Reckoned.{summed_told, count_said}
+use Rattle.summary_reckon.specs.Reckoned.{count_said}
 use Rattle.summary.specs.Summaries.{FileSummed}
 use Rattle.summary_reckon.specs.Summary.{runs_of, run_at, size_of, updated, fixes_in, flight_summed, summary_said, updated_by}
-use Rattle.summary_reckon.specs.declared.Summed.{Summed}
 use Rattle.summary.proofs.Summing.{said_accepted}
 use Rattle.claims_summary.specs.Overview.{Exceeds, Short, Tells, Summarises}
 use Rattle.claims_summary.proofs.Numbers.{tells_told}
@@ -46,7 +46,7 @@ use Rattle.claims_summary.proofs.Numbers as numbers
 
 -- ---- what is said of an accepted file, by its number of fixes
 
-said_own : (file : List ℕ) (old room n l b : ℕ) → verdict track_seal file none ≡ refuses n l b → summary_said file old room ≡ refuses n l b
+said_own : (file : List ℕ) (old room n l b : ℕ) → verdict track_seal file None ≡ refuses n l b → summary_said file old room ≡ refuses n l b
 unfolding flight_summed
 said_own file old room n l b e = rw e
 
@@ -88,10 +88,10 @@ module _ (count old room : ℕ) where
       by false p x q e = inl (e, leb-false old count p)
 
 -- what is said of a file's flight is what the check says
-pub summed_accepted : (file : List ℕ) (old room : ℕ) (f : Flight) → flight_summed file old room ≡ says f → verdict track_seal file none ≡ says f
+pub summed_accepted : (file : List ℕ) (old room : ℕ) (f : Flight) → flight_summed file old room ≡ says f → verdict track_seal file None ≡ says f
 unfolding flight_summed
 summed_accepted file old room f e =
-    let v = then_inv (verdict track_seal file none) f _ e in
+    let v = then_inv (verdict track_seal file None) f _ e in
     let a = need_inv (leb old (fixes_in v.0)) _ (says f) _ refuses_says v.2 in
     let b = need_inv (leb (size_of (runs_of (fixes_in v.0))) room) _ (says f) _ refuses_says a.1 in
     let z : says v.0 ≡ says f = b.1 in
@@ -99,18 +99,18 @@ summed_accepted file old room f e =
 
 -- ---- of every answer that the contract allows
 
-module _ (file : List ℕ) (old : ℕ) (list : List ℤ) (r : Summed) (after : List ℤ) (w : FileSummed file old list r after) where
+module _ (file : List ℕ) (old : ℕ) (list : List ℤ) (r : Result ℕ Refusal) (after : List ℤ) (w : FileSummed file old list r after) where
   abbrev room : ℕ
   room = length list
 
   abbrev Own : ℕ → ℕ → ℕ → Type 0
-  Own n l b = verdict track_seal file none ≡ refuses n l b
+  Own n l b = verdict track_seal file None ≡ refuses n l b
 
   -- the file's own refusal, or one of the two
   said_refuses : (n l b : ℕ) → summary_said file old room ≡ refuses n l b → Own n l b ⊎ (Exceeds file old n l b ⊎ Short file old room n l b)
-  said_refuses n l b e = by (verdict track_seal file none) refl
+  said_refuses n l b e = by (verdict track_seal file None) refl
     where
-      why : (f : Flight) → verdict track_seal file none ≡ says f → Why (fixes_in f) old room n l b → Exceeds file old n l b ⊎ Short file old room n l b
+      why : (f : Flight) → verdict track_seal file None ≡ says f → Why (fixes_in f) old room n l b → Exceeds file old n l b ⊎ Short file old room n l b
       why f g (inl x) =
           let m = met file f g in
           let z = x.0 in
@@ -127,7 +127,7 @@ module _ (file : List ℕ) (old : ℕ) (list : List ℤ) (r : Summed) (after : L
             less = subst (λ (h : Flight). room < size_of (runs_of (fixes_in h))) (sym m.1) x.2;
           })
 
-      by : (s : Said Flight) → verdict track_seal file none ≡ s → Own n l b ⊎ (Exceeds file old n l b ⊎ Short file old room n l b)
+      by : (s : Said Flight) → verdict track_seal file None ≡ s → Own n l b ⊎ (Exceeds file old n l b ⊎ Short file old room n l b)
       by (says f) g = inr (why f g (count_refuses (fixes_in f) old room n l b (sym (said_accepted file old room f g) ∙ e)))
       by (refuses k i j) g = inl (g ∙ again (sym (said_own file old room k i j g) ∙ e))
         where
@@ -137,21 +137,21 @@ module _ (file : List ℕ) (old : ℕ) (list : List ℤ) (r : Summed) (after : L
   -- an accepted file, its fixes enough and its list long enough
   pub record Good (n : ℕ) : Type 0 where
     pub flight : Flight
-    pub accepted : verdict track_seal file none ≡ says flight
+    pub accepted : verdict track_seal file None ≡ says flight
     pub runs : n ≡ runs_of (fixes_in flight)
     pub enough : old ≤ fixes_in flight
     pub room : size_of (runs_of (fixes_in flight)) ≤ length list
 
-  pub good : (n : ℕ) → summed_told r ≡ says n → Good n
-  good n e = by (verdict track_seal file none) refl
+  pub good : (n : ℕ) → result_told r ≡ says n → Good n
+  good n e = by (verdict track_seal file None) refl
     where
-      by : (s : Said Flight) → verdict track_seal file none ≡ s → Good n
+      by : (s : Said Flight) → verdict track_seal file None ≡ s → Good n
       by (says f) g =
           let x = count_says (fixes_in f) old room n (sym (said_accepted file old room f g) ∙ sym w.told ∙ e) in
           record { flight = f; accepted = g; runs = x.0; enough = x.1; room = x.2 }
       by (refuses k i j) g = absurd (refuses_says (sym (said_own file old room k i j g) ∙ sym w.told ∙ e))
 
-  pub told_runs_lem : (n : ℕ) → (summed_told r ≡ says n) ↔ ((m : Meets track_seal file) × (n ≡ runs_of (BLines m)) × (old ≤ BLines m) × (size_of n ≤ length list))
+  pub told_runs_lem : (n : ℕ) → (result_told r ≡ says n) ↔ ((m : Meets track_seal file) × (n ≡ runs_of (BLines m)) × (old ≤ BLines m) × (size_of n ≤ length list))
   told_runs_lem n = (
     (λ e.
         let g = good n e in
@@ -163,15 +163,15 @@ module _ (file : List ℕ) (old : ℕ) (list : List ℤ) (r : Summed) (after : L
         w.told ∙ said_accepted file old room f (meets_so file x.0) ∙ count_good (fixes_in f) old room x.2 (rw x.1 at x.3) ∙ ap says (sym x.1)),
   )
 
-  pub told_refuses : (n l b : ℕ) → (summed_told r ≡ refuses n l b) ↔ (Refused track_seal file none n l b ⊎ (Exceeds file old n l b ⊎ Short file old room n l b))
+  pub told_refuses : (n l b : ℕ) → (result_told r ≡ refuses n l b) ↔ (Refused track_seal file None n l b ⊎ (Exceeds file old n l b ⊎ Short file old room n l b))
   told_refuses n l b = ((λ e. into (said_refuses n l b (sym w.told ∙ e))), (λ x. w.told ∙ back x))
     where
-      into : Own n l b ⊎ (Exceeds file old n l b ⊎ Short file old room n l b) → Refused track_seal file none n l b ⊎ (Exceeds file old n l b ⊎ Short file old room n l b)
-      into (inl e) = inl ((refused_first track_seal file none n l b).0 e)
+      into : Own n l b ⊎ (Exceeds file old n l b ⊎ Short file old room n l b) → Refused track_seal file None n l b ⊎ (Exceeds file old n l b ⊎ Short file old room n l b)
+      into (inl e) = inl ((refused_first track_seal file None n l b).0 e)
       into (inr s) = inr s
 
-      back : Refused track_seal file none n l b ⊎ (Exceeds file old n l b ⊎ Short file old room n l b) → summary_said file old room ≡ refuses n l b
-      back (inl x) = said_own file old room n l b ((refused_first track_seal file none n l b).1 x)
+      back : Refused track_seal file None n l b ⊎ (Exceeds file old n l b ⊎ Short file old room n l b) → summary_said file old room ≡ refuses n l b
+      back (inl x) = said_own file old room n l b ((refused_first track_seal file None n l b).1 x)
       back (inr (inl x)) =
           let f = flight_of x.meets in
           rw (x.number, x.line, x.byte) (said_accepted file old room f (meets_so file x.meets) ∙ count_over (fixes_in f) old room x.fewer)
@@ -179,7 +179,7 @@ module _ (file : List ℕ) (old : ℕ) (list : List ℤ) (r : Summed) (after : L
           let f = flight_of x.meets in
           rw (x.number, x.line, x.byte) (said_accepted file old room f (meets_so file x.meets) ∙ count_short (fixes_in f) old room x.enough x.less)
 
-  pub told_never_full : (n l b : ℕ) → summed_told r ≡ refuses n l b → n ≡ 15 → ⊥
+  pub told_never_full : (n l b : ℕ) → result_told r ≡ refuses n l b → n ≡ 15 → ⊥
   told_never_full n l b e z = by (said_refuses n l b (sym w.told ∙ e))
     where
       by : Own n l b ⊎ (Exceeds file old n l b ⊎ Short file old room n l b) → ⊥
@@ -188,7 +188,7 @@ module _ (file : List ℕ) (old : ℕ) (list : List ℤ) (r : Summed) (after : L
       by (inr (inr x)) = omega (arith, x.number, z)
 
   -- a refusal leaves the list
-  pub refused_leaves : (n l b : ℕ) → summed_told r ≡ refuses n l b → after ≡ list
+  pub refused_leaves : (n l b : ℕ) → result_told r ≡ refuses n l b → after ≡ list
   refused_leaves n l b e = by (flight_summed file old room) refl (sym w.told ∙ e)
     where
       by : (s : Said Flight) → flight_summed file old room ≡ s → and_then s (λ f. says (runs_of (fixes_in f))) ≡ refuses n l b → after ≡ list
@@ -196,14 +196,14 @@ module _ (file : List ℕ) (old : ℕ) (list : List ℤ) (r : Summed) (after : L
       by (refuses k i j) g e = w.numbers ∙ ap (updated_by file old list) g
 
   -- else it is brought up to date with the file's fixes
-  pub stands : (n : ℕ) (e : summed_told r ≡ says n) → after ≡ updated old (track_of file (good n e).flight.layouts.b) list
+  pub stands : (n : ℕ) (e : result_told r ≡ says n) → after ≡ updated old (track_of file (good n e).flight.layouts.b) list
   unfolding flight_summed
   stands n e =
       let g = good n e in
       let s : flight_summed file old room ≡ says g.flight = rw (g.accepted, le-leb old (fixes_in g.flight) g.enough, le-leb (size_of (runs_of (fixes_in g.flight))) room g.room) in
       w.numbers ∙ ap (updated_by file old list) s
 
-  pub summarised : (n : ℕ) → summed_told r ≡ says n → (m : Meets track_seal file) → Summarises m old n list after
+  pub summarised : (n : ℕ) → result_told r ≡ says n → (m : Meets track_seal file) → Summarises m old n list after
   unfolding beginning
   summarised n e m =
       let g = good n e in

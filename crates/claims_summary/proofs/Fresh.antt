@@ -1,7 +1,9 @@
 -- An update of a flight whose earlier runs are in the list already gives the list that is made afresh. Assumes nothing.
+use Rattle.rules_only.proofs.Told.{result_one}
+use Rattle.rules.specs.declared.Refusal.{Refusal}
+use Rattle.std.specs.Prelude.{None, Result}
 use Prim.Native.Nat.{ℕ, zero, suc, ◌+◌, ◌*◌, ◌-◌, ◌/◌, ◌≤◌}
 use mathlib.Core.List.{List, [], ◌++◌, append_assoc}
-use mathlib.Core.Option.{none}
 use mathlib.Core.Path.{◌≡◌, refl, sym, ap, subst, ◌∙◌}
 use native.Mathlib.Omega.{arith}
 use borrow.Author.Tests.{le-leb}
@@ -10,7 +12,7 @@ use lib.ListN.{length, take, drop, length-append, length-drop}
 use lib.Seq.{take_at, drop_at, take-append-le, drop-append-le}
 use Rattle.rules.specs.Choice.{part}
 use Rattle.rules.specs.Files.{verdict}
-use Rattle.rules.specs.Refusals.{Said, says, refuses, and_then}
+use Rattle.rules.specs.Refusals.{Said, says, refuses, and_then, result_told}
 use Rattle.rules.specs.Split.{lines_of}
 use Rattle.rules.specs.declared.Flight.{Flight}
 use Rattle.rules_laws.proofs.Splitting.{texts_of}
@@ -21,12 +23,9 @@ use Rattle.track_rules.specs.declared.Record.{Record}
 use Rattle.track.proofs.Tracking.{counted_all}
 use Rattle.claims_track.specs.Mapped.{BLines}
 use Rattle.claims_track.proofs.Answers.{meets_so}
-use Rattle.summary_reckon.specs.Reckoned.{summed_told}
 use Rattle.summary.specs.Summaries.{FileSummed}
 use Rattle.summary_reckon.specs.Summary.{told, runs_of, told_runs, size_of, updated, fixes_in, flight_summed, updated_by}
-use Rattle.summary_reckon.specs.declared.Summed.{Summed}
 use Rattle.summary.proofs.Filling.{length_told_lem, length_runs}
-use Rattle.summary_reckon.proofs.Only.{summed_one}
 use Rattle.claims_summary.specs.Overview.{Grown, Kept}
 use Rattle.claims_summary.proofs.Answers.{summed_accepted}
 use Rattle.claims_summary.proofs.Answers as answers
@@ -80,10 +79,10 @@ module _ (older newer : List ℕ) (m : Meets track_seal older) (k : Meets track_
   abbrev g : Flight
   g = flight_of k
 
-  accepted : verdict track_seal older none ≡ says f
+  accepted : verdict track_seal older None ≡ says f
   accepted = meets_so older m
 
-  accepted_now : verdict track_seal newer none ≡ says g
+  accepted_now : verdict track_seal newer None ≡ says g
   accepted_now = meets_so newer k
 
   abbrev rs : List Record
@@ -131,9 +130,9 @@ module _ (older newer : List ℕ) (m : Meets track_seal older) (k : Meets track_
       rw same same_list
   both (refuses n l b) e = refl
 
-  pub updated_is_fresh : (r : Summed) (after : List ℤ) → FileSummed newer (BLines m) list r after → (r' : Summed) (after' : List ℤ) → FileSummed newer 0 list r' after' → (r ≡ r') × (after ≡ after')
+  pub updated_is_fresh : (r : Result ℕ Refusal) (after : List ℤ) → FileSummed newer (BLines m) list r after → (r' : Result ℕ Refusal) (after' : List ℤ) → FileSummed newer 0 list r' after' → (r ≡ r') × (after ≡ after')
   updated_is_fresh r after w r' after' w' =
-      let told : summed_told r ≡ summed_told r' = w.told ∙ ap (λ (s : Said Flight). and_then s λ h. says (runs_of (fixes_in h))) same_said ∙ sym w'.told in (
-        summed_one r r' told,
+      let told : result_told r ≡ result_told r' = w.told ∙ ap (λ (s : Said Flight). and_then s λ h. says (runs_of (fixes_in h))) same_said ∙ sym w'.told in (
+        result_one r r' told,
         w.numbers ∙ ap (updated_by newer (BLines m) list) same_said ∙ both (flight_summed newer 0 (length list)) refl ∙ sym w'.numbers,
       )

@@ -1,9 +1,9 @@
 -- A file that has grown by B lines behind its last timed line: its layouts are those of the older file, and its fixes begin with the older file's. Assumes nothing.
+use Rattle.std.specs.Prelude.{None}
 use Prim.Native.Nat.{ℕ}
 use Prim.Native.Char.{code}
 use mathlib.Core.Bool.{Bool, true, false, cond}
 use mathlib.Core.List.{List, [], ◌∷◌, ◌++◌, append_assoc, append-nil}
-use mathlib.Core.Option.{none}
 use mathlib.Core.Path.{◌≡◌, refl, sym, ap, ◌∙◌}
 use lib.Dec.{eqb, leb}
 use lib.ListN.{length, get_or}
@@ -38,7 +38,7 @@ module _ (seal : Seal) (f : Flight) where
     pub stands : Stands ls state
     pub flight : state.flight ≡ f
 
-  ended : (k : Lines) (ls : List (List ℕ)) (st : State) → Stands ls st → run seal none st k ≡ says f → Ended (ls ++ texts_of k)
+  ended : (k : Lines) (ls : List (List ℕ)) (st : State) → Stands ls st → run seal None st k ≡ says f → Ended (ls ++ texts_of k)
   unfolding run finish
   ended end ls st w e =
       let a = need_inv (eqb st.points 0) _ (says f) _ refuses_says e in
@@ -47,10 +47,10 @@ module _ (seal : Seal) (f : Flight) where
       rw append-nil (record { state = st; stands = w; flight = cc })
   ended (broken n) ls st w e = absurd (refuses_says e)
   ended (line t k) ls st w e =
-      let g = ran seal none st t k f e in
+      let g = ran seal None st t k f e in
       rw (append_assoc ls (t ∷ []) (texts_of k)) at (ended k (ls ++ (t ∷ [])) g.after (stands_next ls t st g.after w g.judges) g.runs)
 
-  layout_told : (file : List ℕ) → verdict seal file none ≡ says f → f.layouts.b ≡ laid (entries_told family.B (texts_of (lines_of file)))
+  layout_told : (file : List ℕ) → verdict seal file None ≡ says f → f.layouts.b ≡ laid (entries_told family.B (texts_of (lines_of file)))
   unfolding verdict
   layout_told file e =
       let a = need_inv (leb 1 (length file)) _ (says f) _ refuses_says e in
@@ -121,7 +121,7 @@ pub record Longer (older newer : List ℕ) (f g : Flight) : Type 0 where
   pub others : List Record
   pub is : track_of newer g.layouts.b ≡ track_of older f.layouts.b ++ others
 
-pub longer : (seal : Seal) (older newer : List ℕ) (f g : Flight) → verdict seal older none ≡ says f → verdict seal newer none ≡ says g → Grown (texts_of (lines_of older)) (texts_of (lines_of newer))
+pub longer : (seal : Seal) (older newer : List ℕ) (f g : Flight) → verdict seal older None ≡ says f → verdict seal newer None ≡ says g → Grown (texts_of (lines_of older)) (texts_of (lines_of newer))
     → Longer older newer f g
 longer seal older newer f g a b x =
     let l : g.layouts.b ≡ f.layouts.b = layout_told seal g newer b ∙ ap laid (same_lines (texts_of (lines_of older)) (texts_of (lines_of newer)) x) ∙ sym (layout_told seal f older a) in

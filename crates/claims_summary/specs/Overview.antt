@@ -1,9 +1,10 @@
 -- Document 02, 'A summary beside each flight': the words of what is demanded of a summary, said over the fixes and the lines of the file.
-use Rattle.std.specs.Prelude.{ℕ, ◌+◌, ◌-◌, ◌/◌, ◌≤◌, ◌<◌, List, [], ◌∷◌, ◌++◌, ◌≡◌, ℤ, pos, length, get_or, take, drop, replicate}
+use Rattle.rules.specs.declared.Refusal.{Refusal}
+use Rattle.std.specs.Prelude.{ℕ, ◌+◌, ◌-◌, ◌/◌, ◌≤◌, ◌<◌, List, [], ◌∷◌, ◌++◌, ◌≡◌, ℤ, pos, length, get_or, take, drop, replicate, Result}
 use Prim.Native.Char.{code}
 use Rattle.rules.specs.Choice.{part}
 use Rattle.rules.specs.Fixes.{plain_time}
-use Rattle.rules.specs.Refusals.{says}
+use Rattle.rules.specs.Refusals.{says, result_told}
 use Rattle.grammar.specs.Coming.{IsTimed}
 use Rattle.grammar.specs.Grammar.{Meets, lines_in}
 use Rattle.track_rules.specs.Track.{zero_record}
@@ -12,9 +13,7 @@ use Rattle.track_rules.specs.declared.Record.{Record}
 use Rattle.claims_track.specs.Mapped.{BLines, IsRecord}
 use Rattle.summary_span.specs.Extremes.{Outmost, above, below}
 use Rattle.summary_reckon.specs.Summary.{heights, marked, latitudes, longitudes, runs_of, run_at, size_of}
-use Rattle.summary_reckon.specs.Reckoned.{summed_told}
 use Rattle.summary.specs.Summaries.{FileSummed}
-use Rattle.summary_reckon.specs.declared.Summed.{Summed}
 
 -- ---- the answer
 
@@ -106,9 +105,9 @@ earlier old list = part 12 (size_of (old / 256)) list
 -- "If those are of an older file with that many fixes": the earlier runs in the list are those of some summary that was made afresh of the older file
 pub record Kept (older : List ℕ) (old : ℕ) (list : List ℤ) : Type 0 where
   pub lent : List ℤ
-  pub answer : Summed
+  pub answer : Result ℕ Refusal
   pub made : List ℤ
   pub afresh : FileSummed older 0 lent answer made
   pub runs : ℕ
-  pub accepted : summed_told answer ≡ says runs
+  pub accepted : result_told answer ≡ says runs
   pub same : earlier old list ≡ earlier old made

@@ -1,8 +1,8 @@
 -- The day of a walk is the number of falls over 43,200 along the times of the lines that it has passed. Assumes nothing.
+use Rattle.std.specs.Prelude.{Some}
 use Prim.Native.Nat.{ℕ, ◌+◌, ◌-◌}
 use mathlib.Core.Bool.{Bool, true, false, cond}
 use mathlib.Core.List.{List, [], ◌∷◌, ◌++◌}
-use mathlib.Core.Option.{some}
 use mathlib.Core.Path.{◌≡◌, refl, sym, ◌∙◌}
 use native.Mathlib.Omega.{arith}
 use borrow.Author.Tests.{lt-ltb, le-ltb, leb-true, leb-false, ltb-true, ltb-false}
@@ -85,7 +85,7 @@ times_same l (untimed b w) a = untimed b (times_same l w a)
 
 -- a line that runs in time order has a time
 abbrev pub InTime : List ℕ → Type 0
-InTime l = is_timed (role_in l) ≡ true → (t : ℕ) × (time_at l 1 ≡ some t)
+InTime l = is_timed (role_in l) ≡ true → (t : ℕ) × (time_at l 1 ≡ Some t)
 
 -- a walk that has passed these lines
 pub record Walked (before : List (List ℕ)) (w : Walk) : Type 0 where

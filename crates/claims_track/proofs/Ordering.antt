@@ -1,10 +1,10 @@
 -- Along a track days never fall, and within a day times never fall. Assumes nothing.
+use Rattle.std.specs.Prelude.{Some}
 use Prim.Native.Nat.{ℕ, ◌-◌, ◌≤◌, ◌<◌}
 use Prim.Native.Char.{code}
 use mathlib.Core.Bool.{Bool, true, false, cond}
 use mathlib.Core.List.{List, ◌++◌}
 use mathlib.Core.Logic.{◌⊎◌, inl, inr}
-use mathlib.Core.Option.{some}
 use mathlib.Core.Path.{◌≡◌, refl, sym, ◌∙◌}
 use native.Mathlib.Omega.{arith}
 use borrow.Author.Tests.{eqb-true, eqb-false, leb-true}
@@ -73,7 +73,7 @@ module _ (seal : Seal) (layouts : Layouts) (f : Flight) where
   Behind w r = Later w.day w.clock r.day (plain_time r.fix)
 
   -- the time of a line that reads as a fix is the fix's plain time
-  plain_time_lem : (t : List ℕ) (g : Fix) → fix_said t layout ≡ says g → time_on t ≡ some (plain_time g)
+  plain_time_lem : (t : List ℕ) (g : Fix) → fix_said t layout ≡ says g → time_on t ≡ Some (plain_time g)
   unfolding fields_of
   plain_time_lem t g e = (fixed layout t g e).time
 

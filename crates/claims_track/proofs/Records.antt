@@ -1,9 +1,9 @@
 -- Record n of a track is the nth B line's. Assumes nothing.
+use Rattle.std.specs.Prelude.{None, Some}
 use Prim.Native.Nat.{ℕ, zero, suc, ◌+◌, ◌<◌}
 use Prim.Native.Char.{code}
 use mathlib.Core.Bool.{Bool, true, false, cond}
 use mathlib.Core.List.{List, [], ◌∷◌, ◌++◌, append_assoc}
-use mathlib.Core.Option.{none, some}
 use mathlib.Core.Path.{◌≡◌, refl, ap, ◌∙◌}
 use native.Mathlib.Omega.{arith}
 use borrow.Author.Tests.{eqb-true, eqb-false}
@@ -44,7 +44,7 @@ use Rattle.claims_track.proofs.Days.{InTime, Walked, walked_on}
 
 -- ---- a line that passes has its time, which does not fall but to the next day
 
-left_timed : (l : List ℕ) (m : State) {r : Role} {after : State} → Leaves l m r after → is_timed r ≡ true → (t : ℕ) × (time_at l 1 ≡ some t) × Onward m.clock t
+left_timed : (l : List ℕ) (m : State) {r : Role} {after : State} → Leaves l m r after → is_timed r ≡ true → (t : ℕ) × (time_at l 1 ≡ Some t) × Onward m.clock t
 left_timed l m (passes.opens e) n = absurd (false_true n)
 left_timed l m (passes.date d k e) n = absurd (false_true n)
 left_timed l m (passes.header k e) n = absurd (false_true n)
@@ -59,7 +59,7 @@ left_timed l m (passes.seals e) n = absurd (false_true n)
 left_timed l m (passes.remark e) n = absurd (false_true n)
 left_timed l m (passes.other e) n = absurd (false_true n)
 
-pub passed_timed : (l : List ℕ) (st after : State) → judge l st ≡ says after → is_timed (role_in l) ≡ true → (t : ℕ) × (time_at l 1 ≡ some t) × Onward st.clock t
+pub passed_timed : (l : List ℕ) (st after : State) → judge l st ≡ says after → is_timed (role_in l) ≡ true → (t : ℕ) × (time_at l 1 ≡ Some t) × Onward st.clock t
 passed_timed l st after e n = left_timed l _ (judged l st after e).left n
 
 pub passed_in_time : (l : List ℕ) (st after : State) → judge l st ≡ says after → InTime l
@@ -73,7 +73,7 @@ module _ (seal : Seal) (layouts : Layouts) (f : Flight) where
 
   -- lines that pass and read
   pub record Good (st : State) (k : Lines) : Type 0 where
-    pub runs : run seal none st k ≡ says f
+    pub runs : run seal None st k ≡ says f
     pub reads : Each (ReadsLine layouts) (texts_of k)
 
   pub record Next (st : State) (t : List ℕ) (ls : Lines) : Type 0 where
@@ -84,7 +84,7 @@ module _ (seal : Seal) (layouts : Layouts) (f : Flight) where
 
   pub next : (st : State) (t : List ℕ) (ls : Lines) → Good st (line t ls) → Next st t ls
   next st t ls w =
-      let g = ran seal none st t ls f w.runs in
+      let g = ran seal None st t ls f w.runs in
       record {
         after = g.after;
         judges = g.judges;

@@ -1,14 +1,15 @@
 -- The two ways to the line of a record: by its number in a table that the check filled, and by stepping from line to line. Assumes nothing.
+use Rattle.std.specs.Prelude.{Some}
 use Prim.Native.Nat.{ℕ, suc, ◌+◌, ◌-◌}
 use mathlib.Core.List.{List, [], ◌∷◌, ◌++◌}
-use mathlib.Core.Option.{some}
 use mathlib.Core.Path.{◌≡◌, ap, subst, ◌∙◌}
 use native.Mathlib.Omega.{arith}
 use lib.ListN.{length, get_or, length-append}
 use lib.Seq.{get_or-append_seam}
 use Rattle.rules.specs.Files.{verdict, good_lines, table_after}
 use Rattle.rules.specs.Refusals.{says}
-use Rattle.rules.specs.Split.{Lines, end, broken, line, lines_of, Bounds, bounds_of, line_text}
+use Rattle.rules.specs.declared.Bounds.{Bounds}
+use Rattle.rules.specs.Split.{Lines, end, broken, line, lines_of, bounds_of, line_text}
 use Rattle.rules.specs.declared.Flight.{Flight}
 use Rattle.rules.specs.declared.Seal.{Seal}
 use Rattle.rules_laws.proofs.Counted.{line_by_number, lines_counted}
@@ -17,12 +18,12 @@ use Rattle.claims_track.specs.Mapped.{Reached, first, further}
 
 -- ---- by the table
 
-pub by_table : (seal : Seal) (file table : List ℕ) (f : Flight) → verdict seal file (some (length table)) ≡ says f
+pub by_table : (seal : Seal) (file table : List ℕ) (f : Flight) → verdict seal file (Some (length table)) ≡ says f
     → (before : List (List ℕ)) (l : List ℕ) (after : List (List ℕ)) → texts_of (lines_of file) ≡ before ++ (l ∷ after)
     → line_text file (bounds_of file (table_after seal file table) (length before + 1)) ≡ l
 unfolding good_lines
 by_table seal file table f e before l after o =
-    let n : f.lines ≡ length before + suc (length after) = lines_counted seal file (some (length table)) f e ∙ ap length o ∙ length-append before (l ∷ after) in
+    let n : f.lines ≡ length before + suc (length after) = lines_counted seal file (Some (length table)) f e ∙ ap length o ∙ length-append before (l ∷ after) in
     let back : length before + 1 - 1 ≡ length before = omega arith in
     (line_by_number seal file table (length before + 1) (omega arith) (rw e (omega (arith, n)))).bytes
     ∙ rw back (ap (λ (ls : List (List ℕ)). get_or ls (length before) []) o)

@@ -1,7 +1,8 @@
 -- The records of a track in the list, put together: each is its B line's, they are in order, and the line is found by table and by steps. Assumes nothing.
+use Rattle.rules.specs.declared.Refusal.{Refusal}
+use Rattle.std.specs.Prelude.{None, Result, Some}
 use Prim.Native.Nat.{ℕ, ◌+◌, ◌<◌}
 use mathlib.Core.List.{List, [], ◌∷◌, ◌++◌}
-use mathlib.Core.Option.{none, some}
 use mathlib.Core.Path.{◌≡◌, refl, sym, ◌∙◌, ap}
 use native.Mathlib.Nat.{zero-add}
 use native.Mathlib.Omega.{arith}
@@ -11,7 +12,7 @@ use lib.Seq.{take-append_seam, drop-append_seam}
 use Rattle.rules.specs.Files.{verdict, good_lines, table_after}
 use Rattle.rules.specs.Order.{start}
 use Rattle.rules.specs.Reads.{fix_said}
-use Rattle.rules.specs.Refusals.{number, says, refuses}
+use Rattle.rules.specs.Refusals.{number, says, refuses, result_told}
 use Rattle.rules.specs.Split.{lines_of, bounds_of, line_text}
 use Rattle.rules.specs.Walk.{set_out}
 use Rattle.rules.specs.declared.Flight.{Flight}
@@ -27,9 +28,7 @@ use Rattle.grammar.proofs.Reading.{lines_are}
 use Rattle.track_rules.specs.Track.{zero_record}
 use Rattle.track_rules.specs.Track.{track_seal, track_of}
 use Rattle.track_rules.specs.declared.Record.{Record}
-use Rattle.track_course.specs.Courses.{tracked_told}
 use Rattle.track.specs.Tracks.{FileTracked}
-use Rattle.track_course.specs.declared.Tracked.{Tracked}
 use Rattle.track.proofs.Accepted.{texts_read}
 use Rattle.claims_track.specs.Mapped.{IsRecord, Ordered, Reached}
 use Rattle.claims_track.proofs.Answers.{Stands, stands}
@@ -39,14 +38,14 @@ use Rattle.claims_track.proofs.Records.{Good, record_at}
 use Rattle.claims_track.proofs.Ways as ways
 
 -- an accepted file's lines pass and read
-pub all_good : (file : List ℕ) (f : Flight) → verdict track_seal file none ≡ says f → Good track_seal f.layouts f start (lines_of file)
+pub all_good : (file : List ℕ) (f : Flight) → verdict track_seal file None ≡ says f → Good track_seal f.layouts f start (lines_of file)
 unfolding verdict
 all_good file f e =
     let a = need_inv (leb 1 (length file)) _ (says f) _ refuses_says e in
     let b = need_inv (leb (length file) 16777216) _ (says f) _ refuses_says a.1 in
     record { runs = b.1; reads = texts_read track_seal file f e }
 
-module _ (file : List ℕ) (list : List Record) (r : Tracked) (after : List Record) (w : FileTracked file list r after) (n : ℕ) (e : tracked_told r ≡ says n) where
+module _ (file : List ℕ) (list : List Record) (r : Result ℕ Refusal) (after : List Record) (w : FileTracked file list r after) (n : ℕ) (e : result_told r ≡ says n) where
   s : Stands file list r after w n
   s = stands file list r after w n e
 
@@ -69,7 +68,7 @@ module _ (file : List ℕ) (list : List Record) (r : Tracked) (after : List Reco
   -- what the grammar finds of the file is what the check says
   flight_is : (m : Meets track_seal file) → flight_of m ≡ s.flight
   flight_is m =
-      let a = (accepted_as track_seal file none (flight_of m)).1 (m, tt, refl) in
+      let a = (accepted_as track_seal file None (flight_of m)).1 (m, tt, refl) in
       let b = s.accepted in
       let z : says (flight_of m) ≡ says s.flight = sym a ∙ b in
       cc
@@ -92,7 +91,7 @@ module _ (file : List ℕ) (list : List Record) (r : Tracked) (after : List Reco
       rw u (in_order track_seal s.flight.layouts s.flight (lines_of file) set_out start (all_good file s.flight s.accepted) both_start).1
 
   -- with a table the check says the same, where it says anything
-  same_flight : (table : List ℕ) (f : Flight) → verdict track_seal file (some (length table)) ≡ says f → f ≡ s.flight
+  same_flight : (table : List ℕ) (f : Flight) → verdict track_seal file (Some (length table)) ≡ says f → f ≡ s.flight
   unfolding tabled good_lines
   same_flight table f g =
       let t : tabled (length table) (says s.flight) ≡ says f = ap (tabled (length table)) (sym s.accepted) ∙ sym (table_adds track_seal file (length table)) ∙ g in
@@ -100,7 +99,7 @@ module _ (file : List ℕ) (list : List Record) (r : Tracked) (after : List Reco
       let z : says s.flight ≡ says f = n.1 in
       cc
 
-  pub by_table : (m : Meets track_seal file) (table : List ℕ) (f : Flight) → verdict track_seal file (some (length table)) ≡ says f → (i : ℕ)
+  pub by_table : (m : Meets track_seal file) (table : List ℕ) (f : Flight) → verdict track_seal file (Some (length table)) ≡ says f → (i : ℕ)
       → (x : IsRecord m.layouts.b (lines_in m.parts) i (get_or after i zero_record))
       → (line_text file (bounds_of file (table_after track_seal file table) (get_or after i zero_record).line) ≡ x.line) × (fix_said x.line f.layouts.b ≡ says (get_or after i zero_record).fix)
   by_table m table f g i x =

@@ -1,13 +1,13 @@
 -- Document 02, 'The whole track for the map': the words of what is demanded of a track, said over the lines of the file, in the grammar's words.
-use Rattle.std.specs.Prelude.{ℕ, ◌+◌, ◌≤◌, ◌<◌, cond, List, [], ◌∷◌, ◌++◌, ◌⊎◌, ◌≡◌, ltb, length}
+use Rattle.std.specs.Prelude.{ℕ, ◌+◌, ◌≤◌, ◌<◌, cond, List, [], ◌∷◌, ◌++◌, ◌⊎◌, ◌≡◌, ltb, length, Some}
 use Prim.Native.Char.{code}
-use Rattle.std.proofs.Math.Option.{some}
 use Rattle.rules.specs.Choice.{part, byte, Each}
 use Rattle.rules.specs.Fields.{time_text}
 use Rattle.rules.specs.Fixes.{plain_time}
 use Rattle.rules.specs.Reads.{fix_said}
 use Rattle.rules.specs.Refusals.{says}
-use Rattle.rules.specs.Split.{Bounds, step_at}
+use Rattle.rules.specs.declared.Bounds.{Bounds}
+use Rattle.rules.specs.Split.{step_at}
 use Rattle.rules.specs.declared.Layout.{Layout}
 use Rattle.grammar_words.specs.Values.{IsTime}
 use Rattle.grammar.specs.Coming.{IsTimed}
@@ -80,5 +80,5 @@ Ordered (r ∷ rs) = Each (NotBefore r) rs × Ordered rs
 
 -- n steps of the reading place, from a place on, come to this line
 pub data Reached (file : List ℕ) : ℕ → ℕ → List ℕ → Type 0 where
-  first : {at next : ℕ} (b : Bounds) → step_at file at ≡ says (record { found = some b; next = next }) → Reached file at 1 (part b.from b.to file)
-  further : {at next n : ℕ} {l : List ℕ} (b : Bounds) → step_at file at ≡ says (record { found = some b; next = next }) → Reached file next n l → Reached file at (n + 1) l
+  first : {at next : ℕ} (b : Bounds) → step_at file at ≡ says (record { found = Some b; next = next }) → Reached file at 1 (part b.from b.to file)
+  further : {at next n : ℕ} {l : List ℕ} (b : Bounds) → step_at file at ≡ says (record { found = Some b; next = next }) → Reached file next n l → Reached file at (n + 1) l
