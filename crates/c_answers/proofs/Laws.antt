@@ -1,4 +1,5 @@
 -- An answer that is given, or is of another length; what stands beside it; and numbers stored one after the other. Assumes nothing.
+use Rattle.std.specs.Prelude.{min}
 use Prim.Native.Nat.{ℕ, zero, suc, ◌+◌, ◌-◌, ◌≤◌, ◌<◌}
 use native.Mathlib.Numerals.{add-one}
 use native.Mathlib.Omega.{arith}
@@ -30,10 +31,11 @@ filled_more (suc n) [] i h k = absurd (omega arith)
 filled_more (suc n) (v ∷ l) zero h k = refl
 filled_more (suc n) (v ∷ l) (suc i) h k = ap (λ (m : List ℕ). v ∷ m) (filled_more n l i (omega arith) (omega arith))
 
-filled_enough : (n : ℕ) (l : List ℕ) (i : ℕ) → n ≤ i → filled n (take i l) ≡ filled n l
+filled_enough : (n : ℕ) (l : List ℕ) (i : ℕ) → min (length l) n ≤ i → filled n (take i l) ≡ filled n l
 filled_enough zero l i h = refl
-filled_enough (suc n) l zero h = absurd (omega arith)
+filled_enough (suc n) [] zero h = refl
 filled_enough (suc n) [] (suc i) h = refl
+filled_enough (suc n) (v ∷ l) zero h = absurd (omega arith)
 filled_enough (suc n) (v ∷ l) (suc i) h = ap (λ (m : List ℕ). v ∷ m) (filled_enough n l i (omega arith))
 
 module _ (all values : List ℕ) (i : ℕ) (e : all ≡ filled size (0 ∷ 0 ∷ take i values)) where
@@ -44,11 +46,8 @@ module _ (all values : List ℕ) (i : ℕ) (e : all ≡ filled size (0 ∷ 0 ∷
       rw (e, m, add-one) (ap (λ (m : List ℕ). 0 ∷ 0 ∷ m) (filled_more (size - 2) values i h k))
 
   -- all of them, or as many as there is room for
-  pub values_all : length values ≤ i → record { number = 0; values = all } ≡ accepting values
-  values_all h = rw (e, take_all i values h)
-
-  pub values_most : size - 2 ≤ i → record { number = 0; values = all } ≡ accepting values
-  values_most h = rw (e, filled_enough (size - 2) values i h)
+  pub values_all : min (length values) (size - 2) ≤ i → record { number = 0; values = all } ≡ accepting values
+  values_all h = rw (e, filled_enough (size - 2) values i h)
 
 -- ---- an answer given, or of another length
 

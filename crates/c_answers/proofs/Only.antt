@@ -1,12 +1,12 @@
 -- For each promise of this crate: two outcomes that meet it are the same. Assumes nothing.
+use Rattle.rules.specs.declared.Presence.{Presence}
+use Rattle.std.specs.Prelude.{Result}
 use Prim.Native.Nat.{ℕ}
 use mathlib.Core.Bool.{Bool}
 use mathlib.Core.List.{List}
 use mathlib.Core.Path.{◌≡◌, sym, ◌∙◌}
-use Rattle.rules.specs.declared.PresenceRead.{PresenceRead}
 use Rattle.rules.specs.declared.Refusal.{Refusal}
-use Rattle.rules.specs.declared.TimeRead.{TimeRead}
-use Rattle.c_answers.specs.Answers.{Answered, AnsweredBeside, AnswerGiven, RefusalNumber, RefusalNumbers, ValueNumbers, TimeNumbers, PresenceNumbers, BytesBetween}
+use Rattle.c_answers.specs.Answers.{Answered, AnsweredBeside, AnswerGiven, RefusalNumber, RefusalNumbers, ValueNumbers, CountNumbers, TimeNumbers, PresenceNumbers, BytesBetween}
 use Rattle.c_answers.specs.declared.Numbers.{Numbers}
 
 module _ (answer : List ℕ) (r r' : ℕ) (after after' : List ℕ) where
@@ -33,10 +33,13 @@ only_refusal_numbers w r r' e e' = e ∙ sym e'
 pub only_value_numbers : (values : List ℕ) (r r' : Numbers) → ValueNumbers values r → ValueNumbers values r' → r ≡ r'
 only_value_numbers values r r' e e' = e ∙ sym e'
 
-pub only_time_numbers : (read : TimeRead) (r r' : Numbers) → TimeNumbers read r → TimeNumbers read r' → r ≡ r'
+pub only_count_numbers : (read : Result ℕ Refusal) (r r' : Numbers) → CountNumbers read r → CountNumbers read r' → r ≡ r'
+only_count_numbers read r r' e e' = e ∙ sym e'
+
+pub only_time_numbers : (read : Result ℕ Refusal) (r r' : Numbers) → TimeNumbers read r → TimeNumbers read r' → r ≡ r'
 only_time_numbers read r r' e e' = e ∙ sym e'
 
-pub only_presence_numbers : (read : PresenceRead) (r r' : Numbers) → PresenceNumbers read r → PresenceNumbers read r' → r ≡ r'
+pub only_presence_numbers : (read : Result Presence Refusal) (r r' : Numbers) → PresenceNumbers read r → PresenceNumbers read r' → r ≡ r'
 only_presence_numbers read r r' e e' = e ∙ sym e'
 
 pub only_bytes_between : (from to r r' : ℕ) → BytesBetween from to r → BytesBetween from to r' → r ≡ r'

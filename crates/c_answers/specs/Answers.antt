@@ -1,14 +1,8 @@
 -- What a call from C returns and leaves in the lent answer: the paper's number, the line and byte of a refusal, and the values as plain numbers.
-use Rattle.std.specs.Prelude.{ℕ, zero, suc, ◌-◌, Bool, cond, List, [], ◌∷◌, ◌≡◌, eqb, length}
-use Rattle.rules.specs.Refusals.{Said, says, refuses, number}
-use Rattle.rules.specs.Layouts.{presence_told}
-use Rattle.rules.specs.Reads.{time_read_told}
-use Rattle.rules.specs.declared.Outcome.{Outcome}
-use Rattle.rules.specs.declared.Outcome.TheVariants as outcome
+use Rattle.std.specs.Prelude.{ℕ, zero, suc, ◌-◌, Bool, cond, List, [], ◌∷◌, ◌≡◌, eqb, length, Err, Ok, Result, ⊤}
+use Rattle.rules.specs.Refusals.{Said, says, refuses, number, result_told}
 use Rattle.rules.specs.declared.Presence.{Presence}
-use Rattle.rules.specs.declared.PresenceRead.{PresenceRead}
 use Rattle.rules.specs.declared.Refusal.{Refusal}
-use Rattle.rules.specs.declared.TimeRead.{TimeRead}
 use Rattle.c_answers.specs.declared.Numbers.{Numbers}
 
 -- how many numbers an answer has
@@ -42,9 +36,9 @@ module _ {A : Type 0} where
   number_of (refuses n l b) = n
 
 -- an outcome with the values that stand beside it
-abbrev pub outcome_numbers : List ℕ → Outcome → Numbers
-outcome_numbers values outcome.Accepted = accepting values
-outcome_numbers values (outcome.Refused w) = refusing (number w.reason) w.line w.byte
+abbrev pub outcome_numbers : List ℕ → Result ⊤ Refusal → Numbers
+outcome_numbers values (Ok tt) = accepting values
+outcome_numbers values (Err w) = refusing (number w.reason) w.line w.byte
 
 module _ {A : Type 0} where
   -- what is lent for writing has as many numbers as it is to have
@@ -60,6 +54,10 @@ pub record Answered (fits : Bool) (answer : List ℕ) (n : Numbers) (r : ℕ) (a
 pub record AnsweredBeside {A : Type 0} (fits : Bool) (answer : List ℕ) (n : Numbers) (before given : List A) (r : ℕ) (answer_now : List ℕ) (now : List A) : Type 0 where
   pub told : Answered fits answer n r answer_now
   pub lent : now ≡ cond fits given before
+
+-- a count, a place
+abbrev pub count_numbers : ℕ → List ℕ
+count_numbers n = n ∷ []
 
 -- seconds of the day
 abbrev pub time_numbers : ℕ → List ℕ
@@ -83,11 +81,14 @@ RefusalNumbers w r = r ≡ refusing (number w.reason) w.line w.byte
 abbrev pub ValueNumbers : List ℕ → Numbers → Type 0
 ValueNumbers values r = r ≡ accepting values
 
-abbrev pub TimeNumbers : TimeRead → Numbers → Type 0
-TimeNumbers read r = r ≡ in_numbers time_numbers (time_read_told read)
+abbrev pub CountNumbers : Result ℕ Refusal → Numbers → Type 0
+CountNumbers read r = r ≡ in_numbers count_numbers (result_told read)
 
-abbrev pub PresenceNumbers : PresenceRead → Numbers → Type 0
-PresenceNumbers read r = r ≡ in_numbers presence_numbers (presence_told read)
+abbrev pub TimeNumbers : Result ℕ Refusal → Numbers → Type 0
+TimeNumbers read r = r ≡ in_numbers time_numbers (result_told read)
+
+abbrev pub PresenceNumbers : Result Presence Refusal → Numbers → Type 0
+PresenceNumbers read r = r ≡ in_numbers presence_numbers (result_told read)
 
 abbrev pub BytesBetween : ℕ → ℕ → ℕ → Type 0
 BytesBetween from to r = r ≡ to - from

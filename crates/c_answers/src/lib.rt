@@ -1,10 +1,9 @@
 // The lent answer of a call from C: its numbers, of which the first two tell a refusal's line and byte and the others the values.
 #![tactic(auto)]
 
-ghost use Rattle.std.specs.Prelude.{◌≡◌, length};
-ghost use Rattle.c_answers.specs.Answers.{size, RefusalNumber, RefusalNumbers, ValueNumbers, TimeNumbers, PresenceNumbers, AnswerGiven, BytesBetween};
+ghost use Rattle.c_answers.specs.Answers.{RefusalNumber, RefusalNumbers, ValueNumbers, CountNumbers, TimeNumbers, PresenceNumbers, AnswerGiven, BytesBetween};
 
-use rules::{PresenceRead, Refusal, TimeRead};
+use rules::{Presence, Refusal};
 
 // How many numbers an answer has.
 pub const SIZE: usize = 16;
@@ -13,22 +12,10 @@ pub const SIZE: usize = 16;
 const VALUES: usize = 14;
 
 // The number that a call returns, and the numbers of its answer.
-#[derive(Clone, Copy)]
+#[derive(Clone, Copy, Debug, PartialEq, Eq)]
 pub struct Numbers {
     pub number: u32,
     pub values: [u64; SIZE],
-}
-
-// The numbers put into the answer.
-fn store(answer: &mut [u64], values: [u64; SIZE])
-    requires { length answer.old ≡ size }
-    ensures { answer.new ≡ values }
-{
-    let mut i = 0;
-    while i < SIZE {
-        answer[i] = values[i];
-        i += 1;
-    }
 }
 
 // The answer given, where it has its numbers; else 17, and nothing is changed.
@@ -38,8 +25,7 @@ pub fn give(answer: &mut [u64], n: Numbers) -> u32
     if answer.len() != SIZE {
         return 17;
     }
-    let values = n.values;
-    store(answer, values);
+    answer.copy_from_slice(&n.values);
     n.number
 }
 
@@ -47,20 +33,33 @@ pub fn give(answer: &mut [u64], n: Numbers) -> u32
 pub fn number(why: Refusal) -> u32
     ensures { RefusalNumber why result }
 {
-    let reason = why.reason;
-    text_refusal::number(reason) as u32
+    text_refusal::number(why.reason) as u32
 }
 
 // A refusal in numbers.
 pub fn refused(why: Refusal) -> Numbers
     ensures { RefusalNumbers why result }
 {
-    let number = number(why);
-    let line = why.line as u64;
-    let byte = why.byte as u64;
     Numbers {
-        number,
-        values: [line, byte, 0, 0, 0, 0, 0, 0, 0, 0, 0, 0, 0, 0, 0, 0],
+        number: number(why),
+        values: [
+            why.line as u64,
+            why.byte as u64,
+            0,
+            0,
+            0,
+            0,
+            0,
+            0,
+            0,
+            0,
+            0,
+            0,
+            0,
+            0,
+            0,
+            0,
+        ],
     }
 }
 
@@ -69,16 +68,8 @@ pub fn accepted(values: &[u64]) -> Numbers
     ensures { ValueNumbers values.now result }
 {
     let mut all = [0; SIZE];
-    let mut i = 0;
-    while i < VALUES {
-        if values.len() <= i {
-            return Numbers {
-                number: 0,
-                values: all,
-            };
-        }
+    for i in 0..values.len().min(VALUES) {
         all[i + 2] = values[i];
-        i += 1;
     }
     Numbers {
         number: 0,
@@ -86,23 +77,33 @@ pub fn accepted(values: &[u64]) -> Numbers
     }
 }
 
+// One number, as a count or a place, in numbers.
+pub fn count(read: Result<usize, Refusal>) -> Numbers
+    ensures { CountNumbers read result }
+{
+    match read {
+        Ok(n) => accepted(&[n as u64]),
+        Err(why) => refused(why),
+    }
+}
+
 // Seconds of the day in numbers.
-pub fn time(read: TimeRead) -> Numbers
+pub fn time(read: Result<u32, Refusal>) -> Numbers
     ensures { TimeNumbers read result }
 {
     match read {
-        TimeRead::Secs(t) => accepted(&[t as u64]),
-        TimeRead::Refused(why) => refused(why),
+        Ok(t) => accepted(&[t as u64]),
+        Err(why) => refused(why),
     }
 }
 
 // Which listed codes a layout carries, in numbers: the word, and how many columns.
-pub fn presence(read: PresenceRead) -> Numbers
+pub fn presence(read: Result<Presence, Refusal>) -> Numbers
     ensures { PresenceNumbers read result }
 {
     match read {
-        PresenceRead::Carries(p) => accepted(&[p.word as u64, p.count as u64]),
-        PresenceRead::Refused(why) => refused(why),
+        Ok(p) => accepted(&[p.word as u64, p.count as u64]),
+        Err(why) => refused(why),
     }
 }
 
@@ -110,8 +111,5 @@ pub fn presence(read: PresenceRead) -> Numbers
 pub fn between(from: usize, to: usize) -> u64
     ensures { BytesBetween from to result }
 {
-    if to < from {
-        return 0;
-    }
-    (to - from) as u64
+    to.saturating_sub(from) as u64
 }

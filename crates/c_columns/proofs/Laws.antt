@@ -1,4 +1,7 @@
 -- A column with its number: the answer, and what stands beside it; and a row of the table, which is there or is not. Assumes nothing.
+use Rattle.rules.specs.declared.Signed.{Signed}
+use Rattle.rules.specs.declared.Refusal.{Refusal}
+use Rattle.std.specs.Prelude.{Result}
 use Prim.Native.Nat.{ℕ, suc, ◌≤◌, ◌<◌}
 use mathlib.Core.List.{List}
 use mathlib.Core.Path.{◌≡◌}
@@ -8,10 +11,8 @@ use lib.IntN.{ℤ}
 use lib.ListN.{length, get_or}
 use Rattle.rules.specs.Choice.{bytes}
 use Rattle.rules.specs.Listed.{listed, unlisted}
-use Rattle.rules.specs.Reads.{number_read_told}
-use Rattle.rules.specs.Refusals.{number}
+use Rattle.rules.specs.Refusals.{number, result_told}
 use Rattle.rules.specs.declared.Listed.{Listed}
-use Rattle.rules.specs.declared.NumberRead.{NumberRead}
 use Rattle.rules.specs.declared.Reason.TheVariants.{BadValue}
 use Rattle.c_answers.specs.Answers.{size, AnswerGiven, accepting, refusing, in_numbers}
 use Rattle.c_columns.specs.Values.{signed_numbers, integers_of}
@@ -28,10 +29,10 @@ module _ (line l name answer : List ℕ) (number : List ℤ) where
   pub number_no_number : length answer ≡ size → (length number ≡ 1 → ⊥) → NumberAnswered line l name answer number 17 answer number
   number_no_number h g = record { told = not_fitting _ _ _ (one_room 1 answer number h g); value = rw (one_room 1 answer number h g) }
 
-  pub number_answered : (read : NumberRead) (n : Numbers) (r : ℕ) (answer_now : List ℕ) (number_now : List ℤ) → length answer ≡ size → length number ≡ 1 → number_read_told read ≡ number_by line l name → n ≡ in_numbers signed_numbers (number_read_told read) → number_now ≡ integers_of (number_read_told read) → AnswerGiven answer n r answer_now → NumberAnswered line l name answer number r answer_now number_now
+  pub number_answered : (read : Result Signed Refusal) (n : Numbers) (r : ℕ) (answer_now : List ℕ) (number_now : List ℤ) → length answer ≡ size → length number ≡ 1 → result_told read ≡ number_by line l name → n ≡ in_numbers signed_numbers (result_told read) → number_now ≡ integers_of (result_told read) → AnswerGiven answer n r answer_now → NumberAnswered line l name answer number r answer_now number_now
   number_answered read n r answer_now number_now h g e v k a =
       record {
-        told = fitting _ answer _ r answer_now (both_room 1 answer number h g) h (given_said _ answer signed_numbers (number_read_told read) (number_by line l name) n r answer_now e v a);
+        told = fitting _ answer _ r answer_now (both_room 1 answer number h g) h (given_said _ answer signed_numbers (result_told read) (number_by line l name) n r answer_now e v a);
         value = rw (both_room 1 answer number h g) (rw e at k);
       }
 

@@ -1,7 +1,7 @@
 -- The values of an answer on a line with its layout, and what stands beside them.
 use Rattle.std.specs.Prelude.{ℕ, ◌-◌, ◌/◌, ◌%◌, List, [], ◌∷◌, ℤ, pos}
 use Rattle.rules.specs.Choice.{byte}
-use Rattle.rules.specs.Layouts.{Span}
+use Rattle.rules.specs.declared.Span.{Span}
 use Rattle.rules.specs.Refusals.{Said, says, refuses}
 use Rattle.rules.specs.declared.Entry.{Entry}
 use Rattle.rules.specs.declared.Signed.{Signed}

@@ -1,13 +1,13 @@
 // The calls from C that look into the entries of a reading, and those on a layout that is given as the text of its own line.
 #![tactic(auto)]
 
+ghost use Rattle.rules.specs.Refusals.{result_told};
 ghost use Rattle.std.specs.Prelude.{◌∷◌, [], ◌≡◌, length};
-ghost use Rattle.rules.specs.Reads.{number_read_told};
 ghost use Rattle.c_columns.specs.Values.{integers_of};
 ghost use Rattle.c_columns.specs.Calls.{LookAnswered, NumberAnswered, EntryAnswered, PresenceAnswered};
 
 use c_answers::SIZE;
-use rules::NumberRead;
+use rules::{Refusal, Signed};
 
 mod rows;
 mod values;
@@ -30,16 +30,16 @@ pub fn look(
 }
 
 // A column's number, or 0.
-fn put_number(number: &mut [i64], read: NumberRead)
+fn put_number(number: &mut [i64], read: Result<Signed, Refusal>)
     requires { length number.old ≡ 1 }
-    ensures { number.new ≡ integers_of (number_read_told read) }
+    ensures { number.new ≡ integers_of (result_told read) }
 {
     match read {
-        NumberRead::Is(z) => {
+        Ok(z) => {
             let value = z.value;
             number[0] = value;
         }
-        NumberRead::Refused(_) => number[0] = 0,
+        Err(_) => number[0] = 0,
     }
 }
 

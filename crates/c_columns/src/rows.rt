@@ -10,10 +10,7 @@ use rules::{Listed, Reason, Refusal};
 fn one_if(mark: bool) -> u64
     ensures { result ≡ one_if mark }
 {
-    if mark {
-        return 1;
-    }
-    0
+    u64::from(mark)
 }
 
 // A row in numbers: the three characters of the code, its widths, its mark.

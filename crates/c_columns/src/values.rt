@@ -1,14 +1,11 @@
 // What a line says by its layout, and the layout itself, in the numbers of an answer.
+ghost use Rattle.rules.specs.Refusals.{result_told};
 ghost use Rattle.std.specs.Prelude.{◌≡◌};
-ghost use Rattle.rules.specs.Layouts.{column_told};
-ghost use Rattle.rules.specs.Reads.{number_read_told};
 ghost use Rattle.c_answers.specs.Answers.{accepting, in_numbers};
-ghost use Rattle.c_given.specs.Given.{column_at_told};
 ghost use Rattle.c_columns.specs.Values.{span_numbers, signed_numbers, entry_numbers};
 
 use c_answers::{Numbers, accepted, between, refused};
-use c_given::ColumnAt;
-use rules::{ColumnRead, Entry, NumberRead};
+use rules::{Entry, Refusal, Signed, Span};
 
 // Where a column's text stands, of the places of its first and last byte.
 fn span(first: usize, last: usize) -> Numbers
@@ -19,22 +16,22 @@ fn span(first: usize, last: usize) -> Numbers
     accepted(&[start, length])
 }
 
-pub(crate) fn column(read: ColumnRead) -> Numbers
-    ensures { result ≡ in_numbers span_numbers (column_told read) }
+pub(crate) fn column(read: Result<Span, Refusal>) -> Numbers
+    ensures { result ≡ in_numbers span_numbers (result_told read) }
 {
     match read {
-        ColumnRead::Between(first, last) => span(first as usize, last as usize),
-        ColumnRead::Refused(why) => refused(why),
+        Ok(Span { first, last }) => span(first as usize, last as usize),
+        Err(why) => refused(why),
     }
 }
 
 // A column's number stands beside the answer, which names no value.
-pub(crate) fn signed(read: NumberRead) -> Numbers
-    ensures { result ≡ in_numbers signed_numbers (number_read_told read) }
+pub(crate) fn signed(read: Result<Signed, Refusal>) -> Numbers
+    ensures { result ≡ in_numbers signed_numbers (result_told read) }
 {
     match read {
-        NumberRead::Is(_) => accepted(&[]),
-        NumberRead::Refused(why) => refused(why),
+        Ok(_) => accepted(&[]),
+        Err(why) => refused(why),
     }
 }
 
@@ -48,11 +45,11 @@ fn entry_values(e: Entry) -> Numbers
     accepted(&[code / 65536, code / 256 % 256, code % 256, first, last])
 }
 
-pub(crate) fn entry(read: ColumnAt) -> Numbers
-    ensures { result ≡ in_numbers entry_numbers (column_at_told read) }
+pub(crate) fn entry(read: Result<Entry, Refusal>) -> Numbers
+    ensures { result ≡ in_numbers entry_numbers (result_told read) }
 {
     match read {
-        ColumnAt::Is(e) => entry_values(e),
-        ColumnAt::Refused(why) => refused(why),
+        Ok(e) => entry_values(e),
+        Err(why) => refused(why),
     }
 }

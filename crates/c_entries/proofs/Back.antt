@@ -1,9 +1,9 @@
 -- What is put is taken again: of the numbers that a reading's entries are put as, `taken_said` tells those entries. So a look into what a reading left is a look into its entries.
 -- Assumes nothing.
+use Rattle.std.specs.Prelude.{Some}
 use Prim.Native.Nat.{ℕ, ◌+◌, ◌-◌, ◌/◌, ◌%◌, ◌≤◌}
 use mathlib.Core.Bool.{true, ◌&&◌}
 use mathlib.Core.List.{List, [], ◌∷◌, ◌++◌}
-use mathlib.Core.Option.{some}
 use mathlib.Core.Path.{◌≡◌, refl, sym, ap, subst, ◌∙◌}
 use native.Mathlib.Omega.{arith}
 use borrow.Author.Tests.{le-leb, leb-true, eq-eqb}
@@ -38,7 +38,7 @@ code_fits x h =
     omega (arith, (code_range (x / 65536) q.0).1)
 
 -- one entry
-entry_back : (ns : List ℕ) (at : ℕ) (e : Entry) (rest : List ℕ) → is_spelt e ≡ true → e.first ≤ e.last → drop at ns ≡ e.code ∷ e.first ∷ e.last ∷ rest → entry_in ns at ≡ some e
+entry_back : (ns : List ℕ) (at : ℕ) (e : Entry) (rest : List ℕ) → is_spelt e ≡ true → e.first ≤ e.last → drop at ns ≡ e.code ∷ e.first ∷ e.last ∷ rest → entry_in ns at ≡ Some e
 unfolding entry_in is_spelt
 entry_back ns at e rest s h d =
     let k = and_inv (leb e.last 99) (is_code_word e.code) s in
@@ -50,7 +50,7 @@ entry_back ns at e rest s h d =
 
 -- entries one behind the other
 entries_back : (es pre : List Entry) (start : ℕ) (ns : List ℕ) (at : ℕ) (rest : List ℕ) → length pre + length es ≤ 13 → Tiled es start (laid pre) → drop at ns ≡ triples es ++ rest
-    → entries_in (length es) ns at ≡ some es
+    → entries_in (length es) ns at ≡ Some es
 unfolding entries_in
 entries_back [] pre start ns at rest n w d = refl
 entries_back (e ∷ es) pre start ns at rest n w d =

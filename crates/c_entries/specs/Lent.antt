@@ -1,6 +1,5 @@
 -- The entries of a reading as numbers, and the entries that numbers tell; the promise of this crate.
-use Rattle.std.specs.Prelude.{ℕ, zero, suc, ◌+◌, cond, List, [], ◌∷◌, ◌≡◌, eqb, leb, length, get_or, set}
-use Rattle.std.proofs.Math.Option.{Option, none, some}
+use Rattle.std.specs.Prelude.{ℕ, zero, suc, ◌+◌, cond, List, [], ◌∷◌, ◌≡◌, eqb, leb, length, get_or, set, None, Option, Some}
 use Rattle.rules.specs.Choice.{given, need}
 use Rattle.rules.specs.Refusals.{Said, says, no}
 use Rattle.rules.specs.Layouts.{empty_layout, with_entry}
@@ -28,10 +27,10 @@ with_triple ns at e = set (set (set ns at e.code) (at + 1) e.first) (at + 2) e.l
 -- the entry that three numbers tell behind others: a code of 32 bits, two bytes
 unfoldable pub entry_in : List ℕ → ℕ → Option Entry
 entry_in ns at =
-    need (leb (get_or ns at 0) 4294967295) none λ _.
-    need (leb (get_or ns (at + 1) 0) 255) none λ _.
-    need (leb (get_or ns (at + 2) 0) 255) none λ _.
-    some (record { first = get_or ns (at + 1) 0; last = get_or ns (at + 2) 0; code = get_or ns at 0 })
+    need (leb (get_or ns at 0) 4294967295) None λ _.
+    need (leb (get_or ns (at + 1) 0) 255) None λ _.
+    need (leb (get_or ns (at + 2) 0) 255) None λ _.
+    Some (record { first = get_or ns (at + 1) 0; last = get_or ns (at + 2) 0; code = get_or ns at 0 })
 
 -- "17 BAD_VALUE: value .. given is not allowed"
 abbrev pub no_entries : Said Layout

@@ -24,14 +24,9 @@ fn put_all(list: &mut [u64], es: Layout)
     requires { length list.old ≡ entries_size }
     ensures { list.new ≡ entry_numbers es }
 {
-    let n = es.count;
-    list[0] = n as u64;
-    let mut left: usize = 13;
-    while 0 < left {
-        let i = 13 - left;
-        let e = es.entries[i];
-        put_entry(list, 3 * i + 1, e);
-        left -= 1;
+    list[0] = es.count as u64;
+    for (i, e) in es.entries.iter().enumerate() {
+        put_entry(list, 3 * i + 1, *e);
     }
 }
 

@@ -1,8 +1,8 @@
 -- The usual check without a table answers as the usual check with one, where that one is not full. Assumes nothing.
+use Rattle.std.specs.Prelude.{None, Some}
 use Prim.Native.Nat.{ℕ, ◌+◌}
 use mathlib.Core.Bool.{Bool, true, false}
 use mathlib.Core.List.{List}
-use mathlib.Core.Option.{none, some}
 use mathlib.Core.Path.{◌≡◌, refl, sym, ◌∙◌, ap}
 use lib.Dec.{leb}
 use lib.ListN.{length}
@@ -23,7 +23,7 @@ use Rattle.c_files.specs.Calls.{UsuallyChecked, CountAnswered}
 
 module _ (file table answer : List ℕ) (r r' : ℕ) (table_now after after' : List ℕ) (w : UsuallyChecked file table answer r table_now after) (w' : CountAnswered file answer r' after') where
   abbrev bare : Said Flight
-  bare = verdict seal.Usual file none
+  bare = verdict seal.Usual file None
 
   -- the answer is of another length: nothing is told
   unasked : (m n : Numbers) (t : Bool) → has_room size answer ≡ t → t ≡ false → Answered t answer m r after → Answered t answer n r' after' → (r ≡ r') × (after ≡ after')
@@ -35,7 +35,7 @@ module _ (file table answer : List ℕ) (r r' : ℕ) (table_now after after' : L
   full n true e q d a = absurd (d (a.number ∙ q))
   full n false e q d a = refl
 
-  by_room : (t : Bool) → leb (good_lines bare) (length table) ≡ t → (r ≡ 15 → ⊥) → verdict seal.Usual file (some (length table)) ≡ need t (refuses (number reason.TableFull) (length table + 1) 0) (λ _. bare)
+  by_room : (t : Bool) → leb (good_lines bare) (length table) ≡ t → (r ≡ 15 → ⊥) → verdict seal.Usual file (Some (length table)) ≡ need t (refuses (number reason.TableFull) (length table + 1) 0) (λ _. bare)
       → (r ≡ r') × (after ≡ after')
   unfolding number
   by_room true e d v = only_answered answer r r' after after' (same_numbers _ answer _ _ r after (ap (in_numbers flight_numbers) v) w.told) w'

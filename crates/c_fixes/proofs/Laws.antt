@@ -1,4 +1,7 @@
 -- A line read, with what stands beside its answer: the altitudes and the entries. Assumes nothing.
+use Rattle.std.specs.Prelude.{Result}
+use Rattle.rules.specs.declared.Refusal.{Refusal}
+use Rattle.rules.specs.Refusals.{Said}
 use Prim.Native.Nat.{ℕ}
 use mathlib.Core.Bool.{true, false}
 use mathlib.Core.List.{List}
@@ -6,7 +9,7 @@ use mathlib.Core.Path.{◌≡◌, ◌∙◌, ap}
 use lib.IntN.{ℤ}
 use lib.ListN.{length}
 use borrow.Author.Tests.{eq-eqb, ne_eqb}
-use Rattle.rules.specs.Reads.{Answer, answered, fix_told, fix_reading_told, time_read_told, extra_reading_told}
+use Rattle.rules.specs.Reads.{Reading, answered, fix_reading_told, extra_reading_told}
 use Rattle.rules.specs.declared.Fix.{Fix}
 use Rattle.rules.specs.declared.ExtraReading.{ExtraReading}
 use Rattle.rules.specs.declared.FixReading.{FixReading}
@@ -35,18 +38,17 @@ module _ (line l answer : List ℕ) (heights : List ℤ) (entries : List ℕ) wh
   pub fix_no_entries : length answer ≡ size → length heights ≡ 2 → (length entries ≡ entries_size → ⊥) → FixAnswered line l answer heights entries 17 answer heights entries
   fix_no_entries h g k = no_room (rw (eq-eqb (length answer) size h, eq-eqb (length heights) 2 g, ne_eqb (length entries) entries_size k))
 
-  pub fix_answered : (read : FixReading) (n : Numbers) (r : ℕ) (answer_now : List ℕ) (heights_now : List ℤ) (entries_now : List ℕ) → length answer ≡ size → length heights ≡ 2 → length entries ≡ entries_size
-      → fix_reading_told read ≡ answered (fix_by line l) → n ≡ in_numbers fix_numbers (fix_told read.fix) → heights_now ≡ heights_of (fix_told read.fix) → EntriesPut read.entries entries entries_now
+  pub fix_answered : (read : Result FixReading Refusal) (n : Numbers) (r : ℕ) (answer_now : List ℕ) (heights_now : List ℤ) (entries_now : List ℕ) → length answer ≡ size → length heights ≡ 2 → length entries ≡ entries_size
+      → fix_reading_told read ≡ fix_by line l → (value : Said Fix) → value ≡ (answered (fix_reading_told read)).value → n ≡ in_numbers fix_numbers value → heights_now ≡ heights_of value → (es : Layout) → es ≡ (answered (fix_reading_told read)).entries → EntriesPut es entries entries_now
       → AnswerGiven answer n r answer_now → FixAnswered line l answer heights entries r answer_now heights_now entries_now
-  unfolding fix_reading_told
-  fix_answered read n r answer_now heights_now entries_now h g k e v m p a =
+  fix_answered read n r answer_now heights_now entries_now h g k e value is v m es are p a =
       let all : all_room answer heights entries ≡ true = rw (eq-eqb (length answer) size h, eq-eqb (length heights) 2 g, eq-eqb (length entries) entries_size k) in
-      let value : fix_told read.fix ≡ (answered (fix_by line l)).value = ap (λ (x : Answer Fix). x.value) e in
-      let columns : read.entries ≡ (answered (fix_by line l)).entries = ap (λ (x : Answer Fix). x.entries) e in
+      let said : value ≡ (answered (fix_by line l)).value = is ∙ ap (λ (x : Said (Reading Fix)). (answered x).value) e in
+      let columns : es ≡ (answered (fix_by line l)).entries = are ∙ ap (λ (x : Said (Reading Fix)). (answered x).entries) e in
       record {
-        told = fitting _ answer _ r answer_now all h (given_said _ answer fix_numbers (fix_told read.fix) _ n r answer_now value v a);
-        metres = rw all (m ∙ ap heights_of value);
-        columns = rw all (entries_put read.entries entries entries_now k p ∙ ap entry_numbers columns);
+        told = fitting _ answer _ r answer_now all h (given_said _ answer fix_numbers value _ n r answer_now said v a);
+        metres = rw all (m ∙ ap heights_of said);
+        columns = rw all (entries_put es entries entries_now k p ∙ ap entry_numbers columns);
       }
 
 module _ (line l answer entries : List ℕ) where
@@ -56,15 +58,14 @@ module _ (line l answer entries : List ℕ) where
   pub extra_no_entries : length answer ≡ size → (length entries ≡ entries_size → ⊥) → ExtraAnswered line l answer entries 17 answer entries
   extra_no_entries h g = record { told = not_fitting _ _ _ (one_room entries_size answer entries h g); columns = rw (one_room entries_size answer entries h g) }
 
-  pub extra_answered : (read : ExtraReading) (n : Numbers) (r : ℕ) (answer_now entries_now : List ℕ) → length answer ≡ size → length entries ≡ entries_size
-      → extra_reading_told read ≡ answered (extra_by line l) → n ≡ in_numbers time_numbers (time_read_told read.time) → EntriesPut read.entries entries entries_now
+  pub extra_answered : (read : Result ExtraReading Refusal) (n : Numbers) (r : ℕ) (answer_now entries_now : List ℕ) → length answer ≡ size → length entries ≡ entries_size
+      → extra_reading_told read ≡ extra_by line l → (value : Said ℕ) → value ≡ (answered (extra_reading_told read)).value → n ≡ in_numbers time_numbers value → (es : Layout) → es ≡ (answered (extra_reading_told read)).entries → EntriesPut es entries entries_now
       → AnswerGiven answer n r answer_now → ExtraAnswered line l answer entries r answer_now entries_now
-  unfolding extra_reading_told
-  extra_answered read n r answer_now entries_now h g e v p a =
+  extra_answered read n r answer_now entries_now h g e value is v es are p a =
       let all = both_room entries_size answer entries h g in
-      let value : time_read_told read.time ≡ (answered (extra_by line l)).value = ap (λ (x : Answer ℕ). x.value) e in
-      let columns : read.entries ≡ (answered (extra_by line l)).entries = ap (λ (x : Answer ℕ). x.entries) e in
+      let said : value ≡ (answered (extra_by line l)).value = is ∙ ap (λ (x : Said (Reading ℕ)). (answered x).value) e in
+      let columns : es ≡ (answered (extra_by line l)).entries = are ∙ ap (λ (x : Said (Reading ℕ)). (answered x).entries) e in
       record {
-        told = fitting _ answer _ r answer_now all h (given_said _ answer time_numbers (time_read_told read.time) _ n r answer_now value v a);
-        columns = rw all (entries_put read.entries entries entries_now g p ∙ ap entry_numbers columns);
+        told = fitting _ answer _ r answer_now all h (given_said _ answer time_numbers value _ n r answer_now said v a);
+        columns = rw all (entries_put es entries entries_now g p ∙ ap entry_numbers columns);
       }

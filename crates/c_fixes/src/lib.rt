@@ -1,14 +1,15 @@
 // The calls from C on a B, a K or an N line: its value and the entries of its columns, with the layout given as the text of its own line.
 #![tactic(auto)]
 
+ghost use Rattle.rules.specs.Reads.{answered, fix_reading_told, extra_reading_told};
+ghost use Rattle.rules.specs.Refusals.{result_told};
 ghost use Rattle.std.specs.Prelude.{◌∷◌, [], ◌≡◌, length};
-ghost use Rattle.rules.specs.Reads.{fix_told};
 ghost use Rattle.c_answers.specs.Answers.{accepting, in_numbers};
 ghost use Rattle.c_fixes.specs.Calls.{fix_numbers, heights_of, FixAnswered, ExtraAnswered};
 
 use c_answers::{Numbers, SIZE, accepted, refused};
 use c_entries::ENTRIES;
-use rules::{Fix, FixRead, Height};
+use rules::{ExtraReading, Fix, FixReading, Height, Layout, Refusal};
 
 // Two altitudes, in metres.
 fn put_two(heights: &mut [i32], a: Height, b: Height)
@@ -22,13 +23,13 @@ fn put_two(heights: &mut [i32], a: Height, b: Height)
 }
 
 // The altitudes of a fix, or 0 and 0.
-fn put_heights(heights: &mut [i32], read: FixRead)
+fn put_heights(heights: &mut [i32], read: Result<Fix, Refusal>)
     requires { length heights.old ≡ 2 }
-    ensures { heights.new ≡ heights_of (fix_told read) }
+    ensures { heights.new ≡ heights_of (result_told read) }
 {
     match read {
-        FixRead::Is(f) => put_two(heights, f.pressure, f.gnss),
-        FixRead::Refused(_) => put_two(heights, Height { metres: 0 }, Height { metres: 0 }),
+        Ok(f) => put_two(heights, f.pressure, f.gnss),
+        Err(_) => put_two(heights, Height { metres: 0 }, Height { metres: 0 }),
     }
 }
 
@@ -36,37 +37,61 @@ fn put_heights(heights: &mut [i32], read: FixRead)
 fn fix_values(f: Fix) -> Numbers
     ensures { result ≡ accepting (fix_numbers f) }
 {
-    let time = f.time;
-    let lat = f.lat;
-    let lon = f.lon;
-    let seconds = time.count as u64;
-    let of_seconds = time.decimals as u64;
-    let latitude = lat.count;
-    let n_or_s = lat.letter as u64;
-    let of_latitude = lat.decimals as u64;
-    let longitude = lon.count;
-    let e_or_w = lon.letter as u64;
-    let of_longitude = lon.decimals as u64;
-    let validity = f.validity as u64;
     accepted(&[
-        seconds,
-        of_seconds,
-        latitude,
-        n_or_s,
-        of_latitude,
-        longitude,
-        e_or_w,
-        of_longitude,
-        validity,
+        f.time.count as u64,
+        f.time.decimals as u64,
+        f.lat.count,
+        f.lat.letter as u64,
+        f.lat.decimals as u64,
+        f.lon.count,
+        f.lon.letter as u64,
+        f.lon.decimals as u64,
+        f.validity as u64,
     ])
 }
 
-fn numbers(read: FixRead) -> Numbers
-    ensures { result ≡ in_numbers fix_numbers (fix_told read) }
+fn numbers(read: Result<Fix, Refusal>) -> Numbers
+    ensures { result ≡ in_numbers fix_numbers (result_told read) }
 {
     match read {
-        FixRead::Is(f) => fix_values(f),
-        FixRead::Refused(why) => refused(why),
+        Ok(f) => fix_values(f),
+        Err(why) => refused(why),
+    }
+}
+
+// The fix of a reading.
+fn fix_in(read: Result<FixReading, Refusal>) -> Result<Fix, Refusal>
+    ensures { result_told result ≡ (answered (fix_reading_told read)).value }
+{
+    let r = read?;
+    Ok(r.fix)
+}
+
+// The time of a reading.
+fn time_in(read: Result<ExtraReading, Refusal>) -> Result<u32, Refusal>
+    ensures { result_told result ≡ (answered (extra_reading_told read)).value }
+{
+    let r = read?;
+    Ok(r.time)
+}
+
+// The entries of a B line's columns; none where it is refused.
+fn columns_of_fix(read: Result<FixReading, Refusal>) -> Layout
+    ensures { result ≡ (answered (fix_reading_told read)).entries }
+{
+    match read {
+        Ok(r) => r.entries,
+        Err(_) => rules_values::empty_layout(),
+    }
+}
+
+// The entries of a K or an N line's columns; none where it is refused.
+fn columns_of_extra(read: Result<ExtraReading, Refusal>) -> Layout
+    ensures { result ≡ (answered (extra_reading_told read)).entries }
+{
+    match read {
+        Ok(r) => r.entries,
+        Err(_) => rules_values::empty_layout(),
     }
 }
 
@@ -90,10 +115,9 @@ pub fn fix(
         return 17;
     }
     let read = c_given::fix(line, layout);
-    let value = read.fix;
-    let columns = read.entries;
+    let value = fix_in(read);
     put_heights(heights, value);
-    c_entries::put(entries, columns);
+    c_entries::put(entries, columns_of_fix(read));
     c_answers::give(answer, numbers(value))
 }
 
@@ -108,8 +132,6 @@ pub fn extra(line: &[u8], layout: &[u8], answer: &mut [u64], entries: &mut [u64]
         return 17;
     }
     let read = c_given::extra(line, layout);
-    let value = read.time;
-    let columns = read.entries;
-    c_entries::put(entries, columns);
-    c_answers::give(answer, c_answers::time(value))
+    c_entries::put(entries, columns_of_extra(read));
+    c_answers::give(answer, c_answers::time(time_in(read)))
 }

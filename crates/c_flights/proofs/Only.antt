@@ -1,4 +1,6 @@
 -- For each promise of this crate: two outcomes that meet it are the same, the number returned, what is lent and the answer. Assumes nothing.
+use Rattle.rules.specs.declared.Refusal.{Refusal}
+use Rattle.std.specs.Prelude.{Result}
 use Prim.Native.Nat.{ℕ}
 use mathlib.Core.Bool.{Bool, true, false}
 use mathlib.Core.List.{List}
@@ -11,7 +13,6 @@ use Rattle.notes_rules.specs.Notes.{notes_in}
 use Rattle.notes_rules.specs.Merging.{Merged, merged_file, merge_said, out_merged}
 use Rattle.notes_rules.proofs.Texts.{texts}
 use Rattle.track_rules.specs.declared.Record.{Record}
-use Rattle.track_course.specs.declared.Tracked.{Tracked}
 use Rattle.shelf_pack.proofs.Only.{only_packed_or_same}
 use Rattle.c_answers.specs.Answers.{size, has_room, AnsweredBeside}
 use Rattle.c_answers.proofs.Only.{only_answered, only_beside}
@@ -36,7 +37,7 @@ only_merge_answered first second out answer r r' now now' after after' w w' =
     in
     only_beside answer r r' after after' now now' a w'.answered
 
-pub only_track_told : (answer : List ℕ) (t : Tracked) (r r' : ℕ) (after after' : List ℕ) → TrackTold answer t r after → TrackTold answer t r' after' → (r ≡ r') × (after ≡ after')
+pub only_track_told : (answer : List ℕ) (t : Result ℕ Refusal) (r r' : ℕ) (after after' : List ℕ) → TrackTold answer t r after → TrackTold answer t r' after' → (r ≡ r') × (after ≡ after')
 only_track_told answer t r r' after after' = only_answered answer r r' after after'
 
 pub only_track_answered : (file : List ℕ) (list : List Record) (answer : List ℕ) (r r' : ℕ) (now now' : List Record) (after after' : List ℕ) → TrackAnswered file list answer r now after

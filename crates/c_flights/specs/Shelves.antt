@@ -3,7 +3,8 @@ use Rattle.std.specs.Prelude.{ℕ, true, false, List, [], ◌∷◌, ◌≡◌}
 use Rattle.rules.specs.Refusals.{says, and_then}
 use Rattle.shelf_rules.specs.Shelf.{add_said, after_add, held_at, ask_said, remove_said, after_remove}
 use Rattle.shelf_rules.specs.Packing.{pack_said, PackedOrSame}
-use Rattle.shelf_rules.specs.Calls.{Extent, extent_of}
+use Rattle.shelf_rules.specs.declared.Extent.{Extent}
+use Rattle.shelf_rules.specs.Calls.{extent_of}
 use Rattle.c_answers.specs.Answers.{size, in_numbers, has_room, AnsweredBeside, AnswerGiven}
 
 -- the start of a body

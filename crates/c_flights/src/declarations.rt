@@ -1,27 +1,12 @@
 // The call from C that tells a file's declaration: its head in the answer, its points in a lent list of numbers.
+ghost use Rattle.rules.specs.Refusals.{result_told};
 ghost use Rattle.std.specs.Prelude.{◌≡◌};
-ghost use Rattle.declaration.specs.Declaration.{declaration_told};
 ghost use Rattle.c_answers.specs.Answers.{accepting, in_numbers};
-ghost use Rattle.c_lines.specs.Values.{planned_date};
 ghost use Rattle.c_flights.specs.Declarations.{declared_numbers, DeclarationAnswered};
 
 use c_answers::{Numbers, SIZE};
-use declaration::{DeclarationRead, Declared};
-use rules::{Date, Planned};
-
-// The flight date of a head; zeros where it is not given.
-fn flight_date(p: Planned) -> Date
-    ensures { result ≡ planned_date p }
-{
-    match p {
-        Planned::On(d) => d,
-        Planned::NotGiven => Date {
-            day: 0,
-            month: 0,
-            year: 0,
-        },
-    }
-}
+use declaration::Declared;
+use rules::Refusal;
 
 // What a declaration says, in numbers.
 fn values(d: Declared) -> Numbers
@@ -29,41 +14,30 @@ fn values(d: Declared) -> Numbers
 {
     let head = d.head;
     let date = head.declared;
-    let planned = head.flight;
-    let flight = flight_date(planned);
-    let day = date.day as u64;
-    let month = date.month as u64;
-    let year = date.year as u64;
-    let time = head.time as u64;
-    let task = head.task as u64;
-    let turns = head.turns as u64;
-    let points = d.points as u64;
-    let line = d.line as u64;
-    let text = d.text as u64;
-    let length = d.length as u64;
+    let flight = c_lines::planned_date(head.flight);
     c_answers::accepted(&[
-        day,
-        month,
-        year,
-        time,
+        date.day as u64,
+        date.month as u64,
+        date.year as u64,
+        head.time as u64,
         flight.day as u64,
         flight.month as u64,
         flight.year as u64,
-        task,
-        turns,
-        points,
-        line,
-        text,
-        length,
+        head.task as u64,
+        head.turns as u64,
+        d.points as u64,
+        d.line as u64,
+        d.text as u64,
+        d.length as u64,
     ])
 }
 
-fn numbers(read: DeclarationRead) -> Numbers
-    ensures { result ≡ in_numbers declared_numbers (declaration_told read) }
+fn numbers(read: Result<Declared, Refusal>) -> Numbers
+    ensures { result ≡ in_numbers declared_numbers (result_told read) }
 {
     match read {
-        DeclarationRead::Is(d) => values(d),
-        DeclarationRead::Refused(why) => c_answers::refused(why),
+        Ok(d) => values(d),
+        Err(why) => c_answers::refused(why),
     }
 }
 

@@ -1,21 +1,7 @@
 // The call from C that puts what each line of a whole file is into a lent list of bytes.
-ghost use Rattle.std.specs.Prelude.{◌≡◌};
-ghost use Rattle.kinds.specs.Kinds.{kinded_told};
-ghost use Rattle.c_answers.specs.Answers.{in_numbers};
-ghost use Rattle.c_flights.specs.Lettered.{all_numbers, KindsAnswered};
+ghost use Rattle.c_flights.specs.Lettered.{KindsAnswered};
 
-use c_answers::{Numbers, SIZE};
-use kinds::Kinded;
-
-// How many lines there are, or the refusal, in numbers.
-fn numbers(kinded: Kinded) -> Numbers
-    ensures { result ≡ in_numbers all_numbers (kinded_told kinded) }
-{
-    match kinded {
-        Kinded::Lines(n) => c_answers::accepted(&[n as u64]),
-        Kinded::Refused(why) => c_answers::refused(why),
-    }
-}
+use c_answers::SIZE;
 
 // A byte for each line of a file put into a list, its letter or the mark of a note: how many lines there are; or the file's own refusal, then 18 where the list is too short, and then the list is not
 // changed. 17 where the answer has another length; then nothing is changed.
@@ -26,5 +12,5 @@ pub fn kinds(file: &[u8], list: &mut [u8], answer: &mut [u64]) -> u32
         return 17;
     }
     let kinded = kinds::kinds(file, list);
-    c_answers::give(answer, numbers(kinded))
+    c_answers::give(answer, c_answers::count(kinded))
 }

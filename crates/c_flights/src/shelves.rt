@@ -1,41 +1,30 @@
 // The calls from C on a shelf of flights in a lent buffer.
+ghost use Rattle.rules.specs.Refusals.{result_told};
 ghost use Rattle.std.specs.Prelude.{◌≡◌};
-ghost use Rattle.rules.specs.Refusals.{outcome_told};
-ghost use Rattle.shelf_rules.specs.Calls.{added_told, asked_told};
 ghost use Rattle.c_answers.specs.Answers.{in_numbers};
-ghost use Rattle.c_flights.specs.Shelves.{start_numbers, body_numbers, no_numbers, AddAnswered, AskAnswered, RemoveAnswered, PackAnswered};
+ghost use Rattle.c_flights.specs.Shelves.{body_numbers, no_numbers, AddAnswered, AskAnswered, RemoveAnswered, PackAnswered};
 
 use c_answers::{Numbers, SIZE};
-use rules::Outcome;
-use shelf_rules::{Added, Asked};
-
-// The start of the body that was added.
-fn added(a: Added) -> Numbers
-    ensures { result ≡ in_numbers start_numbers (added_told a) }
-{
-    match a {
-        Added::At(start) => c_answers::accepted(&[start as u64]),
-        Added::Refused(why) => c_answers::refused(why),
-    }
-}
+use rules::Refusal;
+use shelf_rules::Extent;
 
 // The start and the length of the body that was asked for.
-fn asked(a: Asked) -> Numbers
-    ensures { result ≡ in_numbers body_numbers (asked_told a) }
+fn asked(a: Result<Extent, Refusal>) -> Numbers
+    ensures { result ≡ in_numbers body_numbers (result_told a) }
 {
     match a {
-        Asked::Body(start, size) => c_answers::accepted(&[start as u64, size as u64]),
-        Asked::Refused(why) => c_answers::refused(why),
+        Ok(Extent { start, size }) => c_answers::accepted(&[start as u64, size as u64]),
+        Err(why) => c_answers::refused(why),
     }
 }
 
 // No value: that it is done, or why not.
-fn done(o: Outcome) -> Numbers
-    ensures { result ≡ in_numbers no_numbers (outcome_told o) }
+fn done(o: Result<(), Refusal>) -> Numbers
+    ensures { result ≡ in_numbers no_numbers (result_told o) }
 {
     match o {
-        Outcome::Accepted => c_answers::accepted(&[]),
-        Outcome::Refused(why) => c_answers::refused(why),
+        Ok(()) => c_answers::accepted(&[]),
+        Err(why) => c_answers::refused(why),
     }
 }
 
@@ -48,7 +37,7 @@ pub fn shelf_add(buffer: &mut [u8], number: u32, file: &[u8], answer: &mut [u64]
         return 17;
     }
     let told = shelf::add(buffer, number, file);
-    c_answers::give(answer, added(told))
+    c_answers::give(answer, c_answers::count(told))
 }
 
 // Where the body of a flight number stands: its start and its length; or 27, then 31. 17 where the answer has another length; then nothing is changed.

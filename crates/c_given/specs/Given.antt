@@ -1,11 +1,11 @@
 -- What is said of a line where the layout is given as the text of the file's own I, J or M line.
-use Rattle.std.specs.Prelude.{ℕ, ◌-◌, cond, List, ◌≡◌, eqb, leb, length, get_or}
-use Rattle.std.proofs.Math.Option.{Option, none, some}
+use Rattle.rules.specs.declared.Refusal.{Refusal}
+use Rattle.std.specs.Prelude.{ℕ, ◌-◌, cond, List, ◌≡◌, eqb, leb, length, get_or, None, Option, Result, Some}
 use Rattle.rules.specs.Choice.{given, need}
 use Rattle.rules.specs.Families.{family_of, layout_family_of}
-use Rattle.rules.specs.Layouts.{LayoutTold, empty_layout, unused, presence_said, presence_told}
+use Rattle.rules.specs.Layouts.{LayoutTold, empty_layout, unused, presence_said}
 use Rattle.rules.specs.Reads.{Reading, reading, answered, layout_said, fix_reading_told, extra_reading_told}
-use Rattle.rules.specs.Refusals.{Said, says, refuses, no, refusal, and_then}
+use Rattle.rules.specs.Refusals.{Said, says, refuses, no, refusal, and_then, result_told}
 use Rattle.rules.specs.declared.Entry.{Entry}
 use Rattle.rules.specs.declared.Extra.{Extra}
 use Rattle.rules.specs.declared.ExtraReading.{ExtraReading}
@@ -14,12 +14,8 @@ use Rattle.rules.specs.declared.Family.TheVariants as family
 use Rattle.rules.specs.declared.Fix.{Fix}
 use Rattle.rules.specs.declared.FixReading.{FixReading}
 use Rattle.rules.specs.declared.Layout.{Layout}
-use Rattle.rules.specs.declared.LayoutRead.{LayoutRead}
 use Rattle.rules.specs.declared.Presence.{Presence}
-use Rattle.rules.specs.declared.PresenceRead.{PresenceRead}
 use Rattle.rules.specs.declared.Reason.TheVariants.{BadValue}
-use Rattle.c_given.specs.declared.ColumnAt.{ColumnAt}
-use Rattle.c_given.specs.declared.ColumnAt.TheVariants as column_at
 
 module _ {A : Type 0} where
   -- "17 BAD_VALUE: .. layout .. given is not allowed", whatever its line is refused for
@@ -41,11 +37,11 @@ extra_with e line l = and_then (layout_by (family.Extra e) l) λ layout. reading
 
 -- K or N, by the first byte of such a line
 abbrev pub extra_in : Family → Option Extra
-extra_in family.B = none
-extra_in (family.Extra e) = some e
+extra_in family.B = None
+extra_in (family.Extra e) = Some e
 
 unfoldable pub extra_of : ℕ → Option Extra
-extra_of b = given (family_of b) none extra_in
+extra_of b = given (family_of b) None extra_in
 
 unfoldable pub extra_by : List ℕ → List ℕ → Said (Reading ℕ)
 extra_by line l = given (extra_of (get_or line 0 0)) (no BadValue 0) λ e. extra_with e line l
@@ -55,9 +51,6 @@ unfoldable pub entry_at : Layout → ℕ → Said Entry
 entry_at layout n = need (leb n layout.count) (no BadValue 0) λ _. says (get_or layout.entries (n - 1) unused)
 
 -- a column that was asked for, in the paper's terms
-unfoldable pub column_at_told : ColumnAt → Said Entry
-column_at_told (column_at.Is e) = says e
-column_at_told (column_at.Refused r) = refusal r
 
 -- the layout that an I, a J or an M line tells, with the refusals of its reader
 unfoldable pub told_layout : List ℕ → Said Layout
@@ -76,17 +69,17 @@ presence_by l = and_then (layout_by family.B l) presence_said
 
 -- ---- the promises of this crate's functions
 
-abbrev pub LayoutBy : Family → List ℕ → LayoutRead → Type 0
+abbrev pub LayoutBy : Family → List ℕ → Result Layout Refusal → Type 0
 LayoutBy f l r = LayoutTold (layout_by f l) r
 
-abbrev pub FixBy : List ℕ → List ℕ → FixReading → Type 0
-FixBy line l r = fix_reading_told r ≡ answered (fix_by line l)
+abbrev pub FixBy : List ℕ → List ℕ → Result FixReading Refusal → Type 0
+FixBy line l r = fix_reading_told r ≡ fix_by line l
 
-abbrev pub ExtraBy : List ℕ → List ℕ → ExtraReading → Type 0
-ExtraBy line l r = extra_reading_told r ≡ answered (extra_by line l)
+abbrev pub ExtraBy : List ℕ → List ℕ → Result ExtraReading Refusal → Type 0
+ExtraBy line l r = extra_reading_told r ≡ extra_by line l
 
-abbrev pub EntryBy : List ℕ → ℕ → ColumnAt → Type 0
-EntryBy l n r = column_at_told r ≡ entry_by l n
+abbrev pub EntryBy : List ℕ → ℕ → Result Entry Refusal → Type 0
+EntryBy l n r = result_told r ≡ entry_by l n
 
-abbrev pub PresenceBy : List ℕ → PresenceRead → Type 0
-PresenceBy l r = presence_told r ≡ presence_by l
+abbrev pub PresenceBy : List ℕ → Result Presence Refusal → Type 0
+PresenceBy l r = result_told r ≡ presence_by l

@@ -1,21 +1,21 @@
 -- What is said of a line that is written by a layout given as the text of its own line, and the output afterwards.
-use Rattle.std.specs.Prelude.{ℕ, List, [], ◌≡◌, get_or}
+use Rattle.rules.specs.declared.Refusal.{Refusal}
+use Rattle.std.specs.Prelude.{ℕ, List, [], ◌≡◌, get_or, Result}
 use Rattle.rules.specs.Choice.{given}
 use Rattle.rules.specs.Families.{first_start, layout_family_of}
 use Rattle.rules.specs.Layouts.{empty_layout, allowed}
 use Rattle.rules.specs.Reads.{layout_said}
-use Rattle.rules.specs.Refusals.{Said, no, and_then, value_or}
-use Rattle.rules.specs.Writes.{wrote_told, written, out_after, layout_text, fix_text, is_fix, extra_text, is_extra}
+use Rattle.rules.specs.Refusals.{Said, no, and_then, value_or, result_told}
+use Rattle.rules.specs.Writes.{written, out_after, layout_text, fix_text, is_fix, extra_text, is_extra}
 use Rattle.rules.specs.declared.Extra.{Extra}
 use Rattle.rules.specs.declared.Family.TheVariants as family
 use Rattle.rules.specs.declared.Fix.{Fix}
 use Rattle.rules.specs.declared.Reason.TheVariants.{BadValue}
-use Rattle.rules.specs.declared.Wrote.{Wrote}
 use Rattle.c_given.specs.Given.{or_bad_value, layout_by}
 
 -- what is said of a text that is to be written, and the output afterwards
-pub record SaidWritten (said : Said ℕ) (text : List ℕ) (place : ℕ) (out : List ℕ) (r : Wrote) (after : List ℕ) : Type 0 where
-  pub told : wrote_told r ≡ said
+pub record SaidWritten (said : Said ℕ) (text : List ℕ) (place : ℕ) (out : List ℕ) (r : Result ℕ Refusal) (after : List ℕ) : Type 0 where
+  pub told : result_told r ≡ said
   pub bytes : after ≡ out_after said text place out
 
 -- "17 BAD_VALUE: .. layout .. given is not allowed", then what the writer of a B line says
@@ -38,11 +38,11 @@ layout_text_by l = given (layout_family_of (get_or l 0 0)) [] λ f. layout_text 
 
 -- ---- the promises of this crate's functions
 
-abbrev pub FixWrittenBy : Fix → List ℕ → List ℕ → ℕ → List ℕ → Wrote → List ℕ → Type 0
+abbrev pub FixWrittenBy : Fix → List ℕ → List ℕ → ℕ → List ℕ → Result ℕ Refusal → List ℕ → Type 0
 FixWrittenBy f columns l place out r after = SaidWritten (fix_written f columns l place out) (fix_text f columns) place out r after
 
-abbrev pub ExtraWrittenBy : Extra → ℕ → List ℕ → List ℕ → ℕ → List ℕ → Wrote → List ℕ → Type 0
+abbrev pub ExtraWrittenBy : Extra → ℕ → List ℕ → List ℕ → ℕ → List ℕ → Result ℕ Refusal → List ℕ → Type 0
 ExtraWrittenBy e t columns l place out r after = SaidWritten (extra_written e t columns l place out) (extra_text e t columns) place out r after
 
-abbrev pub LayoutWrittenBy : List ℕ → ℕ → List ℕ → Wrote → List ℕ → Type 0
+abbrev pub LayoutWrittenBy : List ℕ → ℕ → List ℕ → Result ℕ Refusal → List ℕ → Type 0
 LayoutWrittenBy l place out r after = SaidWritten (layout_written l place out) (layout_text_by l) place out r after

@@ -1,13 +1,11 @@
 -- The values of an answer on a line that has no layout, and the two angles of a position.
-use Rattle.std.specs.Prelude.{ℕ, List, [], ◌∷◌, Float}
+use Rattle.std.specs.Prelude.{ℕ, List, [], ◌∷◌, Float, None, Option, Some}
 use Rattle.std.specs.Float.{binary64}
 use Rattle.std.specs.Float.Ieee.{of_bits}
 use Rattle.rules.specs.Refusals.{Said, says, refuses}
 use Rattle.rules.specs.declared.Date.{Date}
 use Rattle.rules.specs.declared.Degrees.{Degrees}
 use Rattle.rules.specs.declared.Head.{Head}
-use Rattle.rules.specs.declared.Planned.{Planned}
-use Rattle.rules.specs.declared.Planned.TheVariants as planned
 use Rattle.rules.specs.declared.Point.{Point}
 
 -- a date
@@ -15,9 +13,9 @@ abbrev pub date_numbers : Date → List ℕ
 date_numbers d = d.day ∷ d.month ∷ d.year ∷ []
 
 -- "000000 means not given": so in numbers
-abbrev pub planned_date : Planned → Date
-planned_date (planned.On d) = d
-planned_date planned.NotGiven = record { day = 0; month = 0; year = 0 }
+abbrev pub planned_date : Option Date → Date
+planned_date (Some d) = d
+planned_date None = record { day = 0; month = 0; year = 0 }
 
 -- the head of a declaration: declared date, time, flight date, task number, number of turn points
 abbrev pub head_numbers : Head → List ℕ

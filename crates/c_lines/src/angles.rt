@@ -1,11 +1,11 @@
 // A position for the map.
+ghost use Rattle.rules.specs.Refusals.{result_told};
 ghost use Rattle.std.specs.Prelude.{◌∷◌, [], ◌≡◌, length};
-ghost use Rattle.rules.specs.Degrees.{degrees_told};
 ghost use Rattle.c_answers.specs.Answers.{number_of};
 ghost use Rattle.c_lines.specs.Values.{angles_of};
 ghost use Rattle.c_lines.specs.Calls.{DegreesAnswered};
 
-use rules::{DegreesRead, FinePosition};
+use rules::{Degrees, FinePosition, Refusal};
 
 fn put_pair(out: &mut [f64], a: f64, b: f64)
     requires { length out.old ≡ 2 }
@@ -16,22 +16,22 @@ fn put_pair(out: &mut [f64], a: f64, b: f64)
 }
 
 // The two angles, or 0 and 0.
-fn put_degrees(out: &mut [f64], read: DegreesRead)
+fn put_degrees(out: &mut [f64], read: Result<Degrees, Refusal>)
     requires { length out.old ≡ 2 }
-    ensures { out.new ≡ angles_of (degrees_told read) }
+    ensures { out.new ≡ angles_of (result_told read) }
 {
     match read {
-        DegreesRead::Both(d) => put_pair(out, d.lat, d.lon),
-        DegreesRead::Refused(_) => put_pair(out, 0.0, 0.0),
+        Ok(d) => put_pair(out, d.lat, d.lon),
+        Err(_) => put_pair(out, 0.0, 0.0),
     }
 }
 
-fn number(read: DegreesRead) -> u32
-    ensures { result ≡ number_of (degrees_told read) }
+fn number(read: Result<Degrees, Refusal>) -> u32
+    ensures { result ≡ number_of (result_told read) }
 {
     match read {
-        DegreesRead::Both(_) => 0,
-        DegreesRead::Refused(why) => c_answers::number(why),
+        Ok(_) => 0,
+        Err(why) => c_answers::number(why),
     }
 }
 

@@ -1,11 +1,12 @@
 // The call from C on an H line.
+ghost use Rattle.rules.specs.Refusals.{result_told};
 ghost use Rattle.std.specs.Prelude.{◌≡◌};
-ghost use Rattle.line_read.specs.Headers.{header_told};
 ghost use Rattle.c_answers.specs.Answers.{accepting, in_numbers};
 ghost use Rattle.c_lines.specs.Headers.{header_numbers, HeaderAnswered};
 
 use c_answers::Numbers;
-use line_read::{HeaderLine, HeaderRead};
+use line_read::HeaderLine;
+use rules::Refusal;
 
 // What an H line says, in numbers.
 fn values(h: HeaderLine) -> Numbers
@@ -21,12 +22,12 @@ fn values(h: HeaderLine) -> Numbers
     ])
 }
 
-fn numbers(read: HeaderRead) -> Numbers
-    ensures { result ≡ in_numbers header_numbers (header_told read) }
+fn numbers(read: Result<HeaderLine, Refusal>) -> Numbers
+    ensures { result ≡ in_numbers header_numbers (result_told read) }
 {
     match read {
-        HeaderRead::Is(h) => values(h),
-        HeaderRead::Refused(why) => c_answers::refused(why),
+        Ok(h) => values(h),
+        Err(why) => c_answers::refused(why),
     }
 }
 

@@ -9,6 +9,7 @@ mod values;
 
 pub use angles::degrees;
 pub use headers::header;
+pub use values::planned_date;
 
 // The date of a file's second line.
 pub fn date(line: &[u8], answer: &mut [u64]) -> u32

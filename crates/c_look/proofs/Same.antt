@@ -1,15 +1,16 @@
 -- The look number by number is the look into the entries that the numbers tell. Assumes nothing.
+use Rattle.std.specs.Prelude.{None, Option, Some}
 use Prim.Native.Nat.{ℕ, zero, suc, ◌+◌, ◌≤◌}
 use mathlib.Core.Bool.{Bool, true, false, not, cond, ◌&&◌, ◌||◌}
 use mathlib.Core.List.{List, [], ◌∷◌}
-use mathlib.Core.Option.{Option, none, some}
 use mathlib.Core.Path.{◌≡◌, refl, sym, ap, ◌∙◌}
 use native.Mathlib.Omega.{arith}
 use borrow.Author.Tests.{le-leb, leb-true}
 use lib.Dec.{eqb, leb}
 use lib.ListN.{length, get_or}
 use Rattle.rules.specs.Choice.{given, need, first_of}
-use Rattle.rules.specs.Layouts.{Span, empty_layout, span_of, look_in, look, column_text}
+use Rattle.rules.specs.declared.Span.{Span}
+use Rattle.rules.specs.Layouts.{empty_layout, span_of, look_in, look, column_text}
 use Rattle.rules.specs.Listed.{packed_of}
 use Rattle.rules.specs.Looks.{carried_in, twice, is_inside, are_inside, fits_line, look_said, look_number}
 use Rattle.rules.specs.Numbers.{whole_of}
@@ -28,9 +29,9 @@ use Rattle.c_seek.specs.Parts.{entry_of, stands_in, place_in, is_in, fit_in, spa
 
 -- ---- one entry before others
 
-look_before : (e : Entry) (es : List Entry) (x : ℕ) → look_in (e ∷ es) x ≡ cond (eqb e.code x) (some (span_of e)) (look_in es x)
+look_before : (e : Entry) (es : List Entry) (x : ℕ) → look_in (e ∷ es) x ≡ cond (eqb e.code x) (Some (span_of e)) (look_in es x)
 unfolding first_of
-look_before e es x = ap (cond (eqb e.code x) (some (span_of e))) (any_place x es 1 0)
+look_before e es x = ap (cond (eqb e.code x) (Some (span_of e))) (any_place x es 1 0)
 
 -- whether one is outside does not hang on the number of the first place
 none_outside : (n : ℕ) (es : List Entry) (k m : ℕ) → given (first_of (outside n) placed es k) true (λ p. false) ≡ given (first_of (outside n) placed es m) true (λ p. false)
@@ -39,7 +40,7 @@ none_outside n [] k m = refl
 none_outside n (e ∷ es) k m = go (outside n e) (none_outside n es (suc k) (suc m))
   where
     go : (t : Bool) → given (first_of (outside n) placed es (suc k)) true (λ p. false) ≡ given (first_of (outside n) placed es (suc m)) true (λ p. false)
-        → given (cond t (some k) (first_of (outside n) placed es (suc k))) true (λ p. false) ≡ given (cond t (some m) (first_of (outside n) placed es (suc m))) true (λ p. false)
+        → given (cond t (Some k) (first_of (outside n) placed es (suc k))) true (λ p. false) ≡ given (cond t (Some m) (first_of (outside n) placed es (suc m))) true (λ p. false)
     go true r = refl
     go false r = r
 
@@ -47,7 +48,7 @@ inside_before : (n : ℕ) (e : Entry) (es : List Entry) → are_inside n (e ∷ 
 unfolding are_inside first_of
 inside_before n e es = go (is_inside n e)
   where
-    go : (t : Bool) → given (cond (not t) (some 0) (first_of (outside n) placed es 1)) true (λ p. false) ≡ t && given (first_of (outside n) placed es 0) true (λ p. false)
+    go : (t : Bool) → given (cond (not t) (Some 0) (first_of (outside n) placed es 1)) true (λ p. false) ≡ t && given (first_of (outside n) placed es 0) true (λ p. false)
     go true = none_outside n es 1 0
     go false = refl
 
@@ -57,17 +58,17 @@ stands_entry : (bytes : ℕ) (ns : List ℕ) (at : ℕ) → stands_in bytes ns a
 unfolding stands_in entry_in
 stands_entry bytes ns at = go (leb (get_or ns at 0) 4294967295) (leb (get_or ns (at + 1) 0) 255) (leb (get_or ns (at + 2) 0) 255)
   where
-    go : (p q r : Bool) → need p false (λ _. need q false λ _. need r false λ _. is_inside bytes (entry_of ns at)) ≡ given (need p none λ _. need q none λ _. need r none λ _. some (entry_of ns at)) false (is_inside bytes)
+    go : (p q r : Bool) → need p false (λ _. need q false λ _. need r false λ _. is_inside bytes (entry_of ns at)) ≡ given (need p None λ _. need q None λ _. need r None λ _. Some (entry_of ns at)) false (is_inside bytes)
     go false q r = refl
     go true false r = refl
     go true true false = refl
     go true true true = refl
 
-entry_is : (ns : List ℕ) (at : ℕ) (e : Entry) → entry_in ns at ≡ some e → e ≡ entry_of ns at
+entry_is : (ns : List ℕ) (at : ℕ) (e : Entry) → entry_in ns at ≡ Some e → e ≡ entry_of ns at
 unfolding entry_in
 entry_is ns at e = go (leb (get_or ns at 0) 4294967295) (leb (get_or ns (at + 1) 0) 255) (leb (get_or ns (at + 2) 0) 255)
   where
-    go : (p q r : Bool) → need p none (λ _. need q none λ _. need r none λ _. some (entry_of ns at)) ≡ some e → e ≡ entry_of ns at
+    go : (p q r : Bool) → need p None (λ _. need q None λ _. need r None λ _. Some (entry_of ns at)) ≡ Some e → e ≡ entry_of ns at
     go false q r f = absurd (none_some f)
     go true false r f = absurd (none_some f)
     go true true false f = absurd (none_some f)
@@ -76,42 +77,42 @@ entry_is ns at e = go (leb (get_or ns at 0) 4294967295) (leb (get_or ns (at + 1)
 -- ---- entries
 
 -- the entries, taken apart at the first
-first_in : (left : ℕ) (ns : List ℕ) (at : ℕ) (es : List Entry) → entries_in (suc left) ns at ≡ some es → (tl : List Entry) × (entries_in left ns (at + 3) ≡ some tl) × (es ≡ entry_of ns at ∷ tl)
+first_in : (left : ℕ) (ns : List ℕ) (at : ℕ) (es : List Entry) → entries_in (suc left) ns at ≡ Some es → (tl : List Entry) × (entries_in left ns (at + 3) ≡ Some tl) × (es ≡ entry_of ns at ∷ tl)
 unfolding entries_in
 first_in left ns at es f =
-    let a = given_inv (entry_in ns at) none (some es) _ none_some f in
-    let b = given_inv (entries_in left ns (at + 3)) none (some es) _ none_some a.2 in
+    let a = given_inv (entry_in ns at) None (Some es) _ none_some f in
+    let b = given_inv (entries_in left ns (at + 3)) None (Some es) _ none_some a.2 in
     let k : (a.0 ∷ b.0) ≡ es = cc in
     (b.0, b.1, sym k ∙ ap (λ e. e ∷ b.0) (entry_is ns at a.0 a.1))
 
 -- none that are left
-none_in : (ns : List ℕ) (at : ℕ) (es : List Entry) → entries_in zero ns at ≡ some es → [] ≡ es
+none_in : (ns : List ℕ) (at : ℕ) (es : List Entry) → entries_in zero ns at ≡ Some es → [] ≡ es
 unfolding entries_in
 none_in ns at es f = cc
 
-look_none : (x : ℕ) → look_in [] x ≡ none
+look_none : (x : ℕ) → look_in [] x ≡ None
 unfolding first_of
 look_none x = refl
 
 -- the first one of a code
-look_place : (left : ℕ) (ns : List ℕ) (at : ℕ) (es : List Entry) (x : ℕ) → entries_in left ns at ≡ some es → look_in es x ≡ given (place_in left ns at x) none λ p. some (span_in ns p)
+look_place : (left : ℕ) (ns : List ℕ) (at : ℕ) (es : List Entry) (x : ℕ) → entries_in left ns at ≡ Some es → look_in es x ≡ given (place_in left ns at x) None λ p. Some (span_in ns p)
 unfolding place_in
 look_place zero ns at es x f = rw (← none_in ns at es f) (look_none x)
 look_place (suc left) ns at es x f =
     let a = first_in left ns at es f in
     rw a.2 (look_before (entry_of ns at) a.0 x ∙ go (eqb (get_or ns at 0) x) (look_place left ns (at + 3) a.0 x a.1))
   where
-    go : (t : Bool) {o : Option Span} → o ≡ given (place_in left ns (at + 3) x) none (λ p. some (span_in ns p)) → cond t (some (span_in ns at)) o ≡ given (cond t (some at) (place_in left ns (at + 3) x)) none λ p. some (span_in ns p)
+    go : (t : Bool) {o : Option Span} → o ≡ given (place_in left ns (at + 3) x) None (λ p. Some (span_in ns p)) → cond t (Some (span_in ns at)) o ≡ given (cond t (Some at) (place_in left ns (at + 3) x)) None λ p. Some (span_in ns p)
     go true k = refl
     go false k = k
 
 -- a code is there
-carried_in_lem : (left : ℕ) (ns : List ℕ) (at : ℕ) (es : List Entry) (x : ℕ) → entries_in left ns at ≡ some es → carried_in es x ≡ is_in left ns at x
+carried_in_lem : (left : ℕ) (ns : List ℕ) (at : ℕ) (es : List Entry) (x : ℕ) → entries_in left ns at ≡ Some es → carried_in es x ≡ is_in left ns at x
 carried_in_lem left ns at es x f = rw (look_place left ns at es x f) (go (place_in left ns at x))
   where
-    go : (o : Option ℕ) → given (given o none λ p. some (span_in ns p)) false (λ s. true) ≡ given o false λ p. true
-    go none = refl
-    go (some p) = refl
+    go : (o : Option ℕ) → given (given o None λ p. Some (span_in ns p)) false (λ s. true) ≡ given o false λ p. true
+    go None = refl
+    go (Some p) = refl
 
 -- they can be a line's
 abbrev Fit : ℕ → List Entry → Bool
@@ -147,20 +148,20 @@ fit_entries bytes (suc left) ns at =
     code : Bool
     code = is_in left ns (at + 3) (get_or ns at 0)
 
-    behind : (e : Entry) → entry_in ns at ≡ some e → (o : Option (List Entry)) → entries_in left ns (at + 3) ≡ o → fit_in bytes left ns (at + 3) ≡ given o false (Fit bytes)
-        → need (is_inside bytes e) false (λ _. need (not code) false λ _. fit_in bytes left ns (at + 3)) ≡ given (given o none λ es. some (e ∷ es)) false (Fit bytes)
-    behind e q none f k = rw k (tests_failed (is_inside bytes e) code)
-    behind e q (some es) f k =
+    behind : (e : Entry) → entry_in ns at ≡ Some e → (o : Option (List Entry)) → entries_in left ns (at + 3) ≡ o → fit_in bytes left ns (at + 3) ≡ given o false (Fit bytes)
+        → need (is_inside bytes e) false (λ _. need (not code) false λ _. fit_in bytes left ns (at + 3)) ≡ given (given o None λ es. Some (e ∷ es)) false (Fit bytes)
+    behind e q None f k = rw k (tests_failed (is_inside bytes e) code)
+    behind e q (Some es) f k =
         let c : carried_in es e.code ≡ code = ap (λ (y : Entry). carried_in es y.code) (entry_is ns at e q) ∙ carried_in_lem left ns (at + 3) es (get_or ns at 0) f in
         rw (k, inside_before bytes e es, c) (tests_joined (twice es) (are_inside bytes es) (is_inside bytes e) code)
 
     go : (o : Option Entry) → entry_in ns at ≡ o → fit_in bytes left ns (at + 3) ≡ given (entries_in left ns (at + 3)) false (Fit bytes)
-        → need (given o false (is_inside bytes)) false (λ _. need (not code) false λ _. fit_in bytes left ns (at + 3)) ≡ given (given o none λ e. given (entries_in left ns (at + 3)) none λ es. some (e ∷ es)) false (Fit bytes)
-    go none q r = refl
-    go (some e) q r = behind e q (entries_in left ns (at + 3)) refl r
+        → need (given o false (is_inside bytes)) false (λ _. need (not code) false λ _. fit_in bytes left ns (at + 3)) ≡ given (given o None λ e. given (entries_in left ns (at + 3)) None λ es. Some (e ∷ es)) false (Fit bytes)
+    go None q r = refl
+    go (Some e) q r = behind e q (entries_in left ns (at + 3)) refl r
 
 -- how many they are
-entries_long : (left : ℕ) (ns : List ℕ) (at : ℕ) (es : List Entry) → entries_in left ns at ≡ some es → length es ≡ left
+entries_long : (left : ℕ) (ns : List ℕ) (at : ℕ) (es : List Entry) → entries_in left ns at ≡ Some es → length es ≡ left
 entries_long zero ns at es f = rw (← none_in ns at es f)
 entries_long (suc left) ns at es f = let a = first_in left ns at es f in rw a.2 (ap suc (entries_long left ns (at + 3) a.0 a.1))
 
@@ -177,15 +178,15 @@ module _ (line ns name : List ℕ) (count : ℕ) (few : count ≤ 13) where
       ≡ and_then (taken_from count ns 1 empty_layout) λ es. look_said line es name
   look_entries = rw (fit_entries (length line) count ns 1, taken_entries count ns 1 few) (go (entries_in count ns 1) refl)
     where
-      found : (o : Option ℕ) → ◌≡◌ {A = Said Span} (given o (no Absent 0) λ p. says (span_in ns p)) (given (given o none λ p. some (span_in ns p)) (no Absent 0) λ s. says s)
-      found none = refl
-      found (some p) = refl
+      found : (o : Option ℕ) → ◌≡◌ {A = Said Span} (given o (no Absent 0) λ p. says (span_in ns p)) (given (given o None λ p. Some (span_in ns p)) (no Absent 0) λ s. says s)
+      found None = refl
+      found (Some p) = refl
 
       go : (o : Option (List Entry)) → entries_in count ns 1 ≡ o
           → need (given o false (Fit (length line))) (no BadValue 0) (λ _. given (place_in count ns 1 (packed_of name)) (no Absent 0) λ p. says (span_in ns p))
           ≡ and_then (given o no_entries λ es. says (laid es)) λ es. look_said line es name
-      go none q = refl
-      go (some es) q =
+      go None q = refl
+      go (Some es) q =
           rw (look_laid line es name (omega (arith, entries_long count ns 1 es q)), look_place count ns 1 es (packed_of name) q)
           (ap (λ (z : Said Span). need (Fit (length line) es) (no BadValue 0) λ _. z) (found (place_in count ns 1 (packed_of name))))
 

@@ -1,11 +1,9 @@
 -- The look into the entries that numbers tell; the promises of this crate.
-use Rattle.std.specs.Prelude.{ℕ, List, ◌≡◌}
-use Rattle.rules.specs.Layouts.{Span, column_told}
+use Rattle.rules.specs.declared.Refusal.{Refusal}
+use Rattle.std.specs.Prelude.{ℕ, List, ◌≡◌, Result}
+use Rattle.rules.specs.declared.Span.{Span}
 use Rattle.rules.specs.Looks.{look_said, look_number}
-use Rattle.rules.specs.Reads.{number_read_told}
-use Rattle.rules.specs.Refusals.{Said, and_then}
-use Rattle.rules.specs.declared.ColumnRead.{ColumnRead}
-use Rattle.rules.specs.declared.NumberRead.{NumberRead}
+use Rattle.rules.specs.Refusals.{Said, and_then, result_told}
 use Rattle.rules.specs.declared.Signed.{Signed}
 use Rattle.c_entries.specs.Lent.{taken_said}
 
@@ -18,8 +16,8 @@ number_by line ns name = and_then (taken_said ns) λ es. look_number line es nam
 
 -- ---- the promises
 
-abbrev pub LookBy : List ℕ → List ℕ → List ℕ → ColumnRead → Type 0
-LookBy line ns name r = column_told r ≡ look_by line ns name
+abbrev pub LookBy : List ℕ → List ℕ → List ℕ → Result Span Refusal → Type 0
+LookBy line ns name r = result_told r ≡ look_by line ns name
 
-abbrev pub LookNumberBy : List ℕ → List ℕ → List ℕ → NumberRead → Type 0
-LookNumberBy line ns name r = number_read_told r ≡ number_by line ns name
+abbrev pub LookNumberBy : List ℕ → List ℕ → List ℕ → Result Signed Refusal → Type 0
+LookNumberBy line ns name r = result_told r ≡ number_by line ns name

@@ -4,11 +4,11 @@
 
 ghost use Rattle.c_look.specs.Looks.{LookBy, LookNumberBy};
 
-use rules::{ColumnRead, NumberRead, Reason, Refusal, Whole};
+use rules::{Reason, Refusal, Signed, Span};
 
 // Where the column of a code, any three bytes, stands: its first and last byte, counted from 1. BAD_VALUE for numbers that are not 40, for over 13 entries, a number past
 // what an entry holds, a code twice, or an entry that is not inside the line or ends before it starts; then ABSENT.
-pub fn column(line: &[u8], list: &[u64], code: [u8; 3]) -> ColumnRead
+pub fn column(line: &[u8], list: &[u64], code: [u8; 3]) -> Result<Span, Refusal>
     ensures { LookBy line.now list.now code result }
 {
     let x = layout_codes::pack(code[0], code[1], code[2]);
@@ -16,20 +16,16 @@ pub fn column(line: &[u8], list: &[u64], code: [u8; 3]) -> ColumnRead
 }
 
 // That column as a whole number. What `column` refuses, then NOT_NUMBER.
-pub fn number(line: &[u8], list: &[u64], code: [u8; 3]) -> NumberRead
+pub fn number(line: &[u8], list: &[u64], code: [u8; 3]) -> Result<Signed, Refusal>
     ensures { LookNumberBy line.now list.now code result }
 {
-    match column(line, list, code) {
-        ColumnRead::Refused(r) => NumberRead::Refused(r),
-        ColumnRead::Between(a, e) => {
-            let Whole::Of(z) = byte_number::whole(layout_column::text_of(line, a, e)) else {
-                return NumberRead::Refused(Refusal {
-                    reason: Reason::NotNumber,
-                    line: 0,
-                    byte: 0,
-                });
-            };
-            NumberRead::Is(z)
-        }
-    }
+    let Span { first, last } = column(line, list, code)?;
+    let Some(z) = byte_number::whole(layout_column::text_of(line, first, last)) else {
+        return Err(Refusal {
+            reason: Reason::NotNumber,
+            line: 0,
+            byte: 0,
+        });
+    };
+    Ok(z)
 }

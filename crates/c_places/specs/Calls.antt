@@ -1,7 +1,7 @@
 -- The values of an answer on where a line stands, and the promise of each call: an equation on the number returned and on the answer afterwards.
-use Rattle.std.specs.Prelude.{ℕ, ◌-◌, List, [], ◌∷◌}
-use Rattle.std.proofs.Math.Option.{Option, none, some}
-use Rattle.rules.specs.Split.{Bounds, Stepped, bounds_of, step_at}
+use Rattle.std.specs.Prelude.{ℕ, ◌-◌, List, [], ◌∷◌, None, Option, Some}
+use Rattle.rules.specs.declared.Bounds.{Bounds}
+use Rattle.rules.specs.Split.{Stepped, bounds_of, step_at}
 use Rattle.c_answers.specs.Answers.{in_numbers, AnswerGiven}
 
 -- a line's start and length
@@ -10,8 +10,8 @@ bounds_numbers b = b.from ∷ (b.to - b.from) ∷ []
 
 -- a line's start and length, the place, and 1 for found; where none is left, the place alone
 abbrev pub found_numbers : Option Bounds → ℕ → List ℕ
-found_numbers (some b) next = b.from ∷ (b.to - b.from) ∷ next ∷ 1 ∷ []
-found_numbers none next = 0 ∷ 0 ∷ next ∷ []
+found_numbers (Some b) next = b.from ∷ (b.to - b.from) ∷ next ∷ 1 ∷ []
+found_numbers None next = 0 ∷ 0 ∷ next ∷ []
 
 abbrev pub step_numbers : Stepped → List ℕ
 step_numbers s = found_numbers s.found s.next

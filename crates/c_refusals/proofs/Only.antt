@@ -1,7 +1,7 @@
 -- For each promise of this crate: two outcomes that meet it are the same, the number returned, the lent text and the answer. Assumes nothing.
+use Rattle.std.specs.Prelude.{Option}
 use Prim.Native.Nat.{ℕ}
 use mathlib.Core.List.{List}
-use mathlib.Core.Option.{Option}
 use mathlib.Core.Path.{◌≡◌}
 use Rattle.c_answers.proofs.Only.{only_beside}
 use Rattle.c_refusals.specs.Calls.{TextAnswered, NameAnswered, ExplainAnswered}

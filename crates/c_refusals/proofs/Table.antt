@@ -1,7 +1,7 @@
 -- The reason of a number is the one that has it, and no other: `reason_numbered` reads the table that `number` writes. Assumes nothing.
+use Rattle.std.specs.Prelude.{None, Option, Some}
 use Prim.Native.Nat.{ℕ}
 use mathlib.Core.Bool.{Bool, true, false, cond}
-use mathlib.Core.Option.{Option, none, some}
 use mathlib.Core.Path.{◌≡◌, refl, sym}
 use borrow.Author.Tests.{eqb-true}
 use lib.Dec.{eqb}
@@ -11,7 +11,7 @@ use Rattle.rules.specs.declared.Reason.TheVariants.{Empty, TooLong, LineEnd, Emp
 use Rattle.rules.proofs.Inverse.{none_some}
 use Rattle.c_refusals.specs.Reasons.{reason_numbered}
 
-pub reason_of_number : (r : Reason) → reason_numbered (number r) ≡ some r
+pub reason_of_number : (r : Reason) → reason_numbered (number r) ≡ Some r
 unfolding reason_numbered number
 reason_of_number Empty = refl
 reason_of_number TooLong = refl
@@ -47,11 +47,11 @@ reason_of_number NotFound = refl
 
 -- a number that no refusal has, has no reason
 module _ (n : ℕ) (r : Reason) where
-  step : (t : Bool) (x : Reason) (rest : Option Reason) → (t ≡ true → number x ≡ n) → (rest ≡ some r → number r ≡ n) → cond t (some x) rest ≡ some r → number r ≡ n
+  step : (t : Bool) (x : Reason) (rest : Option Reason) → (t ≡ true → number x ≡ n) → (rest ≡ Some r → number r ≡ n) → cond t (Some x) rest ≡ Some r → number r ≡ n
   step true x rest f g e = let i : x ≡ r = cc in rw (← i) (f refl)
   step false x rest f g e = g e
 
-  pub number_of_reason : reason_numbered n ≡ some r → number r ≡ n
+  pub number_of_reason : reason_numbered n ≡ Some r → number r ≡ n
   unfolding reason_numbered number
   number_of_reason =
       step (eqb n 1) Empty _ (λ e. sym (eqb-true n 1 e))
@@ -84,4 +84,4 @@ module _ (n : ℕ) (r : Reason) where
       (step (eqb n 28) Id _ (λ e. sym (eqb-true n 28 e))
       (step (eqb n 29) Entries _ (λ e. sym (eqb-true n 29 e))
       (step (eqb n 30) NoRun _ (λ e. sym (eqb-true n 30 e))
-      (step (eqb n 31) NotFound none (λ e. sym (eqb-true n 31 e)) (λ e. absurd (none_some e))))))))))))))))))))))))))))))))
+      (step (eqb n 31) NotFound None (λ e. sym (eqb-true n 31 e)) (λ e. absurd (none_some e))))))))))))))))))))))))))))))))

@@ -1,11 +1,9 @@
 -- What is put into a lent text, and the promise of each call: an equation on the number returned, the lent text and the answer afterwards.
-use Rattle.std.specs.Prelude.{ℕ, List, [], ◌∷◌, ◌++◌, ◌≡◌, leb, length, drop}
-use Rattle.std.proofs.Math.Option.{Option, none, some}
+use Rattle.rules.specs.declared.Refusal.{Refusal}
+use Rattle.std.specs.Prelude.{ℕ, List, [], ◌∷◌, ◌++◌, ◌≡◌, leb, length, drop, None, Option, Result, Some}
 use Rattle.rules.specs.Choice.{given, need}
-use Rattle.rules.specs.Refusals.{Said, says, no}
-use Rattle.rules.specs.Writes.{wrote_told}
+use Rattle.rules.specs.Refusals.{Said, says, no, result_told}
 use Rattle.rules.specs.declared.Reason.TheVariants.{BadValue, NoRoom}
-use Rattle.rules.specs.declared.Wrote.{Wrote}
 use Rattle.text_refusal.specs.Table.{name}
 use Rattle.text_explain.specs.Explanation.{explanation}
 use Rattle.c_answers.specs.Answers.{size, in_numbers, has_room, AnsweredBeside}
@@ -15,11 +13,11 @@ use Rattle.c_refusals.specs.Reasons.{reason_numbered}
 
 -- the name of the refusal that has a number
 unfoldable pub name_of : ℕ → Option (List ℕ)
-name_of n = given (reason_numbered n) none λ r. some (name r)
+name_of n = given (reason_numbered n) None λ r. Some (name r)
 
 -- what a person reads of the refusal of a file with a number, a line and a byte
 unfoldable pub explained_of : List ℕ → ℕ → ℕ → ℕ → Option (List ℕ)
-explained_of file n l b = given (reason_numbered n) none λ r. some (explanation file (record { reason = r; line = l; byte = b }))
+explained_of file n l b = given (reason_numbered n) None λ r. Some (explanation file (record { reason = r; line = l; byte = b }))
 
 -- ---- put at the start of a lent text
 
@@ -31,8 +29,8 @@ put_said words text = given words (no BadValue 0) λ t. need (leb (length t) (le
 unfoldable pub text_after : Option (List ℕ) → List ℕ → List ℕ
 text_after words text = given words text λ t. need (leb (length t) (length text)) text λ _. t ++ drop (length t) text
 
-pub record WordsPut (words : Option (List ℕ)) (text : List ℕ) (r : Wrote) (after : List ℕ) : Type 0 where
-  pub told : wrote_told r ≡ put_said words text
+pub record WordsPut (words : Option (List ℕ)) (text : List ℕ) (r : Result ℕ Refusal) (after : List ℕ) : Type 0 where
+  pub told : result_told r ≡ put_said words text
   pub bytes : after ≡ text_after words text
 
 -- ---- the promises

@@ -4,47 +4,26 @@
 mod reasons;
 
 ghost use Rattle.c_refusals.specs.Calls.{name_of, explained_of, WordsPut, NameAnswered, ExplainAnswered};
-ghost use Rattle.std.proofs.Math.Option.{some};
-ghost use Rattle.rules.specs.Writes.{wrote_told};
-ghost use Rattle.c_answers.specs.Answers.{in_numbers};
-ghost use Rattle.c_refusals.specs.Calls.{length_numbers};
-ghost use Rattle.std.specs.Prelude.{◌≡◌};
+ghost use Rattle.std.specs.Prelude.{Some};
 
-use c_answers::{Numbers, SIZE};
+use c_answers::SIZE;
 use reasons::reason_of;
-use rules::{Reason, Refusal, Wrote};
-
-// The reason that a number has, where a refusal has it.
-#[derive(Clone, Copy)]
-pub enum Numbered {
-    Is(Reason),
-    NoReason,
-}
-
-// What was put, in the numbers of an answer.
-fn numbers(wrote: Wrote) -> Numbers
-    ensures { result ≡ in_numbers length_numbers (wrote_told wrote) }
-{
-    match wrote {
-        Wrote::Next(n) => c_answers::accepted(&[n as u64]),
-        Wrote::Refused(why) => c_answers::refused(why),
-    }
-}
+use rules::{Reason, Refusal};
 
 // Words put at the start of a lent text, where it has room for them.
-fn put(words: &[u8], text: &mut [u8]) -> Wrote
-    ensures { WordsPut (some words.now) text.old result text.new }
+fn put(words: &[u8], text: &mut [u8]) -> Result<usize, Refusal>
+    ensures { WordsPut (Some words.now) text.old result text.new }
 {
     if text.len() < words.len() {
         return write_ending::refused(Reason::NoRoom);
     }
-    Wrote::Next(text_pieces::put_text(text, 0, words))
+    Ok(text_pieces::put_text(text, 0, words))
 }
 
-fn put_name(number: u32, text: &mut [u8]) -> Wrote
+fn put_name(number: u32, text: &mut [u8]) -> Result<usize, Refusal>
     ensures { WordsPut (name_of number) text.old result text.new }
 {
-    let Numbered::Is(reason) = reason_of(number) else {
+    let Some(reason) = reason_of(number) else {
         return write_ending::refused(Reason::BadValue);
     };
     let mut words = [0u8; 16];
@@ -52,10 +31,16 @@ fn put_name(number: u32, text: &mut [u8]) -> Wrote
     put(&words[..n], text)
 }
 
-fn put_explanation(file: &[u8], number: u32, line: u32, byte: u32, text: &mut [u8]) -> Wrote
+fn put_explanation(
+    file: &[u8],
+    number: u32,
+    line: u32,
+    byte: u32,
+    text: &mut [u8],
+) -> Result<usize, Refusal>
     ensures { WordsPut (explained_of file.now number line byte) text.old result text.new }
 {
-    let Numbered::Is(reason) = reason_of(number) else {
+    let Some(reason) = reason_of(number) else {
         return write_ending::refused(Reason::BadValue);
     };
     let why = Refusal { reason, line, byte };
@@ -72,7 +57,7 @@ pub fn name(number: u32, text: &mut [u8], answer: &mut [u64]) -> u32
         return 17;
     }
     let wrote = put_name(number, text);
-    c_answers::give(answer, numbers(wrote))
+    c_answers::give(answer, c_answers::count(wrote))
 }
 
 // A refusal of a file explained: its number and name, the line and the byte, when it is given; below it the line's text, and the caret.
@@ -90,5 +75,5 @@ pub fn explain(
         return 17;
     }
     let wrote = put_explanation(file, number, line, byte, text);
-    c_answers::give(answer, numbers(wrote))
+    c_answers::give(answer, c_answers::count(wrote))
 }

@@ -2,8 +2,8 @@
 use Prim.Native.Nat.{ℕ}
 use mathlib.Core.List.{List}
 use Rattle.rules_only.proofs.Only.{Only, alike}
-use Rattle.rules_only.proofs.Told.{column_one}
+use Rattle.rules_only.proofs.Told.{result_one}
 use Rattle.c_seek.specs.Parts.{ColumnSought}
 
 pub only_column_sought : (bytes : ℕ) (ns : List ℕ) (x : ℕ) → Only (ColumnSought bytes ns x)
-only_column_sought bytes ns x = alike column_one
+only_column_sought bytes ns x = alike result_one

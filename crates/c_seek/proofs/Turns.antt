@@ -1,8 +1,8 @@
 -- One turn of a loop over the entries that are left; and where an entry stands that was found. Assumes nothing.
+use Rattle.std.specs.Prelude.{None, Some}
 use Prim.Native.Nat.{ℕ, zero, suc, ◌+◌, ◌-◌, ◌*◌, ◌≤◌, ◌<◌}
 use mathlib.Core.Bool.{Bool, true, false, not, cond}
 use mathlib.Core.List.{List}
-use mathlib.Core.Option.{none, some}
 use mathlib.Core.Path.{◌≡◌, sym, ap, ◌∙◌}
 use native.Mathlib.Omega.{arith}
 use borrow.Author.Tests.{eq-eqb, ne_eqb, leb-true}
@@ -20,7 +20,7 @@ module _ (left : ℕ) (ns : List ℕ) (at : ℕ) where
 
   -- ---- the first entry of a code
 
-  pub place_here : (x : ℕ) → 0 < left → get_or ns at 0 ≡ x → some at ≡ place_in left ns at x
+  pub place_here : (x : ℕ) → 0 < left → get_or ns at 0 ≡ x → Some at ≡ place_in left ns at x
   unfolding place_in
   place_here x h e = let k = ap (λ n. place_in n ns at x) (one_more h) in sym (k ∙ rw (eq-eqb (get_or ns at 0) x e))
 
@@ -28,7 +28,7 @@ module _ (left : ℕ) (ns : List ℕ) (at : ℕ) where
   unfolding place_in
   place_next x h e = let k = ap (λ n. place_in n ns at x) (one_more h) in sym (k ∙ rw (ne_eqb (get_or ns at 0) x e))
 
-  pub place_none : (x : ℕ) → left ≤ 0 → none ≡ place_in left ns at x
+  pub place_none : (x : ℕ) → left ≤ 0 → None ≡ place_in left ns at x
   unfolding place_in
   place_none x h = rw (no_more h)
 
@@ -67,7 +67,7 @@ stands_bytes bytes ns at e =
     let d = need_inv (leb (get_or ns (at + 2) 0) 255) false true _ false_true b.1 in
     (leb-true (get_or ns (at + 1) 0) 255 b.0, leb-true (get_or ns (at + 2) 0) 255 d.0)
 
-pub found_stands : (bytes left : ℕ) (ns : List ℕ) (at x p : ℕ) → fit_in bytes left ns at ≡ true → place_in left ns at x ≡ some p → (p + 3 ≤ at + 3 * left) × Bytes ns p
+pub found_stands : (bytes left : ℕ) (ns : List ℕ) (at x p : ℕ) → fit_in bytes left ns at ≡ true → place_in left ns at x ≡ Some p → (p + 3 ≤ at + 3 * left) × Bytes ns p
 unfolding fit_in place_in
 found_stands bytes zero ns at x p e f = absurd (none_some f)
 found_stands bytes (suc left) ns at x p e f =
@@ -75,7 +75,7 @@ found_stands bytes (suc left) ns at x p e f =
     let b = need_inv (not (is_in left ns (at + 3) (get_or ns at 0))) false true _ false_true a.1 in
     go (eqb (get_or ns at 0) x) f a.0 λ g. found_stands bytes left ns (at + 3) x p b.1 g
   where
-    go : (t : Bool) → cond t (some at) (place_in left ns (at + 3) x) ≡ some p → stands_in bytes ns at ≡ true → (place_in left ns (at + 3) x ≡ some p → (p + 3 ≤ at + 3 + 3 * left) × Bytes ns p) → (p + 3 ≤ at + 3 * suc left) × Bytes ns p
+    go : (t : Bool) → cond t (Some at) (place_in left ns (at + 3) x) ≡ Some p → stands_in bytes ns at ≡ true → (place_in left ns (at + 3) x ≡ Some p → (p + 3 ≤ at + 3 + 3 * left) × Bytes ns p) → (p + 3 ≤ at + 3 * suc left) × Bytes ns p
     go true f s r =
         let q : at ≡ p = cc in
         rw (← q) (omega arith, stands_bytes bytes ns at s)

@@ -1,11 +1,10 @@
 -- The look for a packed code into entries that are lent as numbers, number by number; and its promise.
-use Rattle.std.specs.Prelude.{ℕ, zero, suc, ◌+◌, Bool, true, false, not, cond, List, ◌≡◌, eqb, leb, length, get_or}
-use Rattle.std.proofs.Math.Option.{Option, none, some}
+use Rattle.rules.specs.declared.Refusal.{Refusal}
+use Rattle.std.specs.Prelude.{ℕ, zero, suc, ◌+◌, Bool, true, false, not, cond, List, ◌≡◌, eqb, leb, length, get_or, None, Option, Result, Some}
 use Rattle.rules.specs.Choice.{given, need}
-use Rattle.rules.specs.Layouts.{Span, column_told}
+use Rattle.rules.specs.declared.Span.{Span}
 use Rattle.rules.specs.Looks.{is_inside}
-use Rattle.rules.specs.Refusals.{Said, says, no}
-use Rattle.rules.specs.declared.ColumnRead.{ColumnRead}
+use Rattle.rules.specs.Refusals.{Said, says, no, result_told}
 use Rattle.rules.specs.declared.Entry.{Entry}
 use Rattle.rules.specs.declared.Reason.TheVariants.{BadValue, Absent}
 use Rattle.c_entries.specs.Lent.{entries_size}
@@ -24,8 +23,8 @@ stands_in bytes ns at =
 
 -- how many numbers stand before the first entry of a code, among those that are left
 unfoldable pub place_in : ℕ → List ℕ → ℕ → ℕ → Option ℕ
-place_in zero ns at x = none
-place_in (suc left) ns at x = cond (eqb (get_or ns at 0) x) (some at) (place_in left ns (at + 3) x)
+place_in zero ns at x = None
+place_in (suc left) ns at x = cond (eqb (get_or ns at 0) x) (Some at) (place_in left ns (at + 3) x)
 
 -- there is one
 abbrev pub is_in : ℕ → List ℕ → ℕ → ℕ → Bool
@@ -53,5 +52,5 @@ column_in bytes ns x =
     says (span_in ns p)
 
 -- that this is the look of document 02 into the entries that the numbers tell is shown in c_look
-abbrev pub ColumnSought : ℕ → List ℕ → ℕ → ColumnRead → Type 0
-ColumnSought bytes ns x r = column_told r ≡ column_in bytes ns x
+abbrev pub ColumnSought : ℕ → List ℕ → ℕ → Result Span Refusal → Type 0
+ColumnSought bytes ns x r = result_told r ≡ column_in bytes ns x

@@ -2,16 +2,15 @@
 #![tactic(auto)]
 
 ghost use Rattle.std.specs.Prelude.{◌+◌, ◌*◌, ◌≤◌, ◌≡◌, length, get_or};
-ghost use Rattle.rules.specs.Layouts.{column_told};
-ghost use Rattle.rules.specs.Promises.{found_told};
-ghost use Rattle.rules.specs.Refusals.{says, no};
+ghost use Rattle.rules.specs.Refusals.{says, no, result_told};
 ghost use Rattle.c_entries.specs.Lent.{entries_size};
 ghost use Rattle.c_seek.specs.Parts.{stands_in, place_in, is_in, fit_in, span_in, ColumnSought};
 
 use c_entries::ENTRIES;
-use rules::{ColumnRead, Found, Reason, Refusal};
+use rules::{Reason, Refusal, Span};
 
 // Whether the entry behind `at` numbers can be one of a line of so many bytes: its numbers are such as an entry holds, and it stands inside the line.
+#[tactic(auto, unfolding(crate::specs::Parts::stands_in, rules::specs::Looks::is_inside))]
 fn stands(list: &[u64], at: usize, bytes: usize) -> bool
     requires { at + 3 ≤ length list.now }
     ensures { result ≡ stands_in bytes list.now at }
@@ -19,39 +18,30 @@ fn stands(list: &[u64], at: usize, bytes: usize) -> bool
     let code = list[at];
     let first = list[at + 1];
     let last = list[at + 2];
-    if 4294967295 < code {
-        return false;
-    }
-    if 255 < first {
-        return false;
-    }
-    if 255 < last {
-        return false;
-    }
-    if first < 1 {
-        return false;
-    }
-    if last < first {
-        return false;
-    }
-    last as usize <= bytes
+    code <= 4294967295
+        && first <= 255
+        && last <= 255
+        && 1 <= first
+        && first <= last
+        && last as usize <= bytes
 }
 
 // How many numbers stand before the first entry of a code, among so many entries from `start` numbers on.
-fn place(list: &[u64], start: usize, count: usize, code: u64) -> Found
+fn place(list: &[u64], start: usize, count: usize, code: u64) -> Option<usize>
     requires { (start + 3 * count ≤ entries_size) × (length list.now ≡ entries_size) }
-    ensures { found_told result ≡ place_in count list.now start code }
+    ensures { result ≡ place_in count list.now start code }
 {
     let mut at = start;
+    // The place goes on by three numbers while the count goes down by one.
     let mut left = count;
     while 0 < left {
         if list[at] == code {
-            return Found::At(at);
+            return Some(at);
         }
         at += 3;
         left -= 1;
     }
-    Found::Nothing
+    None
 }
 
 // Whether there is one.
@@ -59,10 +49,7 @@ fn is_in(list: &[u64], start: usize, count: usize, code: u64) -> bool
     requires { (start + 3 * count ≤ entries_size) × (length list.now ≡ entries_size) }
     ensures { result ≡ is_in count list.now start code }
 {
-    let Found::At(_) = place(list, start, count, code) else {
-        return false;
-    };
-    true
+    place(list, start, count, code).is_some()
 }
 
 // Whether each entry stands inside a line of so many bytes, and no code comes twice.
@@ -71,6 +58,7 @@ fn fits(list: &[u64], count: usize, bytes: usize) -> bool
     ensures { result ≡ fit_in bytes count list.now 1 }
 {
     let mut at = 1;
+    // The place goes on by three numbers while the count, which is_in is asked with, goes down by one.
     let mut left = count;
     while 0 < left {
         if !stands(list, at, bytes) {
@@ -87,20 +75,20 @@ fn fits(list: &[u64], count: usize, bytes: usize) -> bool
 }
 
 // The first and last byte of the entry behind `at` numbers.
-fn span(list: &[u64], at: usize) -> ColumnRead
+fn span(list: &[u64], at: usize) -> Result<Span, Refusal>
     requires { (at + 3 ≤ length list.now) × (get_or list.now (at + 1) 0 ≤ 255) × (get_or list.now (at + 2) 0 ≤ 255) }
-    ensures { column_told result ≡ says (span_in list.now at) }
+    ensures { result_told result ≡ says (span_in list.now at) }
 {
     let first = list[at + 1] as u8;
     let last = list[at + 2] as u8;
-    ColumnRead::Between(first, last)
+    Ok(Span { first, last })
 }
 
 // No column.
-fn refuse(reason: Reason) -> ColumnRead
-    ensures { column_told result ≡ no reason 0 }
+fn refuse(reason: Reason) -> Result<Span, Refusal>
+    ensures { result_told result ≡ no reason 0 }
 {
-    ColumnRead::Refused(Refusal {
+    Err(Refusal {
         reason,
         line: 0,
         byte: 0,
@@ -109,21 +97,20 @@ fn refuse(reason: Reason) -> ColumnRead
 
 // Where the column of a packed code stands in a line of `bytes` bytes: the first and the last byte of its entry, counted from 1. 17 where the list has not 40 numbers, for over 13
 // entries, a number past what an entry holds, a code twice, or an entry that is not inside the line or ends before it starts; then 19 where no entry has the code.
-pub fn column(bytes: usize, list: &[u64], code: u64) -> ColumnRead
+pub fn column(bytes: usize, list: &[u64], code: u64) -> Result<Span, Refusal>
     ensures { ColumnSought bytes list.now code result }
 {
     if list.len() != ENTRIES {
         return refuse(Reason::BadValue);
     }
-    let n = list[0];
-    if 13 < n {
+    if 13 < list[0] {
         return refuse(Reason::BadValue);
     }
-    let count = n as usize;
+    let count = list[0] as usize;
     if !fits(list, count, bytes) {
         return refuse(Reason::BadValue);
     }
-    let Found::At(at) = place(list, 1, count, code) else {
+    let Some(at) = place(list, 1, count, code) else {
         return refuse(Reason::Absent);
     };
     span(list, at)

@@ -1,10 +1,8 @@
 -- The values of plain numbers that a line is written of, and the values of the answer on it.
-use Rattle.std.specs.Prelude.{ℕ, ◌&&◌, cond, List, [], ◌∷◌, eqb, ℤ}
+use Rattle.std.specs.Prelude.{ℕ, ◌&&◌, cond, List, [], ◌∷◌, eqb, ℤ, None, Option, Some}
 use Rattle.rules.specs.declared.Date.{Date}
 use Rattle.rules.specs.declared.Fix.{Fix}
 use Rattle.rules.specs.declared.Head.{Head}
-use Rattle.rules.specs.declared.Planned.{Planned}
-use Rattle.rules.specs.declared.Planned.TheVariants as planned
 use Rattle.rules.specs.declared.Point.{Point}
 
 -- the place after a line that was written
@@ -24,8 +22,8 @@ fix_from seconds of_seconds latitude n_or_s of_latitude longitude e_or_w of_long
     }
 
 -- "000000 means not given": so in numbers
-unfoldable pub planned_of : Date → Planned
-planned_of d = cond (eqb d.day 0 && eqb d.month 0 && eqb d.year 0) planned.NotGiven (planned.On d)
+unfoldable pub planned_of : Date → Option Date
+planned_of d = cond (eqb d.day 0 && eqb d.month 0 && eqb d.year 0) None (Some d)
 
 -- a head of plain numbers, and a point
 abbrev pub head_of : Date → ℕ → Date → ℕ → ℕ → Head

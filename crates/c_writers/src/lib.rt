@@ -6,8 +6,7 @@ ghost use Rattle.c_writers.specs.Values.{fix_from, head_of, point_of};
 ghost use Rattle.c_writers.specs.Calls.{kind_written, kind_text, WriteFixAnswered, WriteExtraAnswered, WriteLayoutAnswered, WriteHeadAnswered, WritePointAnswered};
 
 use c_answers::SIZE;
-use layout_family::FamilyRead;
-use rules::{Date, Family, Reason, Refusal, Wrote};
+use rules::{Date, Family, Reason, Refusal};
 
 mod values;
 
@@ -49,7 +48,7 @@ pub fn fix(
         gnss,
     );
     let wrote = c_given_write::fix(f, columns, layout, out, place);
-    c_answers::give(answer, values::wrote(wrote))
+    c_answers::give(answer, c_answers::count(wrote))
 }
 
 // A K or an N line, by its letter. BAD_VALUE for any other letter.
@@ -60,18 +59,18 @@ fn put_extra(
     layout: &[u8],
     out: &mut [u8],
     place: usize,
-) -> Wrote
+) -> Result<usize, Refusal>
     ensures { SaidWritten (kind_written kind seconds columns.now layout.now place out.old) (kind_text kind seconds columns.now) place out.old result out.new }
 {
-    let FamilyRead::Of(f) = layout_family::family(&[kind]) else {
-        return Wrote::Refused(Refusal {
+    let Some(f) = layout_family::family(&[kind]) else {
+        return Err(Refusal {
             reason: Reason::BadValue,
             line: 0,
             byte: 0,
         });
     };
     let Family::Extra(which) = f else {
-        return Wrote::Refused(Refusal {
+        return Err(Refusal {
             reason: Reason::BadValue,
             line: 0,
             byte: 0,
@@ -96,7 +95,7 @@ pub fn extra(
         return 17;
     }
     let wrote = put_extra(kind, seconds, columns, layout, out, place);
-    c_answers::give(answer, values::wrote(wrote))
+    c_answers::give(answer, c_answers::count(wrote))
 }
 
 // An I, a J or an M line, into an output from a place on.
@@ -107,7 +106,7 @@ pub fn layout(layout: &[u8], place: usize, out: &mut [u8], answer: &mut [u64]) -
         return 17;
     }
     let wrote = c_given_write::layout(layout, out, place);
-    c_answers::give(answer, values::wrote(wrote))
+    c_answers::give(answer, c_answers::count(wrote))
 }
 
 // The head of a declaration, into an output from a place on.
@@ -139,7 +138,7 @@ pub fn head(
     };
     let h = values::head_of(declared, seconds, flight, task, turn_points);
     let wrote = write_line::head(h, text, out, place);
-    c_answers::give(answer, values::wrote(wrote))
+    c_answers::give(answer, c_answers::count(wrote))
 }
 
 // A point of a declaration, into an output from a place on.
@@ -160,5 +159,5 @@ pub fn point(
     }
     let p = values::point_of(latitude, n_or_s, longitude, e_or_w);
     let wrote = write_line::point(p, text, out, place);
-    c_answers::give(answer, values::wrote(wrote))
+    c_answers::give(answer, c_answers::count(wrote))
 }

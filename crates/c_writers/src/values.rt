@@ -1,11 +1,8 @@
-// The values of plain numbers that a line is written of, and a line that was written in the numbers of an answer.
+// The values of plain numbers that a line is written of.
 ghost use Rattle.std.specs.Prelude.{◌≡◌};
-ghost use Rattle.rules.specs.Writes.{wrote_told};
-ghost use Rattle.c_answers.specs.Answers.{in_numbers};
-ghost use Rattle.c_writers.specs.Values.{fix_from, planned_of, head_of, point_of, place_numbers};
+ghost use Rattle.c_writers.specs.Values.{fix_from, planned_of, head_of, point_of};
 
-use c_answers::{Numbers, accepted, refused};
-use rules::{Date, FinePosition, FineTime, Fix, Head, Height, Planned, Point, Position, Wrote};
+use rules::{Date, FinePosition, FineTime, Fix, Head, Height, Point, Position};
 
 fn height(metres: i32) -> Height
     ensures { result ≡ record { metres = metres } }
@@ -50,19 +47,14 @@ pub(crate) fn fix_from(
 }
 
 // A flight date, which is not given where it is all 0.
-fn planned_of(d: Date) -> Planned
+#[tactic(auto, unfolding(crate::specs::Values::planned_of))]
+fn planned_of(d: Date) -> Option<Date>
     ensures { result ≡ planned_of d }
 {
-    if d.day != 0 {
-        return Planned::On(d);
+    if d.day == 0 && d.month == 0 && d.year == 0 {
+        return None;
     }
-    if d.month != 0 {
-        return Planned::On(d);
-    }
-    if d.year != 0 {
-        return Planned::On(d);
-    }
-    Planned::NotGiven
+    Some(d)
 }
 
 pub(crate) fn head_of(declared: Date, seconds: u32, flight: Date, task: u16, turns: u8) -> Head
@@ -89,15 +81,5 @@ pub(crate) fn point_of(latitude: u64, n_or_s: u8, longitude: u64, e_or_w: u8) ->
             count: longitude,
             letter: e_or_w,
         },
-    }
-}
-
-// A line that was written: the place after it.
-pub(crate) fn wrote(w: Wrote) -> Numbers
-    ensures { result ≡ in_numbers place_numbers (wrote_told w) }
-{
-    match w {
-        Wrote::Next(n) => accepted(&[n as u64]),
-        Wrote::Refused(why) => refused(why),
     }
 }

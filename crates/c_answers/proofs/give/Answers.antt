@@ -1,6 +1,5 @@
 -- `give` meets its contract. Assumes nothing.
 use mathlib.Core.Path.{refl}
-use borrow.Author.Rules.{rules}
 use Rattle.c_answers.proofs.Laws.{no_room, room}
 use Rattle.c_answers.proofs.give.Goals as goal
 
@@ -8,4 +7,4 @@ pub returns-then-answer-ne-SIZE : goal.returns-then-answer-ne-SIZE
 returns-then-answer-ne-SIZE c = no_room _ _ c.if-answer-ne-SIZE.true
 
 pub returns : goal.returns
-returns c = room _ _ _ _ c.if-answer-ne-SIZE.false refl c.store.ensures
+returns c = room _ _ _ _ c.if-answer-ne-SIZE.false refl c.copy_from_slice.ensures.after

@@ -1,12 +1,11 @@
 -- `c_answers::presence` meets its contract. Assumes nothing.
-use borrow.Author.Rules.{rules}
-use Rattle.rules.specs.Layouts.{presence_told}
+use Rattle.rules.specs.Refusals.{result_told}
 use Rattle.c_answers.proofs.presence.Goals as goal
 
-pub returns-in-Carries : goal.returns-in-Carries
-unfolding presence_told
-returns-in-Carries c = rw c.in-Carries.is c.accepted.ensures
+pub returns-in-Ok : goal.returns-in-Ok
+unfolding result_told
+returns-in-Ok c = rw c.in-Ok.is c.accepted.ensures
 
-pub returns-in-Refused : goal.returns-in-Refused
-unfolding presence_told
-returns-in-Refused c = rw c.in-Refused.is c.refused.ensures
+pub returns-in-Err : goal.returns-in-Err
+unfolding result_told
+returns-in-Err c = rw c.in-Err.is c.refused.ensures

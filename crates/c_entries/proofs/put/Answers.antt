@@ -1,5 +1,4 @@
 -- `put` meets its contract. Assumes nothing.
-use borrow.Author.Rules.{rules}
 use borrow.Author.Tests.{eq-eqb, ne_eqb}
 use Rattle.c_entries.proofs.put.Goals as goal
 

@@ -11,4 +11,4 @@ returns-then-entries-ne-ENTRIES c = extra_no_entries _ _ _ _ c.if-answer-ne-SIZE
 
 pub returns : goal.returns
 returns c =
-    extra_answered _ _ _ _ _ _ _ _ _ c.if-answer-ne-SIZE.false c.if-entries-ne-ENTRIES.false c.extra-read.ensures c.time.ensures c.put.ensures c.give.ensures
+    extra_answered _ _ _ _ _ _ _ _ _ c.if-answer-ne-SIZE.false c.if-entries-ne-ENTRIES.false c.extra-read.ensures _ c.time_in.ensures c.time.ensures _ c.columns_of_extra.ensures c.put.ensures c.give.ensures

@@ -14,4 +14,4 @@ returns-then-entries-ne-ENTRIES c = fix_no_entries _ _ _ _ _ c.if-answer-ne-SIZE
 
 pub returns : goal.returns
 returns c =
-    fix_answered _ _ _ _ _ _ _ _ _ _ _ c.if-answer-ne-SIZE.false c.if-heights-ne2.false c.if-entries-ne-ENTRIES.false c.fix-read.ensures c.numbers.ensures c.put_heights.ensures c.put.ensures c.give.ensures
+    fix_answered _ _ _ _ _ _ _ _ _ _ _ c.if-answer-ne-SIZE.false c.if-heights-ne2.false c.if-entries-ne-ENTRIES.false c.fix-read.ensures _ c.fix_in-value.ensures c.numbers.ensures c.put_heights.ensures _ c.columns_of_fix.ensures c.put.ensures c.give.ensures

@@ -1,20 +1,18 @@
 -- `fix` meets its contract. Assumes nothing.
-use mathlib.Core.Path.{refl, ◌∙◌, ap}
+use mathlib.Core.Path.{refl}
 use borrow.Author.Rules.{rules}
-use Rattle.rules.specs.Reads.{answered, fix_told, fix_reading_told}
-use Rattle.line_known.proofs.Laws.{fix_read, told_refused}
+use Rattle.rules.specs.Reads.{fix_reading_told}
+use Rattle.std.proofs.lemmas.Result.{err_from_is_err_and}
+use Rattle.rules.proofs.Links.{then_err}
+use Rattle.line_known.proofs.Laws.{fix_read}
 use Rattle.c_given.specs.Given.{fix_by}
-use Rattle.c_given.proofs.Layouts.{known_then, layout_refused}
+use Rattle.c_given.proofs.Layouts.{known_then}
 use Rattle.c_given.proofs.fix.Goals as goal
 
-pub returns-in-Refused : goal.returns-in-Refused
-unfolding fix_told fix_reading_told fix_by
-returns-in-Refused c =
-    told_refused _ _ _ refl c.empty_layout.ensures
-    ∙ ap answered (layout_refused _ _ _ _ _ c.layout-given.ensures c.in-Refused.is refl)
+pub returns-in_err-given : goal.returns-in_err-given
+unfolding fix_reading_told fix_by
+returns-in_err-given c = let p = err_from_is_err_and c.from_residual.result c.from_residual.ensures.1 in rw (p.1, p.2) (then_err _ _ _ _ _ c.layout.ensures c.in_err-given.was refl)
 
 pub returns : goal.returns
 unfolding fix_by
-returns c =
-    c.fix.ensures
-    ∙ ap answered (known_then _ _ _ _ _ _ c.layout-given.ensures c.in_default.is refl (fix_read _ _))
+returns c = known_then _ _ _ _ _ _ _ c.layout.ensures c.in_ok-given.was c.fix.ensures (fix_read _ _)

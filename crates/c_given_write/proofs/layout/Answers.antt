@@ -8,14 +8,14 @@ pub returns-in_default : goal.returns-in_default
 unfolding layout_written layout_text_by
 returns-in_default c = family_refused _ _ c.layout_family.ensures _ _ _ _ c.in_default.is
 
-pub returns-in-Refused : goal.returns-in-Refused
+pub returns-in_default-layout_of : goal.returns-in_default-layout_of
 unfolding layout_written layout_text_by
-returns-in-Refused c =
-    family_then _ _ c.layout_family.ensures _ _ _ _ _ _ _ c.in-Of.is
-    (told_refused _ _ _ _ _ _ c.layout_of-read.ensures _ c.in-Refused.is _)
+returns-in_default-layout_of c =
+    family_then _ _ c.layout_family.ensures _ _ _ _ _ _ _ c.in-Some.is
+    (told_refused _ _ _ _ _ _ c.layout_of.ensures _ c.in_default-layout_of.is _)
 
 pub returns : goal.returns
 unfolding layout_written layout_text_by
 returns c =
-    family_then _ _ c.layout_family.ensures _ _ _ _ _ _ _ c.in-Of.is
-    (told_then _ _ _ _ _ _ c.layout_of-read.ensures c.in_default-outcome.is _ _ c.layout.ensures)
+    family_then _ _ c.layout_family.ensures _ _ _ _ _ _ _ c.in-Some.is
+    (told_then _ _ _ _ _ _ c.layout_of.ensures _ c.in-Ok.is _ _ c.layout.ensures)

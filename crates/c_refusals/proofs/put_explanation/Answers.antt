@@ -14,4 +14,4 @@ pub slice_bounds-put-end : goal.slice_bounds-put-end
 slice_bounds-put-end c = shown_counts c.refused-n.ensures
 
 pub returns : goal.returns
-returns c = explanation_put _ _ c.reason_of.ensures _ _ _ _ _ _ _ _ c.in-Is.is (shown_text c.refused-n.ensures) c.put.ensures
+returns c = explanation_put _ _ c.reason_of.ensures _ _ _ _ _ _ _ _ c.in-Some.is (shown_text c.refused-n.ensures) c.put.ensures

@@ -14,4 +14,4 @@ pub slice_bounds-put-end : goal.slice_bounds-put-end
 slice_bounds-put-end c = shown_counts (name_shown_lem _ c.put_name-n.ensures (search rules))
 
 pub returns : goal.returns
-returns c = name_put _ _ c.reason_of.ensures _ _ _ _ _ c.in-Is.is (shown_text (name_shown_lem _ c.put_name-n.ensures (search rules))) c.put.ensures
+returns c = name_put _ _ c.reason_of.ensures _ _ _ _ _ c.in-Some.is (shown_text (name_shown_lem _ c.put_name-n.ensures (search rules))) c.put.ensures

@@ -1,13 +1,9 @@
 -- `fits` meets its contract: the entries that are left decide as all do. Assumes nothing.
 use Prim.Native.Nat.{◌+◌, ◌*◌, ◌≤◌}
-use mathlib.Core.Path.{◌≡◌, refl, sym, ◌∙◌}
-use native.Mathlib.Omega.{arith}
-use borrow.Author.Rules.{rules}
-use borrow.Author.Tests.{not-true, not-false}
+use mathlib.Core.Path.{◌≡◌}
 use lib.ListN.{length}
 use Rattle.c_entries.specs.Lent.{entries_size}
 use Rattle.c_seek.specs.Parts.{fit_in}
-use Rattle.c_seek.proofs.Turns.{fit_outside, fit_again, fit_next, fit_done}
 use Rattle.c_seek.proofs.fits.Given as goal
 
 abbrev pub invariant-loop-left : goal.invariant-loop-left

@@ -1,12 +1,6 @@
 -- `place` meets its contract: the entries that are left decide as all do. Assumes nothing.
-use Prim.Native.Nat.{◌+◌, ◌*◌, ◌≤◌}
-use mathlib.Core.Path.{◌≡◌, refl, ◌∙◌}
+use mathlib.Core.Path.{refl, ◌∙◌}
 use native.Mathlib.Omega.{arith}
-use borrow.Author.Rules.{rules}
-use lib.ListN.{length}
-use Rattle.rules.specs.Promises.{found_told}
-use Rattle.c_entries.specs.Lent.{entries_size}
-use Rattle.c_seek.specs.Parts.{place_in}
 use Rattle.c_seek.proofs.Turns.{place_here, place_next, place_none}
 use Rattle.c_seek.proofs.place.Goals as goal
 
@@ -14,7 +8,6 @@ pub loop-left-init : goal.loop-left-init
 loop-left-init c = (c.requires.0, c.requires.1, refl)
 
 pub returns-then-list-at : goal.returns-then-list-at
-unfolding found_told
 returns-then-list-at c =
     let k = c.loop-left in
     place_here k.left _ k.at _ c.loop-left-test.true c.if-list-at.true ∙ k.invariant.2
@@ -25,7 +18,6 @@ loop-left-preserved c =
     (omega (arith, k.invariant.0, c.loop-left-test.true), k.invariant.1, place_next k.left _ k.at _ c.loop-left-test.true c.if-list-at.false ∙ k.invariant.2)
 
 pub returns : goal.returns
-unfolding found_told
 returns c =
     let k = c.loop-left in
     place_none k.left _ k.at _ c.loop-left-test.false ∙ k.invariant.2

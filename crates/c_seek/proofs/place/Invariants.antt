@@ -1,13 +1,9 @@
 -- `place` meets its contract: the entries that are left decide as all do. Assumes nothing.
 use Prim.Native.Nat.{◌+◌, ◌*◌, ◌≤◌}
-use mathlib.Core.Path.{◌≡◌, refl, ◌∙◌}
-use native.Mathlib.Omega.{arith}
-use borrow.Author.Rules.{rules}
+use mathlib.Core.Path.{◌≡◌}
 use lib.ListN.{length}
-use Rattle.rules.specs.Promises.{found_told}
 use Rattle.c_entries.specs.Lent.{entries_size}
 use Rattle.c_seek.specs.Parts.{place_in}
-use Rattle.c_seek.proofs.Turns.{place_here, place_next, place_none}
 use Rattle.c_seek.proofs.place.Given as goal
 
 abbrev pub invariant-loop-left : goal.invariant-loop-left

@@ -10,4 +10,4 @@ pub returns-then-answer-ne-SIZE : goal.returns-then-answer-ne-SIZE
 returns-then-answer-ne-SIZE c = beside_no_room _ _ _ _ c.if-answer-ne-SIZE.true
 
 pub returns : goal.returns
-returns c = write_room _ _ _ _ _ _ _ _ _ _ c.if-answer-ne-SIZE.false (rw (c.fix_from-f.ensures, to_z-of_z w32 c.args.pressure c.ranges.pressure, to_z-of_z w32 c.args.gnss c.ranges.gnss) at c.fix-wrote.ensures) c.wrote.ensures c.give.ensures
+returns c = write_room _ _ _ _ _ _ _ _ _ _ c.if-answer-ne-SIZE.false (rw (c.fix_from-f.ensures, to_z-of_z w32 c.args.pressure c.ranges.pressure, to_z-of_z w32 c.args.gnss c.ranges.gnss) at c.fix-wrote.ensures) c.count.ensures c.give.ensures

@@ -8,4 +8,4 @@ pub returns-then-answer-ne-SIZE : goal.returns-then-answer-ne-SIZE
 returns-then-answer-ne-SIZE c = beside_no_room _ _ _ _ c.if-answer-ne-SIZE.true
 
 pub returns : goal.returns
-returns c = write_room _ _ _ _ _ _ _ _ _ _ c.if-answer-ne-SIZE.false c.layout-wrote.ensures c.wrote.ensures c.give.ensures
+returns c = write_room _ _ _ _ _ _ _ _ _ _ c.if-answer-ne-SIZE.false c.layout-wrote.ensures c.count.ensures c.give.ensures

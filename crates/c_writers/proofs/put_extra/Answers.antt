@@ -11,9 +11,9 @@ returns-in_default c = none_written _ _ _ _ _ (extra_none _ _ c.family.ensures c
 
 pub returns-in_default-f : goal.returns-in_default-f
 unfolding kind_written kind_text
-returns-in_default-f c = none_written _ _ _ _ _ (extra_is_not _ _ c.family.ensures _ c.in-Of.is c.in_default-f.is)
+returns-in_default-f c = none_written _ _ _ _ _ (extra_is_not _ _ c.family.ensures _ c.in-Some.is c.in_default-f.is)
 
 pub returns : goal.returns
 unfolding kind_written kind_text
 returns c =
-    some_written _ _ _ _ _ _ _ _ (extra_is _ _ c.family.ensures _ _ c.in-Of.is c.in-Extra.is) c.extra.ensures
+    some_written _ _ _ _ _ _ _ _ (extra_is _ _ c.family.ensures _ _ c.in-Some.is c.in-Extra.is) c.extra.ensures

@@ -1,12 +1,12 @@
 -- `values::column` meets its contract. Assumes nothing.
+use Rattle.rules.specs.Refusals.{result_told}
 use borrow.Author.Rules.{rules}
-use Rattle.rules.specs.Layouts.{column_told}
 use Rattle.c_columns.proofs.values.column.Goals as goal
 
-pub returns-in-Between : goal.returns-in-Between
-unfolding column_told
-returns-in-Between c = rw c.in-Between.is c.span.ensures
+pub returns-in-Ok : goal.returns-in-Ok
+unfolding result_told
+returns-in-Ok c = rw c.in-Ok.is c.span.ensures
 
-pub returns-in-Refused : goal.returns-in-Refused
-unfolding column_told
-returns-in-Refused c = rw c.in-Refused.is c.refused.ensures
+pub returns-in-Err : goal.returns-in-Err
+unfolding result_told
+returns-in-Err c = rw c.in-Err.is c.refused.ensures

@@ -1,12 +1,12 @@
 -- `values::entry` meets its contract. Assumes nothing.
+use Rattle.rules.specs.Refusals.{result_told}
 use borrow.Author.Rules.{rules}
-use Rattle.c_given.specs.Given.{column_at_told}
 use Rattle.c_columns.proofs.values.entry.Goals as goal
 
-pub returns-in-Is : goal.returns-in-Is
-unfolding column_at_told
-returns-in-Is c = rw c.in-Is.is c.entry_values.ensures
+pub returns-in-Ok : goal.returns-in-Ok
+unfolding result_told
+returns-in-Ok c = rw c.in-Ok.is c.entry_values.ensures
 
-pub returns-in-Refused : goal.returns-in-Refused
-unfolding column_at_told
-returns-in-Refused c = rw c.in-Refused.is c.refused.ensures
+pub returns-in-Err : goal.returns-in-Err
+unfolding result_told
+returns-in-Err c = rw c.in-Err.is c.refused.ensures

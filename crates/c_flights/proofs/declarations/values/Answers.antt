@@ -3,4 +3,4 @@ use borrow.Author.Rules.{rules}
 use Rattle.c_flights.proofs.declarations.values.Goals as goal
 
 pub returns : goal.returns
-returns c = rw (← c.flight_date-flight.ensures) c.accepted.ensures
+returns c = rw (← c.planned_date-flight.ensures) c.accepted.ensures

@@ -10,4 +10,4 @@ pub returns-then-answer-ne-SIZE : goal.returns-then-answer-ne-SIZE
 returns-then-answer-ne-SIZE c = beside_no_room _ _ _ _ c.if-answer-ne-SIZE.true
 
 pub returns : goal.returns
-returns c = beside_room _ _ _ _ _ _ _ _ c.if-answer-ne-SIZE.false (c.numbers.ensures ∙ ap (in_numbers runs_numbers) c.summary-summed.ensures.told) c.give.ensures c.summary-summed.ensures.numbers
+returns c = beside_room _ _ _ _ _ _ _ _ c.if-answer-ne-SIZE.false (c.count.ensures ∙ ap (in_numbers runs_numbers) c.summary-summed.ensures.told) c.give.ensures c.summary-summed.ensures.numbers

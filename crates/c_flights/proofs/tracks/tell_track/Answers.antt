@@ -4,4 +4,4 @@ use Rattle.c_answers.proofs.Laws.{same_numbers}
 use Rattle.c_flights.proofs.tracks.tell_track.Goals as goal
 
 pub returns : goal.returns
-returns c = same_numbers _ _ _ _ _ _ c.numbers.ensures c.give.ensures
+returns c = same_numbers _ _ _ _ _ _ c.count.ensures c.give.ensures

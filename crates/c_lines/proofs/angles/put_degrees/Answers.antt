@@ -1,12 +1,12 @@
 -- `angles::put_degrees` meets its contract. Assumes nothing.
+use Rattle.rules.specs.Refusals.{result_told}
 use borrow.Author.Rules.{rules}
-use Rattle.rules.specs.Degrees.{degrees_told}
 use Rattle.c_lines.proofs.angles.put_degrees.Goals as goal
 
-pub returns-in-Both : goal.returns-in-Both
-unfolding degrees_told
-returns-in-Both c = rw c.in-Both.is c.put_pair.ensures
+pub returns-in-Ok : goal.returns-in-Ok
+unfolding result_told
+returns-in-Ok c = rw c.in-Ok.is c.put_pair.ensures
 
-pub returns-in-Refused : goal.returns-in-Refused
-unfolding degrees_told
-returns-in-Refused c = rw c.in-Refused.is c.put_pair-in-Refused.ensures
+pub returns-in-Err : goal.returns-in-Err
+unfolding result_told
+returns-in-Err c = rw c.in-Err.is c.put_pair-in-Err.ensures

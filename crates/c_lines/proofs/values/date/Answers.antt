@@ -1,12 +1,12 @@
 -- `values::date` meets its contract. Assumes nothing.
+use Rattle.rules.specs.Refusals.{result_told}
 use borrow.Author.Rules.{rules}
-use Rattle.rules.specs.Reads.{date_read_told}
 use Rattle.c_lines.proofs.values.date.Goals as goal
 
-pub returns-in-On : goal.returns-in-On
-unfolding date_read_told
-returns-in-On c = rw c.in-On.is c.accepted.ensures
+pub returns-in-Ok : goal.returns-in-Ok
+unfolding result_told
+returns-in-Ok c = rw c.in-Ok.is c.accepted.ensures
 
-pub returns-in-Refused : goal.returns-in-Refused
-unfolding date_read_told
-returns-in-Refused c = rw c.in-Refused.is c.refused.ensures
+pub returns-in-Err : goal.returns-in-Err
+unfolding result_told
+returns-in-Err c = rw c.in-Err.is c.refused.ensures
