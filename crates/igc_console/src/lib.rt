@@ -29,14 +29,12 @@ pub fn write<R: Print>(rt: &R, text: &[u8]) -> io::Result<()> {
 }
 
 pub(crate) fn print_usage<R: Print>(rt: &R) -> io::Result<()> {
-    let text = USAGE;
-    rt.write_all(&text)
+    rt.write_all(&USAGE)
 }
 
 // The help text on standard error.
 pub(crate) fn say_usage<R: Host>(rt: &R) {
-    let text = USAGE;
-    let _ = rt.complain(&text);
+    let _ = rt.complain(&USAGE);
 }
 
 // What became of a file whose answer was written, or was not: then that is said, once, in these words.

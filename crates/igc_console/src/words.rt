@@ -4,8 +4,8 @@ use igc_fate::Fate;
 use igc_host::Host;
 use igc_words::Verb;
 
-// The verb that a word is.
-pub fn verb_at<R: Host>(rt: &R, i: usize) -> Verb {
+// The verb that a word is; None where it is none.
+pub fn verb_at<R: Host>(rt: &R, i: usize) -> Option<Verb> {
     let mut word = [0u8; 4096];
     let k = igc_host::arg(rt, i, &mut word);
     igc_words::verb_of(&word[..k])
@@ -25,18 +25,16 @@ fn begins_names_at<R: Host>(rt: &R, i: usize) -> bool {
 
 // Where the first word that begins with a dash stands, of those from a place on; n where none does.
 fn first_option<R: Host>(rt: &R, from: usize, n: usize) -> usize {
-    let mut i = from;
-    while i < n {
+    for i in from..n {
         if is_option_at(rt, i) {
             return i;
         }
-        i += 1;
     }
     n
 }
 
 // The names of files among the words from a place on: how many they are, and where `--` stands, behind which every word is one. None where a word before it begins with a dash.
-#[derive(Clone, Copy)]
+#[derive(Clone, Copy, Debug, PartialEq, Eq)]
 pub struct Names {
     pub dashes: usize,
     pub count: usize,
@@ -74,21 +72,16 @@ pub fn tell<R: Host>(rt: &R, version: bool, n: usize) -> u32 {
     if 2 < n {
         return refuse_words(rt);
     }
-    if version {
-        return igc_fate::status_of(fate_of(
-            rt,
-            write(rt, b"igc 1, of Hivebasket\n"),
-            Fate::Accepted,
-        ));
-    }
-    igc_fate::status_of(fate_of(rt, print_usage(rt), Fate::Accepted))
+    let written = if version {
+        write(rt, b"igc 1, of Hivebasket\n")
+    } else {
+        print_usage(rt)
+    };
+    igc_fate::status_of(fate_of(rt, written, Fate::Accepted))
 }
 
 // The place of a word that names a file, where it is known without `--`: one further where that stands before it.
 pub fn place_of(i: u32, dashes: usize) -> usize {
     let place = i as usize;
-    if place < dashes {
-        return place;
-    }
-    place + 1
+    if place < dashes { place } else { place + 1 }
 }

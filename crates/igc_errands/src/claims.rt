@@ -2,7 +2,7 @@
 use igc_console::{fate_by, print_fit, print_refused};
 use igc_fate::Fate;
 use igc_host::Host;
-use rules::{Outcome, Seal};
+use rules::{Refusal, Seal};
 use std::io;
 
 // The fate given, where all was written; else Unwritten, and badge says so on standard error.
@@ -16,7 +16,7 @@ pub(crate) fn print_claim<R: Host>(rt: &R, name: &[u8], file: &[u8]) -> Fate {
     let outcome = checked.outcome;
     let flight = checked.flight;
     match outcome {
-        Outcome::Refused(why) => claim_fate(rt, print_refused(rt, name, file, why), Fate::Refused),
-        Outcome::Accepted => claim_fate(rt, print_fit(rt, name, flight, file), Fate::Accepted),
+        Err(why) => claim_fate(rt, print_refused(rt, name, file, why), Fate::Refused),
+        Ok(()) => claim_fate(rt, print_fit(rt, name, flight, file), Fate::Accepted),
     }
 }

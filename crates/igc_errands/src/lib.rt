@@ -19,7 +19,7 @@ use summaries::print_summary;
 use tracks::{Kind, print_track};
 
 // What is wanted of a file: its listing, a line that says whether it is accepted, its track for people or for other programs, its summary; or whether it is fit for a claim, which the badge list asks.
-#[derive(Clone, Copy)]
+#[derive(Clone, Copy, Debug, PartialEq, Eq)]
 pub enum Errand {
     List,
     Check,
@@ -33,11 +33,7 @@ pub enum Errand {
 // A listing or a track has the file's name before it where there are several, so that one file alone gives just what the listing gives, or just its track. The others have the name in
 // their line.
 fn is_headed(errand: Errand, several: bool) -> bool {
-    match errand {
-        Errand::List => several,
-        Errand::Track => several,
-        _ => false,
-    }
+    several && matches!(errand, Errand::List | Errand::Track)
 }
 
 // An errand on a file that was read whole.
@@ -68,10 +64,8 @@ pub fn on_file<R: Host>(
             return fate_of(rt, Err(error), Fate::Unwritten);
         }
     }
-    let got = read_named(rt, name, input);
-    if !got.whole {
+    let Some(n) = read_named(rt, name, input) else {
         return Fate::Unread;
-    }
-    let n = got.count;
+    };
     on_read(rt, errand, name, &input[..n], table)
 }

@@ -68,15 +68,11 @@ pub fn merge_named<R: Host>(
     other: &mut [u8],
     out: &mut [u8],
 ) -> Fate {
-    let one = read_named(rt, first, input);
-    if !one.whole {
+    let Some(n) = read_named(rt, first, input) else {
         return Fate::Unread;
-    }
-    let two = read_named(rt, second, other);
-    if !two.whole {
+    };
+    let Some(k) = read_named(rt, second, other) else {
         return Fate::Unread;
-    }
-    let n = one.count;
-    let k = two.count;
+    };
     bring(rt, first, second, new, &input[..n], &other[..k], out)
 }

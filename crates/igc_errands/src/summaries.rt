@@ -2,9 +2,8 @@
 use igc_console::{fate_of, print_refused};
 use igc_fate::Fate;
 use igc_host::Host;
-use rules::Date;
+use rules::{Date, Refusal};
 use std::io;
-use summary_reckon::Summed;
 
 // The line of an accepted file: a line has at most 320 bytes before the name.
 fn print_line<R: Host>(rt: &R, name: &[u8], date: Date, list: &[i32]) -> io::Result<()> {
@@ -17,10 +16,8 @@ fn print_line<R: Host>(rt: &R, name: &[u8], date: Date, list: &[i32]) -> io::Res
 pub(crate) fn print_summary<R: Host>(rt: &R, name: &[u8], file: &[u8]) -> Fate {
     let mut list = [0i32; 21276];
     let made = summary::with_date(file, 0, &mut list);
-    let answer = made.answer;
-    let date = made.date;
-    match answer {
-        Summed::Refused(why) => fate_of(rt, print_refused(rt, name, file, why), Fate::Refused),
-        _ => fate_of(rt, print_line(rt, name, date, &list), Fate::Accepted),
+    match made.answer {
+        Err(why) => fate_of(rt, print_refused(rt, name, file, why), Fate::Refused),
+        Ok(_) => fate_of(rt, print_line(rt, name, made.date, &list), Fate::Accepted),
     }
 }

@@ -2,7 +2,7 @@
 use igc_console::{fate_of, print_refusal};
 use igc_fate::Fate;
 use igc_host::Host;
-use rules::{Date, Outcome, Seal};
+use rules::{Date, Refusal, Seal};
 use std::io;
 use text_forms::Form;
 use track_rules::Progress;
@@ -34,6 +34,7 @@ fn print_sheets<R: Host>(
     let mut block = [0u8; 65536];
     let mut from = start;
     let mut left = count;
+    // Each sheet tells how many fixes it leaves: the count goes down by as many as a sheet takes.
     while 0 < left {
         let sheet = text_stretch::fill(file, form, from, left, &mut block);
         let n = sheet.used;
@@ -78,8 +79,8 @@ pub(crate) fn print_track<R: Host>(rt: &R, file: &[u8], kind: Kind) -> Fate {
     let flight = checked.flight;
     let date = flight.date;
     match outcome {
-        Outcome::Refused(why) => fate_of(rt, print_refusal(rt, file, why), Fate::Refused),
-        Outcome::Accepted => {
+        Err(why) => fate_of(rt, print_refusal(rt, file, why), Fate::Refused),
+        Ok(()) => {
             let course = track_course::for_flight(flight, file.len());
             let start = course.start;
             fate_of(

@@ -11,10 +11,7 @@ const NOT_TEXT: i32 = 84;
 
 // The path that a name is; an error where it is not UTF-8.
 fn path_of(name: &[u8]) -> io::Result<&str> {
-    match std::str::from_utf8(name) {
-        Ok(path) => Ok(path),
-        Err(_) => Err(io::Error::from_raw_os_error(NOT_TEXT)),
-    }
+    std::str::from_utf8(name).map_err(|_| io::Error::from_raw_os_error(NOT_TEXT))
 }
 
 // Opens a file to be read.
@@ -47,6 +44,7 @@ pub fn read_full<F: Read>(file: &mut F, input: &mut [u8]) -> usize
     ensures { IsPrefixLen result input.new }
 {
     let mut count = 0;
+    // The count goes on by what each read gives, and is the answer also where a read fails.
     while count < input.len() {
         match file.read(&mut input[count..]) {
             Ok(0) => return count,

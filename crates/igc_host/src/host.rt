@@ -22,13 +22,13 @@ fn say_cause<R: Host>(rt: &R, error: io::Error) -> io::Result<()> {
     write!(said, "{error}")?;
     let n = (said.position() as usize).min(256);
     let all = said.into_inner();
-    match std::str::from_utf8(&all[..n]) {
-        Ok(text) => match text.split_once(" (os error ") {
-            Some((cause, _)) => rt.complain(cause.as_bytes()),
-            None => rt.complain(text.as_bytes()),
-        },
-        Err(_) => Ok(()),
-    }
+    let Ok(text) = std::str::from_utf8(&all[..n]) else {
+        return Ok(());
+    };
+    let cause = text
+        .split_once(" (os error ")
+        .map_or(text, |(cause, _)| cause);
+    rt.complain(cause.as_bytes())
 }
 
 // A line on standard error: what failed, a colon and the system's words for it. Where that cannot be written either, nothing more can be said.

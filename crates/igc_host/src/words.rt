@@ -8,19 +8,13 @@ use std::env::FillError;
 pub fn arg<R: Host>(rt: &R, i: usize, word: &mut [u8]) -> usize
     ensures { IsPrefixLen result word.new }
 {
-    match rt.arg(i, word) {
-        Ok(n) => n,
-        Err(_) => 0,
-    }
+    rt.arg(i, word).unwrap_or(0)
 }
 
 // Whether there is a word at this place, of whatever length.
 fn is_arg<R: Host>(rt: &R, i: usize) -> bool {
     let mut byte = [0u8; 1];
-    match rt.arg(i, &mut byte) {
-        Err(FillError::NotPresent) => false,
-        _ => true,
-    }
+    !matches!(rt.arg(i, &mut byte), Err(FillError::NotPresent))
 }
 
 // How many words there are, the program's own name among them.

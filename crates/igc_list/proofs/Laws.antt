@@ -1,11 +1,11 @@
 -- Each way out of `begin` is the first line of the listing. Assumes nothing.
+use Rattle.std.specs.Prelude.{Err, Ok, Some}
 use Prim.Native.Nat.{ℕ, ◌≤◌, ◌<◌}
 use mathlib.Core.List.{List}
-use mathlib.Core.Option.{some}
 use mathlib.Core.Path.{◌≡◌, refl, sym, ap, ◌∙◌}
 use borrow.Author.Tests.{le-leb, lt-leb}
 use lib.ListN.{length}
-use Rattle.rules.specs.Refusals.{number, Said, says, refuses, refusal, outcome, outcome_told, value_or}
+use Rattle.rules.specs.Refusals.{number, Said, says, refuses, refusal, outcome, value_or, result_told}
 use Rattle.rules.specs.Layouts.{empty_layout}
 use Rattle.rules.specs.Order.{no_flight}
 use Rattle.rules.specs.Files.{verdict}
@@ -16,7 +16,6 @@ use Rattle.rules.specs.declared.Refusal.{Refusal}
 use Rattle.rules.specs.declared.Layout.{Layout}
 use Rattle.rules.specs.declared.Flight.{Flight}
 use Rattle.rules.specs.declared.Checked.{Checked}
-use Rattle.rules.specs.declared.Outcome.TheVariants.{Accepted, Refused}
 use Rattle.rules.specs.declared.Seal.{Seal}
 use Rattle.text_pieces.specs.Buffer.{Shown}
 use Rattle.igc_list.specs.First.{opened, first_line, Begins}
@@ -43,7 +42,7 @@ module _ (seal : Seal) (most : ℕ) (file table out after : List ℕ) (n : ℕ) 
   }
 
   module _ (entries : List ℕ) (r : Checked) (h : length file ≤ most) (c : FileChecked seal file table r entries) where
-    began : (text : List ℕ) → first_line (verdict seal file (some (length table))) ≡ text → Shown text out n after
+    began : (text : List ℕ) → first_line (verdict seal file (Some (length table))) ≡ text → Shown text out n after
         → Begins seal most file table out (record { count = n; lines = r.flight.lines; layout = r.flight.layouts.b }) entries after
     unfolding opened
     began text e s = record {
@@ -53,12 +52,12 @@ module _ (seal : Seal) (most : ℕ) (file table out after : List ℕ) (n : ℕ) 
       entered = rw (le-leb (length file) most h) c.entries;
     }
 
-    pub began_ok : r.outcome ≡ Accepted → Shown (ok_text r.flight) out n after
+    pub began_ok : r.outcome ≡ (Ok tt) → Shown (ok_text r.flight) out n after
         → Begins seal most file table out (record { count = n; lines = r.flight.lines; layout = r.flight.layouts.b }) entries after
-    unfolding outcome_told
-    began_ok is s = began _ (ok_first _ (sym c.told.answer ∙ ap outcome_told is)) (rw (sym c.told.flight) s)
+    unfolding result_told
+    began_ok is s = began _ (ok_first _ (sym c.told.answer ∙ ap result_told is)) (rw (sym c.told.flight) s)
 
-    pub began_refused : (w : Refusal) → r.outcome ≡ Refused w → Shown (refused_text (number w.reason) w.line w.byte) out n after
+    pub began_refused : (w : Refusal) → r.outcome ≡ Err w → Shown (refused_text (number w.reason) w.line w.byte) out n after
         → Begins seal most file table out (record { count = n; lines = r.flight.lines; layout = r.flight.layouts.b }) entries after
-    unfolding outcome_told
-    began_refused w is s = began _ (refused_first _ w (sym c.told.answer ∙ ap outcome_told is)) s
+    unfolding result_told
+    began_refused w is s = began _ (refused_first _ w (sym c.told.answer ∙ ap result_told is)) s

@@ -1,8 +1,8 @@
 -- What `begin` puts, and behind it the pages of the file one after the other, are the whole listing. Assumes nothing.
+use Rattle.std.specs.Prelude.{Some}
 use Prim.Native.Nat.{ℕ, zero, suc, ◌+◌, ◌-◌, ◌≤◌, ◌<◌}
 use mathlib.Core.Bool.{Bool, true, false, cond}
 use mathlib.Core.List.{List, [], ◌∷◌, ◌++◌, append_assoc, append-nil}
-use mathlib.Core.Option.{some}
 use mathlib.Core.Path.{◌≡◌, refl, sym, ap, subst, ◌∙◌}
 use native.Mathlib.Nat.{add-zero, zero-add}
 use native.Mathlib.Omega.{arith}
@@ -199,13 +199,13 @@ each_at P (l ∷ ls) zero h p = p.0
 each_at P (l ∷ ls) (suc i) h p = each_at P ls i (omega arith) p.1
 
 -- behind the first line of an accepted file, by its table and what the check said of it
-pages_left : (seal : Seal) (file table : List ℕ) (f : Flight) (room : ℕ) → 4096 ≤ room → verdict seal file (some (length table)) ≡ says f
+pages_left : (seal : Seal) (file table : List ℕ) (f : Flight) (room : ℕ) → 4096 ≤ room → verdict seal file (Some (length table)) ≡ says f
     → joined file (table_after seal file table) f.lines f.layouts.b room f.lines 0 ≡ fixes_shown 1 f.layouts.b (lines_of file)
 unfolding good_lines
 pages_left seal file table f room enough e = by (allowed 36 f.layouts.b) refl
   where
     many : f.lines ≡ length (texts_of (lines_of file))
-    many = lines_counted seal file (some (length table)) f e
+    many = lines_counted seal file (Some (length table)) f e
 
     there : (i : ℕ) → i < length (texts_of (lines_of file)) → get_or (table_after seal file table) (0 + i) 0 ≡ get_or (offsets 0 (lines_of file)) i 0
     there i h = rw zero-add (entry_put seal file table i 0 (rw e (omega (arith, many))))
@@ -222,7 +222,7 @@ pages_left seal file table f room enough e = by (allowed 36 f.layouts.b) refl
     by true ok =
         let all : f.lines - 0 ≡ length (texts_of (lines_of file)) = omega (arith, many) in
         pages_printed file (table_after seal file table) f.lines f.layouts.b room enough ok f.lines 0 (omega arith)
-        ∙ rw all (lines_printed file (table_after seal file table) f.lines f.layouts.b (lines_of file) 0 0 refl (counted.accepted_whole seal file (some (length table)) f e) (omega (arith, many)) there read)
+        ∙ rw all (lines_printed file (table_after seal file table) f.lines f.layouts.b (lines_of file) 0 0 refl (counted.accepted_whole seal file (Some (length table)) f e) (omega (arith, many)) there read)
     by false not_ok = no_pages file (table_after seal file table) f.lines f.layouts.b not_ok room f.lines 0 ∙ sym (no_lines file (table_after seal file table) f.lines f.layouts.b not_ok (lines_of file) 1)
 
 module _ (seal : Seal) (most : ℕ) (file table : List ℕ) (room : ℕ) (enough : 4096 ≤ room) where
@@ -235,7 +235,7 @@ module _ (seal : Seal) (most : ℕ) (file table : List ℕ) (room : ℕ) (enough
   accepted_pages : (f : Flight) → opened seal most file (length table) ≡ says f → lefts (says f) ≡ fixes_shown 1 f.layouts.b (lines_of file)
   unfolding opened
   accepted_pages f e =
-      let a = need_inv (leb (length file) most) (no InputOver 0) (says f) (λ _. verdict seal file (some (length table))) refuses_says e in
+      let a = need_inv (leb (length file) most) (no InputOver 0) (says f) (λ _. verdict seal file (Some (length table))) refuses_says e in
       rw a.0 (pages_left seal file table f room enough a.1)
 
   listed_by : (s : Said Flight) → opened seal most file (length table) ≡ s → first_line s ++ lefts s ≡ listed_as file s
@@ -245,8 +245,8 @@ module _ (seal : Seal) (most : ℕ) (file table : List ℕ) (room : ℕ) (enough
 
 -- The OK line of an accepted file and behind it the pages that blocks of a size take, by its table and what the check said of it, are its listing: a block for each
 -- line at most, and each of 4,096 bytes at least.
-pub accepted_whole : (seal : Seal) (file table : List ℕ) (f : Flight) (room : ℕ) → 4096 ≤ room → verdict seal file (some (length table)) ≡ says f
-    → ok_text f ++ joined file (table_after seal file table) f.lines f.layouts.b room f.lines 0 ≡ listed_as file (verdict seal file (some (length table)))
+pub accepted_whole : (seal : Seal) (file table : List ℕ) (f : Flight) (room : ℕ) → 4096 ≤ room → verdict seal file (Some (length table)) ≡ says f
+    → ok_text f ++ joined file (table_after seal file table) f.lines f.layouts.b room f.lines 0 ≡ listed_as file (verdict seal file (Some (length table)))
 unfolding listed_as
 accepted_whole seal file table f room enough e = rw e (ap (λ x. ok_text f ++ x) (pages_left seal file table f room enough e))
 

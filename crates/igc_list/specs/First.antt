@@ -1,6 +1,5 @@
 -- The first line of the listing of document 01, and the promise of the function that puts it.
-use Rattle.std.specs.Prelude.{ℕ, cond, List, ◌≡◌, leb, length}
-use Rattle.std.proofs.Math.Option.{some}
+use Rattle.std.specs.Prelude.{ℕ, cond, List, ◌≡◌, leb, length, Some}
 use Rattle.rules.specs.Choice.{need}
 use Rattle.rules.specs.Refusals.{Said, says, refuses, no, value_or}
 use Rattle.rules.specs.Order.{no_flight}
@@ -16,7 +15,7 @@ use Rattle.igc_list.specs.declared.first.Begun.{Begun}
 
 -- "21 INPUT_OVER: program's input over 65,536 bytes; 0, 0", here over `most`; else what the check says with a table of `room` entries
 unfoldable pub opened : Seal → ℕ → List ℕ → ℕ → Said Flight
-opened seal most file room = need (leb (length file) most) (no InputOver 0) λ _. verdict seal file (some room)
+opened seal most file room = need (leb (length file) most) (no InputOver 0) λ _. verdict seal file (Some room)
 
 -- "OK: lines, B lines, K lines, B length, K length."; it "gets the N count and N length as two more fields at its end"; "A refusal prints only REFUSED, number, line, byte."
 unfoldable pub first_line : Said Flight → List ℕ

@@ -1,7 +1,7 @@
 // The first line of a listing, from the whole check. Behind it come the pages, which `text_block` puts.
 ghost use Rattle.igc_list.specs.First.{Begins};
 
-use rules::{Layout, Outcome, Reason, Refusal, Seal};
+use rules::{Layout, Reason, Refusal, Seal};
 
 // The first line of a listing: how many bytes were put; and the file's lines and I layout, none where it is refused.
 #[derive(Clone, Copy)]
@@ -22,25 +22,21 @@ pub fn begin(seal: Seal, most: usize, file: &[u8], table: &mut [u32], out: &mut 
             line: 0,
             byte: 0,
         };
-        let layout = layout::empty_layout();
         return Begun {
             count: text_listing::refused(over, out),
             lines: 0,
-            layout,
+            layout: layout::empty_layout(),
         };
     }
     let checked = check_file::check(seal, file, table);
-    let outcome = checked.outcome;
     let flight = checked.flight;
-    let layouts = flight.layouts;
-    let layout = layouts.b;
-    let count = match outcome {
-        Outcome::Refused(why) => text_listing::refused(why, out),
-        Outcome::Accepted => text_listing::ok(flight, out),
+    let count = match checked.outcome {
+        Err(why) => text_listing::refused(why, out),
+        Ok(()) => text_listing::ok(flight, out),
     };
     Begun {
         count,
         lines: flight.lines,
-        layout,
+        layout: flight.layouts.b,
     }
 }

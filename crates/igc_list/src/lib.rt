@@ -38,15 +38,8 @@ fn print_column<R: Print>(rt: &R, line: &[u8], e: Entry) -> io::Result<()> {
 
 // COL, a code and its text, for each entry of a layout.
 pub fn print_columns<R: Print>(rt: &R, line: &[u8], layout: Layout) -> io::Result<()> {
-    let n = layout.count;
-    let mut i = 0;
-    while i < 13 {
-        if n <= i {
-            return Ok(());
-        }
-        let e = layout.entries[i];
-        print_column(rt, line, e)?;
-        i += 1;
+    for e in &layout.entries[..layout.count.min(13)] {
+        print_column(rt, line, *e)?;
     }
     Ok(())
 }
@@ -61,16 +54,13 @@ fn print_pages<R: Print>(
 ) -> io::Result<()> {
     let mut block = [0u8; 65536];
     let mut passed = 0;
-    let mut left = lines;
-    while 0 < left {
+    for _ in 0..lines {
         if lines <= passed {
             return Ok(());
         }
         let page = text_block::fill(passed, file, table, lines, layout, &mut block);
-        let n = page.used;
-        rt.write_all(&block[..n])?;
+        rt.write_all(&block[..page.used])?;
         passed = page.passed;
-        left -= 1;
     }
     Ok(())
 }
@@ -82,10 +72,8 @@ pub fn print_accepted<R: Print>(
     table: &[u32],
     flight: Flight,
 ) -> io::Result<()> {
-    let layouts = flight.layouts;
-    let layout = layouts.b;
     print_ok(rt, flight)?;
-    print_pages(rt, file, table, flight.lines, layout)
+    print_pages(rt, file, table, flight.lines, flight.layouts.b)
 }
 
 // Lists a file of at most 65,536 bytes, by the usual check; a longer one is INPUT_OVER.
@@ -93,8 +81,6 @@ pub fn list<R: Print>(rt: &R, file: &[u8]) -> io::Result<()> {
     let mut table = [0u32; 16384];
     let mut out = [0u8; 288];
     let begun = first::begin(Seal::Usual, 65536, file, &mut table, &mut out);
-    let n = begun.count;
-    let layout = begun.layout;
-    rt.write_all(&out[..n])?;
-    print_pages(rt, file, &table, begun.lines, layout)
+    rt.write_all(&out[..begun.count])?;
+    print_pages(rt, file, &table, begun.lines, begun.layout)
 }

@@ -16,13 +16,11 @@ const USAGE: [u8; 276] = *b"\
 ";
 
 fn print_usage<R: Print>(rt: &R) -> io::Result<()> {
-    let text = USAGE;
-    rt.write_all(&text)
+    rt.write_all(&USAGE)
 }
 
 fn refuse_words<R: Host>(rt: &R) -> u32 {
-    let text = USAGE;
-    let _ = rt.complain(&text);
+    let _ = rt.complain(&USAGE);
     2
 }
 
@@ -38,7 +36,7 @@ fn on_no_names<R: Host>(rt: &R, n: usize) -> u32 {
         return refuse_words(rt);
     }
     match igc_console::verb_at(rt, 1) {
-        Verb::Help => igc_fate::status_of(igc_errands::claim_fate(
+        Some(Verb::Help) => igc_fate::status_of(igc_errands::claim_fate(
             rt,
             print_usage(rt),
             Fate::Accepted,

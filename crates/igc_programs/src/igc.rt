@@ -6,16 +6,6 @@ use igc_fate::Fate;
 use igc_host::Host;
 use igc_words::Verb;
 
-// What a verb wants of each file that is named.
-fn errand_of(verb: Verb) -> Errand {
-    match verb {
-        Verb::Check => Errand::Check,
-        Verb::Track => Errand::Track,
-        Verb::Summary => Errand::Summary,
-        _ => Errand::List,
-    }
-}
-
 // An errand on the files that the words from a place on name. A word that begins with a dash names none, but for those behind `--`.
 fn on_files<R: Host>(
     rt: &R,
@@ -86,13 +76,15 @@ pub fn igc_run<R: Host>(
     if n < 2 {
         return igc_console::refuse_words(rt);
     }
-    let verb = igc_console::verb_at(rt, 1);
-    match verb {
-        Verb::Merge => on_three(rt, n, input, other, out),
-        Verb::Shelf => igc_shelf::run(rt, n, input, other),
-        Verb::Help => igc_console::tell(rt, false, n),
-        Verb::Version => igc_console::tell(rt, true, n),
-        Verb::NoVerb => on_files(rt, Errand::List, 1, n, input, table),
-        _ => on_files(rt, errand_of(verb), 2, n, input, table),
+    match igc_console::verb_at(rt, 1) {
+        Some(Verb::List) => on_files(rt, Errand::List, 2, n, input, table),
+        Some(Verb::Check) => on_files(rt, Errand::Check, 2, n, input, table),
+        Some(Verb::Track) => on_files(rt, Errand::Track, 2, n, input, table),
+        Some(Verb::Summary) => on_files(rt, Errand::Summary, 2, n, input, table),
+        Some(Verb::Merge) => on_three(rt, n, input, other, out),
+        Some(Verb::Shelf) => igc_shelf::run(rt, n, input, other),
+        Some(Verb::Help) => igc_console::tell(rt, false, n),
+        Some(Verb::Version) => igc_console::tell(rt, true, n),
+        None => on_files(rt, Errand::List, 1, n, input, table),
     }
 }

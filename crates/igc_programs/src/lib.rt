@@ -38,15 +38,7 @@ fn on_word<R: Host>(
     igc_errands::on_file(rt, errand, &name[..k], several, input, table)
 }
 
-// Nothing more can be said where the output could not be written.
-fn is_unwritten(fate: Fate) -> bool {
-    match fate {
-        Fate::Unwritten => true,
-        _ => false,
-    }
-}
-
-// An errand on each file that is named, from a word on. The answer is the exit status.
+// An errand on each file that is named, from a word on; nothing more can be said where the output could not be written. The answer is the exit status.
 fn on_each<R: Host>(
     rt: &R,
     errand: Errand,
@@ -58,14 +50,12 @@ fn on_each<R: Host>(
     table: &mut [u32],
 ) -> u32 {
     let mut status = 0;
-    let mut i = first;
-    while i < n {
+    for i in first..n {
         let fate = on_word(rt, errand, i, dashes, several, input, table);
         status = igc_fate::worse(status, igc_fate::status_of(fate));
-        if is_unwritten(fate) {
+        if fate == Fate::Unwritten {
             return status;
         }
-        i += 1;
     }
     status
 }
@@ -74,11 +64,7 @@ fn on_each<R: Host>(
 fn exit_code(status: u32) -> ExitCode
     ensures { exit_status result ≡ min status 2 }
 {
-    match status {
-        0 => ExitCode::from(0),
-        1 => ExitCode::from(1),
-        _ => ExitCode::from(2),
-    }
+    ExitCode::from(status.min(2) as u8)
 }
 
 // How a program ends: by its status; or by 2, and said on standard error by its name, where there was no memory for the files.

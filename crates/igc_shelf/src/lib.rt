@@ -6,9 +6,9 @@ use igc_console::{fate_of, print_refused};
 use igc_fate::Fate;
 use igc_host::Host;
 use igc_named::read_named;
-use igc_words::{Deed, Flight};
-use rules::{Outcome, Reason, Refusal, Seal};
-use shelf_rules::{Added, Asked};
+use igc_words::Deed;
+use rules::{Reason, Refusal, Seal};
+use shelf_rules::Extent;
 
 // A refusal of the shelf: it names no line.
 fn refuse<R: Host>(rt: &R, name: &[u8], why: Refusal) -> Fate {
@@ -22,26 +22,26 @@ fn keep<R: Host>(
     new: &[u8],
     file: R::File,
     shelf: &[u8],
-    done: Outcome,
+    done: Result<(), Refusal>,
 ) -> Fate {
     match done {
-        Outcome::Refused(why) => {
+        Err(why) => {
             igc_console::give_up(rt, new, file);
             refuse(rt, name, why)
         }
-        Outcome::Accepted => {
-            if !igc_console::replace(rt, name, new, file, shelf) {
-                return Fate::Unwritten;
+        Ok(()) => {
+            if igc_console::replace(rt, name, new, file, shelf) {
+                Fate::Accepted
+            } else {
+                Fate::Unwritten
             }
-            Fate::Accepted
         }
     }
 }
 
 // Whether a refusal of adding is the file's own, by the usual check: the shelf's own numbers are greater.
 fn is_of_file(why: Refusal) -> bool {
-    let reason = why.reason;
-    text_refusal::number(reason) < 26
+    text_refusal::number(why.reason) < 26
 }
 
 // Why a file is not added, told of the file or of the shelf.
@@ -58,8 +58,8 @@ fn tell_named<R: Host>(rt: &R, name: &[u8], body: &[u8]) -> Fate {
     let outcome = checked.outcome;
     let flight = checked.flight;
     match outcome {
-        Outcome::Refused(why) => fate_of(rt, print_refused(rt, name, body, why), Fate::Refused),
-        Outcome::Accepted => fate_of(
+        Err(why) => fate_of(rt, print_refused(rt, name, body, why), Fate::Refused),
+        Ok(()) => fate_of(
             rt,
             igc_console::print_accepted(rt, name, flight),
             Fate::Accepted,
@@ -84,25 +84,15 @@ fn tell_entry<R: Host>(rt: &R, shelf: &[u8], n: usize) -> Fate {
     tell(rt, number, body)
 }
 
-// Nothing more can be said where the output could not be written.
-fn is_unwritten(fate: Fate) -> bool {
-    match fate {
-        Fate::Unwritten => true,
-        _ => false,
-    }
-}
-
-// Each flight, in the order of the table of contents; the worst of what became of them.
+// Each flight, in the order of the table of contents; the worst of what became of them. Nothing more can be said where the output could not be written.
 fn list<R: Host>(rt: &R, shelf: &[u8]) -> u32 {
     let mut status = 0;
-    let mut n = 0;
-    while n < 64 {
+    for n in 0..64 {
         let fate = tell_entry(rt, shelf, n);
         status = igc_fate::worse(status, igc_fate::status_of(fate));
-        if is_unwritten(fate) {
+        if fate == Fate::Unwritten {
             return status;
         }
-        n += 1;
     }
     status
 }
@@ -117,7 +107,7 @@ fn list_sound<R: Host>(rt: &R, name: &[u8], shelf: &[u8]) -> u32 {
 // The bytes of a flight on standard output.
 fn get<R: Host>(rt: &R, name: &[u8], shelf: &[u8], number: u32) -> Fate {
     match shelf::ask(shelf, number) {
-        Asked::Refused(why) => refuse(rt, name, why),
+        Err(why) => refuse(rt, name, why),
         _ => fate_of(
             rt,
             igc_console::write(rt, shelf::body(shelf, number)),
@@ -128,11 +118,9 @@ fn get<R: Host>(rt: &R, name: &[u8], shelf: &[u8], number: u32) -> Fate {
 
 // What is asked of a shelf that is only read.
 fn on_read<R: Host>(rt: &R, deed: Deed, number: u32, name: &[u8], input: &mut [u8]) -> u32 {
-    let got = read_named(rt, name, input);
-    if !got.whole {
+    let Some(n) = read_named(rt, name, input) else {
         return igc_fate::status_of(Fate::Unread);
-    }
-    let n = got.count;
+    };
     match deed {
         Deed::List => list_sound(rt, name, &input[..n]),
         _ => igc_fate::status_of(get(rt, name, &input[..n], number)),
@@ -152,15 +140,13 @@ fn add_flight<R: Host>(
 ) -> Fate {
     let mut from = [0u8; 4096];
     let k = igc_host::arg(rt, i, &mut from);
-    let got = read_named(rt, &from[..k], other);
-    if !got.whole {
+    let Some(n) = read_named(rt, &from[..k], other) else {
         igc_console::give_up(rt, new, file);
         return Fate::Unread;
-    }
-    let n = got.count;
+    };
     match shelf::add(shelf, number, &other[..n]) {
-        Added::At(_) => keep(rt, name, new, file, shelf, Outcome::Accepted),
-        Added::Refused(why) => {
+        Ok(_) => keep(rt, name, new, file, shelf, Ok(())),
+        Err(why) => {
             igc_console::give_up(rt, new, file);
             refuse_added(rt, name, &from[..k], &other[..n], why)
         }
@@ -196,12 +182,10 @@ fn change<R: Host>(
     input: &mut [u8],
     other: &mut [u8],
 ) -> Fate {
-    let got = read_named(rt, name, input);
-    if !got.whole {
+    let Some(n) = read_named(rt, name, input) else {
         igc_console::give_up(rt, new, file);
         return Fate::Unread;
-    }
-    let n = got.count;
+    };
     match deed {
         Deed::Add => add_flight(rt, i, number, name, new, file, &mut input[..n], other),
         Deed::Pack => pack_flights(rt, name, new, file, &mut input[..n]),
@@ -240,35 +224,32 @@ fn on_changed<R: Host>(
     igc_fate::status_of(claim(rt, deed, i, number, name, &new[..n], input, other))
 }
 
-fn deed_at<R: Host>(rt: &R, i: usize) -> Deed {
+fn deed_at<R: Host>(rt: &R, i: usize) -> Option<Deed> {
     let mut word = [0u8; 4096];
     let k = igc_host::arg(rt, i, &mut word);
     igc_words::deed_of(&word[..k])
 }
 
-fn flight_at<R: Host>(rt: &R, i: usize) -> Flight {
+fn flight_at<R: Host>(rt: &R, i: usize) -> Option<u32> {
     let mut word = [0u8; 4096];
     let k = igc_host::arg(rt, i, &mut word);
     igc_words::flight_of(&word[..k])
 }
 
-// How many words there are for what is asked, the shelf's name among them; 0 where nothing is.
+// How many words there are for what is asked, the shelf's name among them.
 fn words_of(deed: Deed) -> usize {
     match deed {
         Deed::Add => 4,
-        Deed::List => 2,
-        Deed::Pack => 2,
-        Deed::NoDeed => 0,
-        _ => 3,
+        Deed::Get | Deed::Remove => 3,
+        Deed::List | Deed::Pack => 2,
     }
 }
 
 // The flight number that a word is, where one is asked for.
-fn number_for<R: Host>(rt: &R, deed: Deed, i: usize) -> Flight {
+fn number_for<R: Host>(rt: &R, deed: Deed, i: usize) -> Option<u32> {
     match deed {
-        Deed::List => Flight::Is(0),
-        Deed::Pack => Flight::Is(0),
-        _ => flight_at(rt, i),
+        Deed::List | Deed::Pack => Some(0),
+        Deed::Add | Deed::Get | Deed::Remove => flight_at(rt, i),
     }
 }
 
@@ -285,8 +266,7 @@ fn on_shelf<R: Host>(
     let k = igc_host::arg(rt, igc_console::place_of(2, dashes), &mut name);
     let i = igc_console::place_of(5, dashes);
     match deed {
-        Deed::List => on_read(rt, deed, number, &name[..k], input),
-        Deed::Get => on_read(rt, deed, number, &name[..k], input),
+        Deed::List | Deed::Get => on_read(rt, deed, number, &name[..k], input),
         _ => on_changed(rt, deed, i, number, &name[..k], input, other),
     }
 }
@@ -296,14 +276,13 @@ fn on_shelf<R: Host>(
 pub fn run<R: Host>(rt: &R, n: usize, input: &mut [u8], other: &mut [u8]) -> u32 {
     let names = igc_console::names_from(rt, 2, n);
     let dashes = names.dashes;
-    let deed = deed_at(rt, igc_console::place_of(3, dashes));
-    if names.count < 2 {
+    let Some(deed) = deed_at(rt, igc_console::place_of(3, dashes)) else {
         return igc_console::refuse_words(rt);
-    }
+    };
     if names.count != words_of(deed) {
         return igc_console::refuse_words(rt);
     }
-    let Flight::Is(number) = number_for(rt, deed, igc_console::place_of(4, dashes)) else {
+    let Some(number) = number_for(rt, deed, igc_console::place_of(4, dashes)) else {
         return igc_console::refuse_words(rt);
     };
     on_shelf(rt, deed, dashes, number, input, other)

@@ -2,61 +2,48 @@
 ghost use Rattle.igc_words.specs.Deeds.{DeedGiven, FlightGiven};
 
 use crate::is_same;
-use rules::Number;
 
-// What is asked of a shelf; `NoDeed` where the word is none.
-#[derive(Clone, Copy)]
+// What is asked of a shelf.
+#[derive(Clone, Copy, Debug, PartialEq, Eq)]
 pub enum Deed {
     Add,
     List,
     Get,
     Remove,
     Pack,
-    NoDeed,
 }
 
-// A flight number; `NoFlight` where a word is none.
-#[derive(Clone, Copy)]
-pub enum Flight {
-    Is(u32),
-    NoFlight,
-}
-
-// What a word asks of a shelf.
-pub fn deed_of(word: &[u8]) -> Deed
+// What a word asks of a shelf; None where it is no such word.
+#[tactic(auto, unfolding(crate::specs::Deeds::deed_of, rules::specs::Choice::bytes))]
+pub fn deed_of(word: &[u8]) -> Option<Deed>
     ensures { DeedGiven word.now result }
 {
     if is_same(word, b"add") {
-        return Deed::Add;
+        return Some(Deed::Add);
     }
     if is_same(word, b"list") {
-        return Deed::List;
+        return Some(Deed::List);
     }
     if is_same(word, b"get") {
-        return Deed::Get;
+        return Some(Deed::Get);
     }
     if is_same(word, b"remove") {
-        return Deed::Remove;
+        return Some(Deed::Remove);
     }
     if is_same(word, b"pack") {
-        return Deed::Pack;
+        return Some(Deed::Pack);
     }
-    Deed::NoDeed
+    None
 }
 
 // The flight number that a word is: 1 to 18 digits, at most 4,294,967,295.
-pub fn flight_of(word: &[u8]) -> Flight
+#[tactic(auto, unfolding(crate::specs::Deeds::flight_in))]
+pub fn flight_of(word: &[u8]) -> Option<u32>
     ensures { FlightGiven word.now result }
 {
-    let n = word.len();
-    if n < 1 {
-        return Flight::NoFlight;
+    if word.len() == 0 {
+        return None;
     }
-    let Number::Value(v) = byte_number::digits(word, 0, n) else {
-        return Flight::NoFlight;
-    };
-    if 4294967295 < v {
-        return Flight::NoFlight;
-    }
-    Flight::Is(v as u32)
+    let v = byte_number::digits(word, 0, word.len())?;
+    u32::try_from(v).ok()
 }

@@ -6,10 +6,10 @@ mod deeds;
 ghost use Rattle.std.specs.Prelude.{◌≡◌};
 ghost use Rattle.igc_words.specs.Words.{same, about_of, VerbGiven, OptionTest, NamesTest};
 
-pub use deeds::{Deed, Flight, deed_of, flight_of};
+pub use deeds::{Deed, deed_of, flight_of};
 
-// What is asked of the program; `NoVerb` where the word is none.
-#[derive(Clone, Copy)]
+// What is asked of the program.
+#[derive(Clone, Copy, Debug, PartialEq, Eq)]
 pub enum Verb {
     List,
     Check,
@@ -19,67 +19,51 @@ pub enum Verb {
     Shelf,
     Help,
     Version,
-    NoVerb,
 }
 
 // Whether two texts are the same.
 pub(crate) fn is_same(a: &[u8], b: &[u8]) -> bool
     ensures { result ≡ same a.now b.now }
 {
-    let n = a.len();
-    if n != b.len() {
-        return false;
-    }
-    let mut i = 0;
-    while i < n {
-        if a[i] != b[i] {
-            return false;
-        }
-        i += 1;
-    }
-    true
+    a == b
 }
 
 // The verb that a word is, of those that are about the program itself.
-fn about(word: &[u8]) -> Verb
+#[tactic(auto, unfolding(crate::specs::Words::about_of, rules::specs::Choice::bytes))]
+fn about(word: &[u8]) -> Option<Verb>
     ensures { result ≡ about_of word.now }
 {
-    if is_same(word, b"help") {
-        return Verb::Help;
+    if is_same(word, b"help") || is_same(word, b"--help") {
+        return Some(Verb::Help);
     }
-    if is_same(word, b"--help") {
-        return Verb::Help;
+    if is_same(word, b"version") || is_same(word, b"--version") {
+        return Some(Verb::Version);
     }
-    if is_same(word, b"version") {
-        return Verb::Version;
-    }
-    if is_same(word, b"--version") {
-        return Verb::Version;
-    }
-    Verb::NoVerb
+    None
 }
 
-// The verb that a word is.
-pub fn verb_of(word: &[u8]) -> Verb
+// The verb that a word is; None where it is none.
+#[tactic(auto, unfolding(crate::specs::Words::verb_of, rules::specs::Choice::bytes))]
+pub fn verb_of(word: &[u8]) -> Option<Verb>
     ensures { VerbGiven word.now result }
 {
     if is_same(word, b"list") {
-        return Verb::List;
+        return Some(Verb::List);
     }
     if is_same(word, b"check") {
-        return Verb::Check;
+        return Some(Verb::Check);
     }
     if is_same(word, b"track") {
-        return Verb::Track;
+        return Some(Verb::Track);
     }
     if is_same(word, b"summary") {
-        return Verb::Summary;
+        return Some(Verb::Summary);
     }
     if is_same(word, b"merge") {
-        return Verb::Merge;
+        return Some(Verb::Merge);
     }
     if is_same(word, b"shelf") {
-        return Verb::Shelf;
+        return Some(Verb::Shelf);
     }
     about(word)
 }
@@ -92,6 +76,7 @@ pub fn is_option(word: &[u8]) -> bool
 }
 
 // Whether a word is the one behind which every word is a name.
+#[tactic(auto, unfolding(rules::specs::Choice::bytes))]
 pub fn begins_names(word: &[u8]) -> bool
     ensures { NamesTest word.now result }
 {

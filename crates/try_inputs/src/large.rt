@@ -1,5 +1,5 @@
 // A file of 16,777,217 bytes is TOO_LONG; one byte fewer is not, and is refused for its missing line end.
-use rules::{Outcome, Seal};
+use rules::{Refusal, Seal};
 
 fn over() -> [u8; 16777217] {
     [65; 16777217]
@@ -13,7 +13,7 @@ fn print_verdict<R: Print>(rt: &R, file: &[u8]) {
     let mut table = [0u32; 4];
     let checked = check_file::check(Seal::Usual, file, &mut table);
     let outcome = checked.outcome;
-    if let Outcome::Refused(why) = outcome {
+    if let Err(why) = outcome {
         let _ = igc_list::print_refusal(rt, why);
     }
 }

@@ -1,5 +1,5 @@
 // Lines written by layouts that no line tells, so that only a value of their own type can: each is refused, and the output stays.
-use rules::{Entry, Extra, Family, FinePosition, FineTime, Fix, Height, Layout, Wrote};
+use rules::{Entry, Extra, Family, FinePosition, FineTime, Fix, Height, Layout, Refusal};
 
 fn one(first: u8, last: u8) -> Layout {
     let mut layout = layout::empty_layout();
@@ -13,12 +13,12 @@ fn one(first: u8, last: u8) -> Layout {
 }
 
 // The answer and the whole output.
-fn print<R: Print>(rt: &R, answer: Wrote, out: &[u8]) {
+fn print<R: Print>(rt: &R, answer: Result<usize, Refusal>, out: &[u8]) {
     match answer {
-        Wrote::Next(_) => {
+        Ok(_) => {
             let _ = rt.write_all(b"WROTE\n");
         }
-        Wrote::Refused(why) => {
+        Err(why) => {
             let _ = igc_list::print_refusal(rt, why);
         }
     }

@@ -1,7 +1,5 @@
 // A line read by the readers of its kind: what it says is printed, or why it is refused. A good I, J or M line tells the layout of those after it.
-use rules::{
-    DateRead, Extra, Family, FixRead, HeadRead, Kind, Layout, Outcome, PointRead, Refusal, TimeRead,
-};
+use rules::{Date, Extra, Family, Fix, Head, Kind, Layout, Point, Refusal};
 
 // The layouts of B, K and N lines that the lines so far have told.
 #[derive(Clone, Copy)]
@@ -28,58 +26,56 @@ fn print_refusal<R: Print>(rt: &R, why: Refusal) {
     let _ = igc_list::print_refusal(rt, why);
 }
 
-fn print_outcome<R: Print>(rt: &R, outcome: Outcome) {
+fn print_outcome<R: Print>(rt: &R, outcome: Result<(), Refusal>) {
     match outcome {
-        Outcome::Accepted => pass(rt),
-        Outcome::Refused(why) => print_refusal(rt, why),
+        Ok(()) => pass(rt),
+        Err(why) => print_refusal(rt, why),
     }
 }
 
-fn print_time<R: Print>(rt: &R, read: TimeRead) {
+fn print_time<R: Print>(rt: &R, read: Result<u32, Refusal>) {
     match read {
-        TimeRead::Secs(_) => pass(rt),
-        TimeRead::Refused(why) => print_refusal(rt, why),
+        Ok(_) => pass(rt),
+        Err(why) => print_refusal(rt, why),
     }
 }
 
 fn print_date<R: Print>(rt: &R, line: &[u8]) {
     match line_read::date(line) {
-        DateRead::On(_) => pass(rt),
-        DateRead::Refused(why) => print_refusal(rt, why),
+        Ok(_) => pass(rt),
+        Err(why) => print_refusal(rt, why),
     }
 }
 
 fn print_head<R: Print>(rt: &R, line: &[u8]) {
     match line_read::head(line) {
-        HeadRead::Is(_) => pass(rt),
-        HeadRead::Refused(why) => print_refusal(rt, why),
+        Ok(_) => pass(rt),
+        Err(why) => print_refusal(rt, why),
     }
 }
 
 fn print_point<R: Print>(rt: &R, line: &[u8]) {
     match line_read::point(line) {
-        PointRead::Is(_) => pass(rt),
-        PointRead::Refused(why) => print_refusal(rt, why),
+        Ok(_) => pass(rt),
+        Err(why) => print_refusal(rt, why),
     }
 }
 
 fn print_fix<R: Print>(rt: &R, line: &[u8], layout: Layout) {
-    let read = line_read::fix(line, layout);
-    let value = read.fix;
-    let columns = read.entries;
-    match value {
-        FixRead::Is(f) => {
-            let _ = igc_list::print_fix(rt, 0, write_limits::fields_of(f));
-            let _ = igc_list::print_columns(rt, line, columns);
+    match line_read::fix(line, layout) {
+        Ok(read) => {
+            let _ = igc_list::print_fix(rt, 0, write_limits::fields_of(read.fix));
+            let _ = igc_list::print_columns(rt, line, read.entries);
         }
-        FixRead::Refused(why) => print_refusal(rt, why),
+        Err(why) => print_refusal(rt, why),
     }
 }
 
 fn print_extra<R: Print>(rt: &R, which: Extra, line: &[u8], layout: Layout) {
-    let read = line_read::extra(which, line, layout);
-    let value = read.time;
-    print_time(rt, value);
+    match line_read::extra(which, line, layout) {
+        Ok(read) => print_time(rt, Ok(read.time)),
+        Err(why) => print_time(rt, Err(why)),
+    }
 }
 
 // What the readers of a line's kind say of it, where it tells no layout; an H line is read as a date line and as another, a C line as a head and as a point, and a line of
@@ -116,15 +112,12 @@ fn print_line<R: Print>(
 
 // What is said of an I, J or M line, and the layout that is told after it: the old one, where it is refused.
 fn print_layout<R: Print>(rt: &R, family: Family, line: &[u8], old: Layout) -> Layout {
-    let read = line_read::layout_of(family, line);
-    let outcome = read.outcome;
-    let layout = read.layout;
-    match outcome {
-        Outcome::Accepted => {
+    match line_read::layout_of(family, line) {
+        Ok(layout) => {
             pass(rt);
             layout
         }
-        Outcome::Refused(why) => {
+        Err(why) => {
             let _ = igc_list::print_refusal(rt, why);
             old
         }
