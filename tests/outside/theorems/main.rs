@@ -19,7 +19,7 @@ const TOP: &str = "-- Generated files and the answers expected on them, computed
 use Prim.Native.Nat.{ℕ}
 use mathlib.Core.Bool.{Bool, true, false, ◌&&◌}
 use mathlib.Core.List.{List, [], ◌∷◌}
-use mathlib.Core.Option.{some}
+use Rattle.std.specs.Prelude.{Some}
 use mathlib.Core.Path.{◌≡◌, refl}
 use lib.Dec.{eqb}
 use lib.ListN.{replicate}
@@ -67,7 +67,7 @@ fn list<T: ToString>(numbers: &[T]) -> String {
 /// The theorem that `verdict` and `table_after` give the reading's answers on file k: by the usual check, and by the strict one where that answer is asked for too.
 fn theorem(k: u64, file: &[u8], usual: &[u64], strict: Option<&[u64]>, table: &[u32]) -> String {
     let (room, shown) = (table.len(), file.escape_ascii());
-    let verdict = |seal: &str, answer: &[u64]| format!("same (numbers_of (verdict seal.{seal} file-{k} (some {room}))) ({})", list(answer));
+    let verdict = |seal: &str, answer: &[u64]| format!("same (numbers_of (verdict seal.{seal} file-{k} (Some {room}))) ({})", list(answer));
     let after = |seal: &str| format!("same (table_after seal.{seal} file-{k} (replicate {room} {LENT})) ({})", list(table));
     let mut held = vec![verdict("Usual", usual), after("Usual")];
     held.extend(strict.into_iter().flat_map(|strict| [verdict("Strict", strict), after("Strict")]));
