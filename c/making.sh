@@ -99,12 +99,14 @@ emulator_for() { # MACHINE
 }
 
 # Prints the first line of a module's text of which what docs/MACHINES.md says does not hold, and fails: one with a global that is not a constant of bytes, a type of structs, a cast of a
-# pointer, assembly, or words for one machine. The addresses of two pointers may be told apart by std's own copying alone.
+# pointer, a pointer read or written behind another value than a mark of one byte, assembly, or words for one machine. The addresses of two pointers may be told apart by std's own copying alone.
 other_words() { # TEXT
     awk '
         /^define / { copies = /^define [a-z ]*@"core::ptr::copy_drop::copy_bits::</ }
         /^@static\.[0-9]+ = private unnamed_addr constant \[[0-9]+ x i8\] (c"[^"]*"|zeroinitializer), align [0-9]+$/ { next }
         / = ptrtoaddr ptr %[a-z0-9]+ to i64$/ && copies { next }
+        / = load \{ i8, ptr \}, ptr %[a-z0-9]+, align [0-9]+$/ { next }
+        /(load|store) \{[^}]*, ptr/ { print "line " NR ":" $0; found = 1; exit }
         /^attributes .*"(target|tune)-|^@|^%|ptrtoint|ptrtoaddr|inttoptr|addrspacecast| asm / { print "line " NR ":" $0; found = 1; exit }
         END { exit found }' "$1" | cut -c1-200
     [[ ${PIPESTATUS[0]} -eq 0 ]]
@@ -123,12 +125,13 @@ compile_arm() { # TEXT OBJECT
 }
 
 # Makes a WebAssembly module of the text of a module, with vectors of 16 bytes. Nothing is imported: memory is moved by WebAssembly's own instructions, and no loop becomes a call of a C library. An
-# address has 4 bytes there, so it is widened where std's copying tells two apart. A merge takes over 65,536 bytes of stack, which is all that wasm-ld gives where nothing else is asked. The stack
+# address has 4 bytes there, so it is widened where std's copying tells two apart; and a mark with a pointer behind it, which stands 8 bytes on in the text's memory, is read part by part. A merge takes over 65,536 bytes of stack, which is all that wasm-ld gives where nothing else is asked. The stack
 # stands first, so that its overflow leaves the memory and traps. A caller's memory begins at __heap_base.
 make_wasm() { # TEXT MODULE
     local folder
     folder=$(mktemp -d)
     sed -E -e 's/ = ptrtoaddr ptr (%[a-z0-9]+) to i64$/ = ptrtoint ptr \1 to i64/' \
+        -e 's/^( *)(%[a-z0-9]+) = load \{ i8, ptr \}, ptr (%[a-z0-9]+), align [0-9]+$/\1\2.mark = load i8, ptr \3, align 1\n\1\2.place = getelementptr i8, ptr \3, i64 8\n\1\2.pointer = load ptr, ptr \2.place, align 1\n\1\2.marked = insertvalue { i8, ptr } poison, i8 \2.mark, 0\n\1\2 = insertvalue { i8, ptr } \2.marked, ptr \2.pointer, 1/' \
         -e '/^attributes .*"probe-stack"/s/"probe-stack"="[^"]*" "stack-probe-size"="[0-9]*"/"no-builtin-bcmp" "no-builtin-memcmp" "no-builtin-strlen"/' "$1" >"$folder/text.ll"
     compile wasm32-unknown-unknown "$folder/text.ll" "$folder/text.o" -msimd128 -mllvm -expand-div-rem-bits=64 -mllvm -expand-fp-convert-bits=64
     ln -s "$tools/bin/clang" "$folder/wasm-ld"
