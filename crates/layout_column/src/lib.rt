@@ -36,11 +36,12 @@ fn keeps(line: &[u8], e: Entry, at: AtLimit) -> bool
 pub fn columns(line: &[u8], layout: Layout, at: AtLimit) -> Result<(), Refusal>
     ensures { ColumnsChecked at line.now layout result }
 {
-    for (i, e) in layout.entries.iter().enumerate() {
+    for i in 0..13 {
         if layout.count <= i {
             return Ok(());
         }
-        if !keeps(line, *e, at) {
+        let e = layout.entries[i];
+        if !keeps(line, e, at) {
             return Err(Refusal {
                 reason: Reason::Column,
                 line: 0,
