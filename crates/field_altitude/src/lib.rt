@@ -31,12 +31,16 @@ pub fn altitude_at(s: &[u8], at: usize) -> Option<Height>
 {
     let b = byte_chars::byte(s, at);
     if b == b'-' {
-        let v = byte_digits::four(s, at + 1)?;
+        let Some(v) = byte_digits::four(s, at + 1) else {
+            return None;
+        };
         if v < 1 {
             return None;
         }
         return Some(below(v));
     }
-    let v = byte_digits::five(s, at)?;
+    let Some(v) = byte_digits::five(s, at) else {
+        return None;
+    };
     Some(above(v))
 }

@@ -24,8 +24,12 @@ fn position_at(s: &[u8], at: usize, width: usize, most: u64, a: u8, b: u8) -> Op
     requires { (2 ≤ width) × (width ≤ 3) }
     ensures { result ≡ position_at s.now at width most a b }
 {
-    let d = degrees_at(s, at, width)?;
-    let m = byte_digits::five(s, at + width)?;
+    let Some(d) = degrees_at(s, at, width) else {
+        return None;
+    };
+    let Some(m) = byte_digits::five(s, at + width) else {
+        return None;
+    };
     if 59999 < m {
         return None;
     }

@@ -23,9 +23,15 @@ fn is_second(h: u64, m: u64, x: u64) -> bool
 pub fn time_at(s: &[u8], at: usize) -> Option<u32>
     ensures { TimeAt s.now at result }
 {
-    let h = byte_digits::two(s, at)?;
-    let m = byte_digits::two(s, at + 2)?;
-    let x = byte_digits::two(s, at + 4)?;
+    let Some(h) = byte_digits::two(s, at) else {
+        return None;
+    };
+    let Some(m) = byte_digits::two(s, at + 2) else {
+        return None;
+    };
+    let Some(x) = byte_digits::two(s, at + 4) else {
+        return None;
+    };
     if 23 < h {
         return None;
     }
@@ -77,9 +83,15 @@ fn year_of(yy: u64) -> u16
 pub fn date_at(s: &[u8], at: usize) -> Option<Date>
     ensures { DateAt s.now at result }
 {
-    let d = byte_digits::two(s, at)?;
-    let m = byte_digits::two(s, at + 2)?;
-    let yy = byte_digits::two(s, at + 4)?;
+    let Some(d) = byte_digits::two(s, at) else {
+        return None;
+    };
+    let Some(m) = byte_digits::two(s, at + 2) else {
+        return None;
+    };
+    let Some(yy) = byte_digits::two(s, at + 4) else {
+        return None;
+    };
     let y = year_of(yy);
     if d < 1 {
         return None;

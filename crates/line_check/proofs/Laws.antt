@@ -17,7 +17,7 @@ use Rattle.byte_shape.proofs.Laws.{accepted_most}
 use mathlib.Core.Bool.{Bool, true, false, ◌&&◌, cond}
 use mathlib.Core.Path.{◌≡◌, refl, ap, ◌∙◌}
 use borrow.Author.Tests.{not-true, not-false}
-use Rattle.rules.proofs.Handed.{found, handed_on}
+use Rattle.rules.proofs.Handed.{handed_on}
 use Rattle.rules.proofs.Links.{need_true, need_false, cond_eq, cond_ne, on_is, given_some, given_none, then_ok, then_err}
 use Rattle.line_fix.proofs.Laws.{refuses_form}
 
@@ -66,12 +66,9 @@ pair_within l i least in_h r t e g s h =
     let f : bad_pair 7 (drop 7 l) ≡ Some i = rw (← e, g) in
     omega (arith, pair_below 7 i (drop 7 l) f, length-drop 7 l, accepted_most least 255 in_h l t s h)
 
-pub ruleset lines = (refuses_form, not-true, not-false, need_true, need_false, on_is, found, then_ok, then_err)
+pub ruleset lines = (refuses_form, not-true, not-false, need_true, need_false, on_is, given_some, given_none, then_ok, then_err)
 
 pub ruleset outs = (lines, handed_on)
-
--- with a bad pair, or none
-pub ruleset pairs = (outs, given_some, given_none)
 
 pub ruleset plans = (cond_eq, cond_ne, given_some, given_none)
 

@@ -64,7 +64,9 @@ pub fn event(line: &[u8]) -> Result<u32, Refusal>
     ensures { EventChecked line.now result }
 {
     byte_shape::shaped(line, 10, 255, false)?;
-    let t = field_time::time_at(line, 1).ok_or(form(Class::Time, 2))?;
+    let Some(t) = field_time::time_at(line, 1) else {
+        return Err(form(Class::Time, 2));
+    };
     if !byte_chars::codes_at(line, 7, 3) {
         return Err(form(Class::Other, 8));
     }
@@ -91,7 +93,10 @@ pub fn date_line(line: &[u8]) -> Result<Date, Refusal>
     if !is_date_mark(line) {
         return Err(form(Class::Other, 2));
     }
-    field_time::date_at(line, 5).ok_or(form(Class::Date, 6))
+    let Some(d) = field_time::date_at(line, 5) else {
+        return Err(form(Class::Date, 6));
+    };
+    Ok(d)
 }
 
 // DDMMYY at a place of a line, or 000000 for a date that is not given.
@@ -99,11 +104,15 @@ pub fn date_line(line: &[u8]) -> Result<Date, Refusal>
 fn planned_at(line: &[u8], at: usize) -> Option<Option<Date>>
     ensures { result ≡ planned_at line.now at }
 {
-    let v = byte_number::digits(line, at, 6)?;
+    let Some(v) = byte_number::digits(line, at, 6) else {
+        return None;
+    };
     if v == 0 {
         return Some(None);
     }
-    let d = field_time::date_at(line, at)?;
+    let Some(d) = field_time::date_at(line, at) else {
+        return None;
+    };
     Some(Some(d))
 }
 
@@ -112,11 +121,21 @@ fn planned_at(line: &[u8], at: usize) -> Option<Option<Date>>
 fn head_fields(line: &[u8]) -> Result<Head, Refusal>
     ensures { result_told result ≡ head_fields line.now }
 {
-    let declared = field_time::date_at(line, 1).ok_or(form(Class::Date, 2))?;
-    let time = field_time::time_at(line, 7).ok_or(form(Class::Time, 8))?;
-    let flight = planned_at(line, 13).ok_or(form(Class::Date, 14))?;
-    let task = byte_number::digits(line, 19, 4).ok_or(form(Class::Other, 20))?;
-    let turns = byte_number::digits(line, 23, 2).ok_or(form(Class::Other, 24))?;
+    let Some(declared) = field_time::date_at(line, 1) else {
+        return Err(form(Class::Date, 2));
+    };
+    let Some(time) = field_time::time_at(line, 7) else {
+        return Err(form(Class::Time, 8));
+    };
+    let Some(flight) = planned_at(line, 13) else {
+        return Err(form(Class::Date, 14));
+    };
+    let Some(task) = byte_number::digits(line, 19, 4) else {
+        return Err(form(Class::Other, 20));
+    };
+    let Some(turns) = byte_number::digits(line, 23, 2) else {
+        return Err(form(Class::Other, 24));
+    };
     Ok(Head {
         declared,
         time,
@@ -141,8 +160,12 @@ pub fn point_line(line: &[u8]) -> Result<Point, Refusal>
     ensures { PointChecked line.now result }
 {
     byte_shape::shaped(line, 18, 255, false)?;
-    let lat = field_time::latitude_at(line, 1).ok_or(form(Class::Position, 2))?;
-    let lon = field_time::longitude_at(line, 9).ok_or(form(Class::Position, 10))?;
+    let Some(lat) = field_time::latitude_at(line, 1) else {
+        return Err(form(Class::Position, 2));
+    };
+    let Some(lon) = field_time::longitude_at(line, 9) else {
+        return Err(form(Class::Position, 10));
+    };
     Ok(Point { lat, lon })
 }
 
@@ -176,12 +199,14 @@ fn bad_pair(line: &[u8]) -> Option<usize>
 }
 
 // An F line: its time, then pairs of code characters, perhaps none. Refusals: LENGTH, CHARACTER, TIME at 2, FORM at 8 for an odd half pair or at a pair.
-#[tactic(auto, using(crate::proofs::Laws::pairs), unfolding(rules::specs::Lines::f_line, rules::specs::Refusals::result_told))]
+#[tactic(auto, using(crate::proofs::Laws::outs), unfolding(rules::specs::Lines::f_line, rules::specs::Refusals::result_told))]
 pub fn satellites(line: &[u8]) -> Result<u32, Refusal>
     ensures { SatellitesChecked line.now result }
 {
     byte_shape::shaped(line, 7, 255, false)?;
-    let t = field_time::time_at(line, 1).ok_or(form(Class::Time, 2))?;
+    let Some(t) = field_time::time_at(line, 1) else {
+        return Err(form(Class::Time, 2));
+    };
     if !is_paired(line) {
         return Err(form(Class::Other, 8));
     }
@@ -225,7 +250,9 @@ pub fn extra_line(line: &[u8], layout: Layout) -> Result<u32, Refusal>
     ensures { ExtraChecked line.now layout result }
 {
     shaped_by(Family::Extra(Extra::K), layout, line)?;
-    let t = field_time::time_at(line, 1).ok_or(form(Class::Time, 2))?;
+    let Some(t) = field_time::time_at(line, 1) else {
+        return Err(form(Class::Time, 2));
+    };
     let none = AtLimit {
         lat: false,
         lon: false,

@@ -36,15 +36,25 @@ pub fn form(class: Class, byte: u32) -> Refusal
 pub fn fix_fields(line: &[u8]) -> Result<FixFields, Refusal>
     ensures { FieldsGiven line.now result }
 {
-    let time = field_time::time_at(line, 1).ok_or(form(Class::Time, 2))?;
-    let lat = field_time::latitude_at(line, 7).ok_or(form(Class::Position, 8))?;
-    let lon = field_time::longitude_at(line, 15).ok_or(form(Class::Position, 16))?;
+    let Some(time) = field_time::time_at(line, 1) else {
+        return Err(form(Class::Time, 2));
+    };
+    let Some(lat) = field_time::latitude_at(line, 7) else {
+        return Err(form(Class::Position, 8));
+    };
+    let Some(lon) = field_time::longitude_at(line, 15) else {
+        return Err(form(Class::Position, 16));
+    };
     let validity = byte_chars::byte(line, 24);
     if !byte_chars::is_either(validity, b'A', b'V') {
         return Err(form(Class::Other, 25));
     }
-    let pressure = field_time::altitude_at(line, 25).ok_or(form(Class::Altitude, 26))?;
-    let gnss = field_time::altitude_at(line, 30).ok_or(form(Class::Altitude, 31))?;
+    let Some(pressure) = field_time::altitude_at(line, 25) else {
+        return Err(form(Class::Altitude, 26));
+    };
+    let Some(gnss) = field_time::altitude_at(line, 30) else {
+        return Err(form(Class::Altitude, 31));
+    };
     Ok(FixFields {
         time,
         lat,

@@ -4,7 +4,7 @@ use Rattle.byte_number.proofs.Laws.{reads}
 use Rattle.field_altitude.proofs.altitude_at.Goals as goal
 
 pub below-requires : goal.below-requires
-below-requires c = search (reads, c.in_ok-v.was, rules)
+below-requires c = search (reads, c.in-Some.is, rules)
 
 pub above-requires : goal.above-requires
-above-requires c = search (reads, c.in_ok-v-2.was, rules)
+above-requires c = search (reads, c.in-Some-five.is, rules)

@@ -4,4 +4,4 @@ use Rattle.byte_number.proofs.Laws.{reads}
 use Rattle.field_time.proofs.date_at.Goals as goal
 
 pub year_of-y-requires : goal.year_of-y-requires
-year_of-y-requires c = search (reads, c.in_ok-yy.was, rules)
+year_of-y-requires c = search (reads, c.in-Some-two-2.is, rules)
