@@ -8,7 +8,13 @@ use Rattle.rules.specs.declared.Refusal.{Refusal}
 use Rattle.rules.specs.declared.State.{State}
 use Rattle.rules_only.proofs.Only.{Only, same, alike}
 use Rattle.rules_only.proofs.Told.{result_one}
-use Rattle.check_settle.specs.Settled.{JudgedTold, RefusedAt, OutcomeJudged, TimeJudged}
+use Rattle.check_settle.specs.Settled.{JudgedTold, LinePassed, LineRefused, RefusedAt, OutcomeJudged, TimeJudged}
+
+pub only_line_passed : (st : State) → Only (LinePassed st)
+only_line_passed st = alike result_one
+
+pub only_line_refused : (why : Refusal) → Only (LineRefused why)
+only_line_refused why = alike result_one
 
 pub only_refused_at : (reason : Reason) (byte : ℕ) → Only (RefusedAt reason byte)
 only_refused_at reason byte = alike result_one

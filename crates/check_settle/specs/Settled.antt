@@ -10,6 +10,14 @@ use Rattle.rules.specs.declared.Refusal.{Refusal}
 abbrev pub JudgedTold : Said State → Result State Refusal → Type 0
 JudgedTold s r = result_told r ≡ s
 
+-- a line that is accepted and leaves this state
+abbrev pub LinePassed : State → Result State Refusal → Type 0
+LinePassed st r = JudgedTold (says st) r
+
+-- a line that is refused
+abbrev pub LineRefused : Refusal → Result State Refusal → Type 0
+LineRefused why r = JudgedTold (refusal why) r
+
 -- a refusal of the line in hand
 abbrev pub RefusedAt : Reason → ℕ → Result State Refusal → Type 0
 RefusedAt reason byte r = JudgedTold (no reason byte) r

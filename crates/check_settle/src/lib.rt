@@ -2,15 +2,31 @@
 #![tactic(auto)]
 
 ghost use Rattle.rules.specs.Order.{timed};
-ghost use Rattle.check_settle.specs.Settled.{JudgedTold, RefusedAt, OutcomeJudged, TimeJudged};
+ghost use Rattle.check_settle.specs.Settled.{JudgedTold, LinePassed, LineRefused, RefusedAt, OutcomeJudged, TimeJudged};
 
 use rules::{Reason, Refusal, State};
+
+// A line that is accepted and leaves this state.
+#[tactic(auto, unfolding(rules::specs::Refusals::result_told))]
+pub fn passed(st: State) -> Result<State, Refusal>
+    ensures { LinePassed st result }
+{
+    Ok(st)
+}
+
+// A line that is refused.
+#[tactic(auto, unfolding(rules::specs::Refusals::result_told))]
+pub fn refused(why: Refusal) -> Result<State, Refusal>
+    ensures { LineRefused why result }
+{
+    Err(why)
+}
 
 // A line that is refused for a reason, at one of its bytes.
 pub fn refused_at(reason: Reason, byte: u32) -> Result<State, Refusal>
     ensures { RefusedAt reason byte result }
 {
-    Err(Refusal {
+    refused(Refusal {
         reason,
         line: 0,
         byte,
@@ -24,7 +40,7 @@ fn timed_at(t: u32, st: State) -> Result<State, Refusal>
     if check_clock::is_back(st.clock, t) {
         return refused_at(Reason::Back, 2);
     }
-    Ok(check_state::clocked_to(t, st))
+    passed(check_state::clocked_to(t, st))
 }
 
 // After a line that leaves this state where it is accepted.
@@ -32,7 +48,7 @@ pub fn after_outcome(outcome: Result<(), Refusal>, st: State) -> Result<State, R
     ensures { OutcomeJudged outcome st result }
 {
     outcome?;
-    Ok(st)
+    passed(st)
 }
 
 // After a line whose time reads so: 14 at byte 2 where the time goes back, else the state with the clock at it; or the reading's own refusal.

@@ -12,6 +12,10 @@ use Rattle.rules.specs.declared.Family.{Family}
 abbrev pub EntryTest : ℕ → Layout → Entry → Bool → Type 0
 EntryTest start before e r = r ≡ (is_spelt e && is_said (placed start before e 0))
 
+-- no layout: the refusal alone
+abbrev pub LayoutRefused : Refusal → Result Layout Refusal → Type 0
+LayoutRefused why r = LayoutTold (refusal why) r
+
 -- how many bytes a line has by a layout, allowed or not
 abbrev pub LineLength : Family → Layout → ℕ → Type 0
 LineLength f l r = r ≡ line_length (first_start f) l

@@ -5,5 +5,5 @@ mod reading;
 mod values;
 
 pub use layout_entry::empty_layout;
-pub use reading::layout_line;
+pub use reading::{layout_line, refused};
 pub use values::{allowed, length, line_length, presence};

@@ -2,9 +2,18 @@
 ghost use Rattle.std.specs.Prelude.{◌≤◌, length};
 ghost use Rattle.rules.specs.Layouts.{LayoutTold, empty_layout, entries_from, layout_fields};
 ghost use Rattle.rules.specs.Promises.{LayoutChecked};
+ghost use Rattle.layout.specs.Parts.{LayoutRefused};
 
 use layout_family::first_start;
 use rules::{Entry, Family, Layout, Reason, Refusal};
+
+// No layout: the refusal.
+#[tactic(auto, unfolding(rules::specs::Refusals::result_told))]
+pub fn refused(why: Refusal) -> Result<Layout, Refusal>
+    ensures { LayoutRefused why result }
+{
+    Err(why)
+}
 
 // The entries of a line, `count` of them, the first of which has to start at `origin`. The codes stand by themselves too, so that they can be lent.
 fn entries(line: &[u8], count: usize, origin: usize) -> Result<Layout, Refusal>

@@ -10,4 +10,4 @@ returns-in_err-outcome c = handed_on _ _ _ c.from_residual.ensures.1 (rw c.in_er
 
 pub returns : goal.returns
 unfolding result_told
-returns c = rw c.in_ok-outcome.was refl
+returns c = rw c.in_ok-outcome.was c.passed.ensures
