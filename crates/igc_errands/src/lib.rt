@@ -64,7 +64,7 @@ pub fn on_file<R: Host>(
             return fate_of(rt, Err(error), Fate::Unwritten);
         }
     }
-    let Some(n) = read_named(rt, name, input) else {
+    let Ok(n) = read_named(rt, name, input) else {
         return Fate::Unread;
     };
     on_read(rt, errand, name, &input[..n], table)

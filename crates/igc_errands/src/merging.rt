@@ -68,10 +68,10 @@ pub fn merge_named<R: Host>(
     other: &mut [u8],
     out: &mut [u8],
 ) -> Fate {
-    let Some(n) = read_named(rt, first, input) else {
+    let Ok(n) = read_named(rt, first, input) else {
         return Fate::Unread;
     };
-    let Some(k) = read_named(rt, second, other) else {
+    let Ok(k) = read_named(rt, second, other) else {
         return Fate::Unread;
     };
     bring(rt, first, second, new, &input[..n], &other[..k], out)

@@ -118,7 +118,7 @@ fn get<R: Host>(rt: &R, name: &[u8], shelf: &[u8], number: u32) -> Fate {
 
 // What is asked of a shelf that is only read.
 fn on_read<R: Host>(rt: &R, deed: Deed, number: u32, name: &[u8], input: &mut [u8]) -> u32 {
-    let Some(n) = read_named(rt, name, input) else {
+    let Ok(n) = read_named(rt, name, input) else {
         return igc_fate::status_of(Fate::Unread);
     };
     match deed {
@@ -140,7 +140,7 @@ fn add_flight<R: Host>(
 ) -> Fate {
     let mut from = [0u8; 4096];
     let k = igc_host::arg(rt, i, &mut from);
-    let Some(n) = read_named(rt, &from[..k], other) else {
+    let Ok(n) = read_named(rt, &from[..k], other) else {
         igc_console::give_up(rt, new, file);
         return Fate::Unread;
     };
@@ -182,7 +182,7 @@ fn change<R: Host>(
     input: &mut [u8],
     other: &mut [u8],
 ) -> Fate {
-    let Some(n) = read_named(rt, name, input) else {
+    let Ok(n) = read_named(rt, name, input) else {
         igc_console::give_up(rt, new, file);
         return Fate::Unread;
     };
