@@ -2,11 +2,11 @@
 use Prim.Native.Nat.{ℕ, suc, ◌+◌, ◌-◌, ◌/◌, ◌%◌, ◌≤◌, ◌<◌}
 use mathlib.Core.List.{List, [], ◌∷◌, ◌++◌}
 use mathlib.Core.Path.{◌≡◌, refl, sym, ◌∙◌, ap}
-use native.Mathlib.Numerals.{sub-one}
+use native.Mathlib.Numerals.{add-one, sub-one}
 use native.Mathlib.Omega.{arith}
 use borrow.Author.Tests.{le-leb, lt-leb}
-use lib.ListN.{length, set, length-append}
-use lib.Seq.{sets, length-sets, set_comm}
+use lib.ListN.{length, get_or, drop, set, length-append, drop_of_length-le}
+use lib.Seq.{sets, length-sets, set_comm, drop-cons}
 use Rattle.rules.specs.Numbers.{digits_of}
 use Rattle.rules.specs.Writes.{put_at}
 use Rattle.rules.proofs.Texts.{digits_length, sets_append}
@@ -32,6 +32,15 @@ sets_step l at (suc k) v p =
 pub sets_none : (l : List ℕ) (at v : ℕ) → sets l at (digits_of 0 v) ≡ l
 unfolding digits_of
 sets_none l at v = refl
+
+-- one byte less of a text to put, with the first of them stored
+pub sets_more : (l : List ℕ) (at : ℕ) (t : List ℕ) (i : ℕ) → i < length t → sets l (at + i) (drop i t) ≡ sets (set l (at + i) (get_or t i 0)) (at + (i + 1)) (drop (i + 1) t)
+sets_more l at t i h =
+    let e : at + (i + 1) ≡ suc (at + i) = omega arith in
+    rw (e, add-one, drop-cons t i 0 h)
+
+pub sets_over : (l : List ℕ) (at : ℕ) (t : List ℕ) (i : ℕ) → length t ≤ i → sets l at (drop i t) ≡ l
+sets_over l at t i h = rw drop_of_length-le
 
 -- ---- what a function that tests for room leaves: n bytes have none, or they stand there
 

@@ -22,7 +22,10 @@ pub fn text(out: &mut [u8], at: usize, bytes: &[u8])
     if out.len() < at || out.len() - at < n {
         return;
     }
-    out[at..at + n].copy_from_slice(bytes);
+    // No `copy_from_slice`: it would have the library ask for `memmove`, and a `for` asks for `memcpy`.
+    for i in 0..n {
+        out[at + i] = bytes[i];
+    }
 }
 
 // The last n decimal digits of v, with zeros before them where v has fewer.
