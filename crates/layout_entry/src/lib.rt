@@ -81,9 +81,15 @@ pub fn entry_at(line: &[u8], i: u8, start: usize, codes: &[u32]) -> Result<Entry
     ensures { EntryGiven line.now i start (coded_by codes.now i) result }
 {
     let at = 3 + 7 * (i as usize);
-    let ss = byte_number::digits(line, at, 2).ok_or(refusal_at(Reason::Form, at as u32 + 1))?;
-    let ff = byte_number::digits(line, at + 2, 2).ok_or(refusal_at(Reason::Form, at as u32 + 3))?;
-    let code = code_at(line, at + 4).ok_or(refusal_at(Reason::Form, at as u32 + 5))?;
+    let Some(ss) = byte_number::digits(line, at, 2) else {
+        return Err(refusal_at(Reason::Form, at as u32 + 1));
+    };
+    let Some(ff) = byte_number::digits(line, at + 2, 2) else {
+        return Err(refusal_at(Reason::Form, at as u32 + 3));
+    };
+    let Some(code) = code_at(line, at + 4) else {
+        return Err(refusal_at(Reason::Form, at as u32 + 5));
+    };
     let first = ss as u8;
     let last = ff as u8;
     let again = is_among(codes, i as usize, code);

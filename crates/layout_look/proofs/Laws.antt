@@ -3,25 +3,25 @@ use Rattle.std.specs.Prelude.{Err, None, Ok, Option, Result, Some}
 use Prim.Native.Nat.{ℕ}
 use mathlib.Core.List.{List, []}
 use mathlib.Core.Path.{◌≡◌}
-use Rattle.std.specs.Option.{ok_or}
 use Rattle.rules.specs.Choice.{given}
 use Rattle.rules.specs.declared.Span.{Span}
 use Rattle.rules.specs.Layouts.{look, column_text}
 use Rattle.rules.specs.Looks.{look_text}
 use Rattle.rules.specs.Numbers.{whole_of}
-use Rattle.rules.specs.Refusals.{Said, says, no, refusal, result_told}
+use Rattle.rules.specs.Refusals.{Said, says, no, result_told}
 use Rattle.rules.specs.declared.Layout.{Layout}
 use Rattle.rules.specs.declared.Reason.TheVariants.{Absent}
 use Rattle.rules.specs.declared.Refusal.{Refusal}
 use Rattle.rules.specs.declared.Signed.{Signed}
-use Rattle.rules.proofs.Handed.{found_told}
 use Rattle.rules.proofs.Links.{then_ok, then_err}
 
 -- ---- a column by its code: y is the number that the code's three bytes make
 
-pub spot_told : (l : Layout) (x y : ℕ) (r : Option Span) (e : Refusal) (q : Result Span Refusal)
-    → r ≡ look l y → y ≡ x → q ≡ ok_or r e → ◌≡◌ {A = Said Span} (refusal e) (no Absent 0) → result_told q ≡ given (look l x) (no Absent 0) (λ s. says s)
-spot_told l x y r e q t g f z = rw (← g) (found_told (look l y) r e q (no Absent 0) t f z)
+pub spot_there : (l : Layout) (x y : ℕ) (r : Option Span) (s : Span) (z : Said Span) → r ≡ look l y → y ≡ x → r ≡ Some s → z ≡ says s → z ≡ given (look l x) (no Absent 0) (λ s. says s)
+spot_there l x y r s z t q g h = rw (← q, ← t, g) h
+
+pub spot_nowhere : (l : Layout) (x y : ℕ) (r : Option Span) (z : Said Span) → r ≡ look l y → y ≡ x → r ≡ None → z ≡ no Absent 0 → z ≡ given (look l x) (no Absent 0) (λ s. says s)
+spot_nowhere l x y r z t q g h = rw (← q, ← t, g) h
 
 -- ---- the text of a column that was found; there is none behind a refusal
 
@@ -37,10 +37,6 @@ module _ (l : List ℕ) (s : Said Span) (r : Result Span Refusal) (e : result_to
 pub ruleset cut = (text_there, text_none)
 
 -- the number of a text t that is the column's
-pub number_told : (u t : List ℕ) (r : Option Signed) (e : Refusal) (q : Result Signed Refusal) (a : Said Signed)
-    → r ≡ whole_of t → t ≡ u → q ≡ ok_or r e → refusal e ≡ a → result_told q ≡ given (whole_of u) a says
-number_told u t r e q a f g h z = rw (← g) (found_told (whole_of t) r e q a f h z)
-
 pub text_number : {B : Type 0} (u t : List ℕ) (r : Option Signed) (v : Signed) (x a : B) (f : Signed → B) → r ≡ whole_of t → t ≡ u → r ≡ Some v → x ≡ f v → x ≡ given (whole_of u) a f
 text_number u t r v x a f e q g h = rw (← q, ← e, g) h
 

@@ -19,11 +19,14 @@ pub fn column(line: &[u8], es: Layout, code: [u8; 3]) -> Result<Span, Refusal>
         });
     }
     let x = layout_codes::pack(code[0], code[1], code[2]);
-    layout_coded::look(es, x).ok_or(Refusal {
-        reason: Reason::Absent,
-        line: 0,
-        byte: 0,
-    })
+    let Some(span) = layout_coded::look(es, x) else {
+        return Err(Refusal {
+            reason: Reason::Absent,
+            line: 0,
+            byte: 0,
+        });
+    };
+    Ok(span)
 }
 
 // The text of that column, as a part of the line; empty where `column` refuses.
@@ -41,9 +44,12 @@ pub fn number(line: &[u8], es: Layout, code: [u8; 3]) -> Result<Signed, Refusal>
     ensures { LookNumberGiven line.now es code result }
 {
     let span = column(line, es, code)?;
-    byte_number::whole(layout_column::text_of(line, span.first, span.last)).ok_or(Refusal {
-        reason: Reason::NotNumber,
-        line: 0,
-        byte: 0,
-    })
+    let Some(z) = byte_number::whole(layout_column::text_of(line, span.first, span.last)) else {
+        return Err(Refusal {
+            reason: Reason::NotNumber,
+            line: 0,
+            byte: 0,
+        });
+    };
+    Ok(z)
 }
