@@ -7,8 +7,8 @@ use native.Mathlib.Nat.{zero-add, div-lt_iff_lt-mul, pow-suc}
 use native.Mathlib.Omega.{arith}
 use borrow.Author.Tests.{lt-ltb, le-ltb}
 use lib.Dec.{ltb, lit<}
-use lib.ListN.{length, take, set, length-append, length-take}
-use lib.Seq.{sets, length-sets, sets-eq, take_all, take-nil}
+use lib.ListN.{length, take, drop, set, length-append, length-take}
+use lib.Seq.{sets, length-sets, sets-eq, set_split, drop_at, length-take-le, take_all, take-nil, append_snoc}
 use Rattle.rules.specs.Listing.{decimal_in, decimal, shown, shown_letter}
 use Rattle.rules.proofs.Texts.{sets_append}
 use Rattle.text_pieces.specs.Buffer.{Shown, PiecePut}
@@ -74,28 +74,33 @@ whole {out} {after} {text} {n} {r} e h f =
 pub tenth : (k n : ℕ) → n < 10 ^ suc k → n / 10 < 10 ^ k
 tenth k n h = (div-lt_iff_lt-mul (lit< tt)).1 (rw (pow-suc 10 k) at h)
 
--- room for more digits than a number has changes nothing
-room_for_more : (k n : ℕ) → n < 10 ^ suc k → decimal_in (suc k) n ≡ decimal_in (suc (suc k)) n
+drop_set : (l : List ℕ) (i b : ℕ) → i < length l → drop i (set l i b) ≡ b ∷ drop (suc i) l
+drop_set l i b h = rw (set_split l i b h) (drop_at (take i l) (b ∷ drop (suc i) l) i (length-take-le i l (omega arith)))
+
+-- one digit more stands before those that do
+more_behind : (l : List ℕ) (i x : ℕ) → 10 ≤ x → i < length l → decimal_in (suc i) x ++ drop (suc i) l ≡ decimal_in i (x / 10) ++ drop i (set l i (48 + x % 10))
 unfolding decimal_in
-room_for_more zero n h = rw (lt-ltb n 10 h)
-room_for_more (suc k) n h = ap (λ (s : List ℕ). cond (ltb n 10) ((48 + n) ∷ []) (s ++ ((48 + n % 10) ∷ []))) (room_for_more k (n / 10) (tenth (suc k) n h))
+more_behind l i x g h = rw (drop_set l i (48 + x % 10) h, le-ltb x 10 g) (append_snoc (decimal_in i (x / 10)) (48 + x % 10) (drop (suc i) l))
 
-more_in : (k n : ℕ) → 10 ≤ n → n < 10 ^ suc (suc k) → decimal_in (suc (suc k)) n ≡ decimal_in (suc (suc k)) (n / 10) ++ ((48 + n % 10) ∷ [])
+-- the first digit, with all that stand behind it
+first_behind : (l : List ℕ) (i x : ℕ) → x < 10 → i < length l → decimal_in (suc i) x ++ drop (suc i) l ≡ drop i (set l i (48 + x % 10))
 unfolding decimal_in
-more_in k n g h = rw (le-ltb n 10 g) (ap (λ (s : List ℕ). s ++ ((48 + n % 10) ∷ [])) (room_for_more k (n / 10) (tenth (suc k) n h)))
+first_behind l i x g h =
+    let same : x % 10 ≡ x = omega arith in
+    rw (drop_set l i (48 + x % 10) h, lt-ltb x 10 g, same)
 
--- the digits before the last, and the last
-pub more_digits : (n : ℕ) → 10 ≤ n → n < 10 ^ 20 → decimal n ≡ decimal (n / 10) ++ ((48 + n % 10) ∷ [])
-unfolding decimal
-more_digits n g h = more_in 18 n g h
+module _ (l : List ℕ) (i x : ℕ) (p : 0 < i) (h : i ≤ length l) where
+  before : suc (i - 1) ≡ i
+  before = omega arith
 
-one_in : (k n : ℕ) → n < 10 → decimal_in (suc k) n ≡ (48 + n % 10) ∷ []
-unfolding decimal_in
-one_in k n h = let same : n % 10 ≡ n = omega arith in rw (lt-ltb n 10 h, same)
+  pub digit_more : 10 ≤ x → decimal_in i x ++ drop i l ≡ decimal_in (i - 1) (x / 10) ++ drop (i - 1) (set l (i - 1) (48 + x % 10))
+  digit_more g = let more = more_behind l (i - 1) x g (omega arith) in rw before at more
 
-pub one_digit : (n : ℕ) → n < 10 → decimal n ≡ (48 + n % 10) ∷ []
-unfolding decimal
-one_digit n h = one_in 19 n h
+  pub digit_first : x < 10 → decimal_in i x ++ drop i l ≡ drop (i - 1) (set l (i - 1) (48 + x % 10))
+  digit_first g = let first = first_behind l (i - 1) x g (omega arith) in rw before at first
+
+  pub tenth_before : x < 10 ^ i → x / 10 < 10 ^ (i - 1)
+  tenth_before g = tenth (i - 1) x (rw before g)
 
 -- ---- room
 

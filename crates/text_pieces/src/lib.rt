@@ -28,16 +28,21 @@ pub fn put_text(out: &mut [u8], at: usize, text: &[u8]) -> usize
     next
 }
 
-// A number in decimal, with no zero in front: the digits before the last, where there are some, and the last.
+// A number in decimal, with no zero in front: its digits from the last to the first, then as a text.
 pub fn put_decimal(out: &mut [u8], at: usize, n: u64) -> usize
     ensures { PiecePut out.old at (decimal n) result out.new }
 {
-    let next = if 10 <= n {
-        put_decimal(out, at, n / 10)
-    } else {
-        at
-    };
-    put_byte(out, next, b'0' + (n % 10) as u8)
+    let mut digits = [b'0'; 20];
+    let mut x = n;
+    for i in (1..20).rev() {
+        digits[i] = b'0' + (x % 10) as u8;
+        x /= 10;
+        if x == 0 {
+            return put_text(out, at, &digits[i..]);
+        }
+    }
+    digits[0] = b'0' + (x % 10) as u8;
+    put_text(out, at, &digits)
 }
 
 // A space and a number.
