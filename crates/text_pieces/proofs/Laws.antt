@@ -83,11 +83,9 @@ unfolding decimal_in
 more_behind l i x g h = rw (drop_set l i (48 + x % 10) h, le-ltb x 10 g) (append_snoc (decimal_in i (x / 10)) (48 + x % 10) (drop (suc i) l))
 
 -- the first digit, with all that stand behind it
-first_behind : (l : List ℕ) (i x : ℕ) → x < 10 → i < length l → decimal_in (suc i) x ++ drop (suc i) l ≡ drop i (set l i (48 + x % 10))
+first_behind : (l : List ℕ) (i x : ℕ) → x < 10 → i < length l → decimal_in (suc i) x ++ drop (suc i) l ≡ drop i (set l i (48 + x))
 unfolding decimal_in
-first_behind l i x g h =
-    let same : x % 10 ≡ x = omega arith in
-    rw (drop_set l i (48 + x % 10) h, lt-ltb x 10 g, same)
+first_behind l i x g h = rw (drop_set l i (48 + x) h, lt-ltb x 10 g)
 
 module _ (l : List ℕ) (i x : ℕ) (p : 0 < i) (h : i ≤ length l) where
   before : suc (i - 1) ≡ i
@@ -96,7 +94,7 @@ module _ (l : List ℕ) (i x : ℕ) (p : 0 < i) (h : i ≤ length l) where
   pub digit_more : 10 ≤ x → decimal_in i x ++ drop i l ≡ decimal_in (i - 1) (x / 10) ++ drop (i - 1) (set l (i - 1) (48 + x % 10))
   digit_more g = let more = more_behind l (i - 1) x g (omega arith) in rw before at more
 
-  pub digit_first : x < 10 → decimal_in i x ++ drop i l ≡ drop (i - 1) (set l (i - 1) (48 + x % 10))
+  pub digit_first : x < 10 → decimal_in i x ++ drop i l ≡ drop (i - 1) (set l (i - 1) (48 + x))
   digit_first g = let first = first_behind l (i - 1) x g (omega arith) in rw before at first
 
   pub tenth_before : x < 10 ^ i → x / 10 < 10 ^ (i - 1)

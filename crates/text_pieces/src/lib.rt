@@ -35,13 +35,14 @@ pub fn put_decimal(out: &mut [u8], at: usize, n: u64) -> usize
     let mut digits = [b'0'; 20];
     let mut x = n;
     for i in (1..20).rev() {
-        digits[i] = b'0' + (x % 10) as u8;
-        x /= 10;
-        if x == 0 {
+        if x < 10 {
+            digits[i] = b'0' + x as u8;
             return put_text(out, at, &digits[i..]);
         }
+        digits[i] = b'0' + (x % 10) as u8;
+        x /= 10;
     }
-    digits[0] = b'0' + (x % 10) as u8;
+    digits[0] = b'0' + x as u8;
     put_text(out, at, &digits)
 }
 

@@ -1,5 +1,5 @@
 -- `text_pieces::put_decimal` meets its contract: the digits put so far stand behind those of what is left of the number. Assumes nothing.
-use Prim.Native.Nat.{◌+◌, ◌-◌, ◌%◌, ◌<◌}
+use Prim.Native.Nat.{◌+◌, ◌-◌, ◌<◌}
 use mathlib.Core.List.{append-nil}
 use mathlib.Core.Path.{◌≡◌, refl, sym, ◌∙◌}
 use native.Mathlib.Omega.{arith}
@@ -24,11 +24,11 @@ loop-i-preserved c =
       l.invariant.4 ∙ digit_more l.digits l.i l.x (omega arith) (omega (arith, e)) (omega arith),
     )
 
-pub returns-then-x-eq0 : goal.returns-then-x-eq0
-returns-then-x-eq0 c =
+pub returns-then-x-lt10 : goal.returns-then-x-lt10
+returns-then-x-lt10 c =
     let l = c.loop-i in
     let e = l.invariant.1 in
-    let all = take_all (20 - (l.i - 1)) (drop (l.i - 1) (set l.digits (l.i - 1) (48 + l.x % 10))) (simp (length-drop, length-set) (omega (arith, e))) in
+    let all = take_all (20 - (l.i - 1)) (drop (l.i - 1) (set l.digits (l.i - 1) (48 + l.x))) (simp (length-drop, length-set) (omega (arith, e))) in
     rw (l.invariant.4, digit_first l.digits l.i l.x (omega arith) (omega (arith, e)) (omega arith)) (rw (all, l.invariant.3) at c.put_text.ensures)
 
 pub returns : goal.returns
